@@ -1,0 +1,149 @@
+-- Document 01, "Numbers for the shed": the grounds of each refusal, the order of checks, and with them the calls: opening,
+-- read, take, show. Definitions only. Assumes nothing.
+use Prim.Native.Nat.{ℕ, zero, suc, _+_, _*_, _-_, _/_, _%_}
+use mathlib.Core.Bool.{Bool, true, false, cond, _&&_, _||_}
+use mathlib.Core.List.{List, [], _∷_, _++_}
+use lib.Dec.{leb, ltb, eqb}
+use lib.IntN.{ℤ}
+use lib.ListN.{length, drop}
+use Rattle.lists.specs.Lists.{every, ranked}
+use Rattle.rules.specs.declared.Pair.{Pair}
+use Rattle.rules.specs.declared.Query.{Query}
+use Rattle.rules.specs.declared.Session.{Session}
+use Rattle.rules.specs.declared.Step.{Step}
+use Rattle.rules.specs.declared.Answer.{Answer}
+use Rattle.rules.specs.declared.Answer.the-variants.{Refused, Opened, Read, Settled, Given, NotYet, Finished}
+use Rattle.rules.specs.Tables.{rowCount, rowInRange, rowInOrder, sizeFits, ahead}
+use Rattle.rules.specs.Session.{opened, zeros, heldPairs, settled}
+use Rattle.rules.specs.Read.{blockCount, fieldNext, oldDepth, newDepth, readBlock}
+use Rattle.rules.specs.Take.{firstHeld, givesPair, movedOut, finished, lastBlock, shownRows}
+use Rattle.rules.specs.Numbers.{listLength, blockSize, radiusRange, tableSize, badRecord, rowLimit, rowOrder, unless, first}
+
+abbrev pub between : ℕ → ℕ → ℕ → Bool
+between low high n = leb low n && leb n high
+
+-- 1, 2, 3: the query's numbers
+unfoldable pub queryCode : Query → ℕ
+queryCode q =
+    first (unless (between 1 64 (q .k)) listLength)
+    (first (unless (between 1 1024 (q .block)) blockSize) (unless (leb (q .radius) 40000) radiusRange))
+
+-- 4, at opening: "slice length not a multiple of 4, more than 65,535 rows"
+unfoldable pub sizeCode : List ℤ → ℕ
+sizeCode t = unless (sizeFits t) tableSize
+
+-- 4, later: "or a row count other than at opening"
+unfoldable pub sameSizeCode : ℕ → List ℤ → ℕ
+sameSizeCode rows t = unless (sizeFits t && eqb (rowCount t) rows) tableSize
+
+-- 6 and 7 for row i + 1: "6 before 7"
+unfoldable pub rowCode : List ℤ → ℕ → ℕ
+rowCode t i = first (unless (rowInRange t i) rowLimit) (unless (rowInOrder t i) rowOrder)
+
+-- "6 and 7 .. row by row": rows a + 1 to a + n
+unfoldable pub rowsCode : List ℤ → ℕ → ℕ → ℕ
+rowsCode t a zero = 0
+rowsCode t a (suc n) = first (rowsCode t a n) (rowCode t (a + n))
+
+-- 5, table by table: "a row count exceeds 65,535, a depth exceeds its rows or is neither a multiple of the block nor all
+-- rows"
+unfoldable pub countsFit : ℕ → ℕ → ℕ → Bool
+countsFit block rows depth =
+    leb rows 65535 && (leb depth rows && (eqb (depth % block) 0 || eqb depth rows))
+
+-- 5, pair by pair: "a held pair's row is outside 1 to the depth, a held sum is outside 0 to 19,998"
+unfoldable pub pairFits : Session → Pair → Bool
+pairFits s p =
+    between 1 (s .depth .field .0) (p .field)
+    && (between 1 (s .depth .trim .0) (p .trim) && leb (p .sum) 19998)
+
+-- 5: "the last-read mark isn't 0 to 2, names a table of depth 0 or is 0 though a depth isn't"
+unfoldable pub markFits : Session → Bool
+markFits s =
+    cond (eqb (s .last) 0) (eqb (s .depth .field .0) 0 && eqb (s .depth .trim .0) 0)
+    (cond (eqb (s .last) 1) (ltb 0 (s .depth .field .0))
+    (cond (eqb (s .last) 2) (ltb 0 (s .depth .trim .0)) false))
+
+abbrev pub isZeros : Pair → Bool
+isZeros p = eqb (p .sum) 0 && (eqb (p .field) 0 && eqb (p .trim) 0)
+
+-- 5: all grounds, in document 01's order
+unfoldable pub recordFits : Session → Bool
+recordFits s =
+    eqb (queryCode (s .query)) 0
+    && (countsFit (s .query .block) (s .rows .field .0) (s .depth .field .0)
+    && (countsFit (s .query .block) (s .rows .trim .0) (s .depth .trim .0)
+    && (leb (s .out + s .held) (s .query .k)
+    && (every (pairFits s) (heldPairs s)
+    && (ranked ahead (heldPairs s)
+    && (markFits s
+    && (every isZeros (drop (s .held) (s .pairs))
+    && leb (s .joined)
+    (blockCount (s .query .block) (s .depth .field .0) * blockCount (s .query .block) (s .depth .trim .0)))))))))
+
+unfoldable pub recordCode : Session → ℕ
+recordCode s = unless (recordFits s) badRecord
+
+-- 5, 4: what show looks at, and read and take look at first
+unfoldable pub lentCode : List ℤ → List ℤ → Session → ℕ
+lentCode f t s =
+    first (recordCode s) (first (sameSizeCode (s .rows .field .0) f) (sameSizeCode (s .rows .trim .0) t))
+
+-- "Read and take check 5, 4, then 6 and 7 over the rows up to the depths, field first"
+unfoldable pub callCode : List ℤ → List ℤ → Session → ℕ
+callCode f t s =
+    first (lentCode f t s) (first (rowsCode f 0 (s .depth .field .0)) (rowsCode t 0 (s .depth .trim .0)))
+
+-- "else it checks its new block by 6 and 7"
+unfoldable pub newBlockCode : List ℤ → List ℤ → Session → ℕ
+newBlockCode f t s =
+    let field = fieldNext f t s in
+    rowsCode (cond field f t) (oldDepth field s) (newDepth field s - oldDepth field s)
+
+abbrev pub step : Answer → Session → Step
+step a s = record { answer = a; session = s }
+
+-- "Opening checks 1, 2, 3, 4 (field, then trim); refused, its record is all zeros."
+unfoldable pub openCode : Query → List ℤ → List ℤ → ℕ
+openCode q f t = first (queryCode q) (first (sizeCode f) (sizeCode t))
+
+unfoldable pub openCall : Query → List ℤ → List ℤ → Step
+openCall q f t =
+    cond (eqb (openCode q f t) 0) (step Opened (opened q (record { 0 = rowCount f }) (record { 0 = rowCount t })))
+    (step (Refused (openCode q f t)) zeros)
+
+-- Read. "A refused read or take returns the record it was given." "In a settled session it answers "settled", reads
+-- nothing and gives back the same record."
+unfoldable pub readCall : List ℤ → List ℤ → Session → Step
+readCall f t s =
+    cond (eqb (callCode f t s) 0)
+    (cond (settled f t s) (step Settled s)
+    (cond (eqb (newBlockCode f t s) 0) (step Read (readBlock f t s)) (step (Refused (newBlockCode f t s)) s)))
+    (step (Refused (callCode f t s)) s)
+
+-- Take. "It answers the first held pair, if secured, and moves it out. "Finished" if .. Else "not yet". Only an answered
+-- pair changes the record."
+unfoldable pub takeCall : List ℤ → List ℤ → Session → Step
+takeCall f t s =
+    cond (eqb (callCode f t s) 0)
+    (cond (givesPair f t s) (step (Given (firstHeld s)) (movedOut s))
+    (cond (finished s) (step Finished s) (step NotYet s)))
+    (step (Refused (callCode f t s)) s)
+
+-- Show. "Nothing read, or a refusal by 5 or 4: the empty part at the front of the field table, and no number goes with
+-- it."
+unfoldable pub showCall : List ℤ → List ℤ → Session → List ℤ
+showCall f t s = cond (eqb (lentCode f t s) 0) (shownRows f t s) []
+
+-- a place in memory, as block and byte, moved on by n numbers of four bytes each
+abbrev pub movedOn : ℕ × ℕ → ℕ → ℕ × ℕ
+movedOn place n = (place .0, n * 4 + place .1)
+
+-- where what show returns stands in memory, of the places where the two lent tables stand: it is a part of one of them
+unfoldable pub showPlace : List ℤ → List ℤ → ℕ × ℕ → ℕ × ℕ → Session → ℕ × ℕ
+showPlace f t atField atTrim s =
+    let b = s .query .block in
+    cond (eqb (lentCode f t s) 0)
+    (cond (eqb (s .last) 1) (movedOn atField (4 * lastBlock b (s .depth .field .0)))
+    (cond (eqb (s .last) 2) (movedOn atTrim (4 * lastBlock b (s .depth .trim .0))) atField))
+    atField

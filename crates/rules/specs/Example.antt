@@ -1,0 +1,122 @@
+-- Document 01's worked query, and P1 to P12 as a single tabled fact. Assumes nothing.
+use Prim.Native.Nat.{ℕ, zero, suc, _+_, _<_}
+use Prim.Native.Char.{code}
+use Prim.Native.String.{String, len, charAt}
+use mathlib.Core.Path.{_≡_, refl, sym, ap, _∙_}
+use mathlib.Core.Bool.{Bool, true, false, cond}
+use mathlib.Core.List.{List, [], _∷_, map}
+use lib.Dec.{T}
+use lib.IntN.{ℤ, pos, negsuc}
+use lib.ListN.{getD, List·getD-map}
+use Rattle.rules.specs.declared.Query.{Query}
+use Rattle.rules.specs.declared.Session.{Session}
+use Rattle.rules.specs.declared.Answer.{Answer}
+use Rattle.rules.specs.declared.Answer.the-variants.{Refused, Opened, Read, Settled, Given, NotYet, Finished}
+use Rattle.rules.specs.Tables.{Row, qualifies}
+use Rattle.rules.specs.Session.{ceiling}
+use Rattle.rules.specs.Calls.{openCall, readCall, takeCall}
+use Rattle.rules.specs.File.{columnFits, columnNumber}
+use Rattle.rules.specs.Query.{wholeQuery, settledSession, tableOf, inputQuery}
+use Rattle.rules.specs.Run.{run}
+
+abbrev pub bytesFrom : String → ℕ → ℕ → List ℕ
+bytesFrom s i zero = []
+bytesFrom s i (suc n) = code (charAt s i) ∷ bytesFrom s (suc i) n
+
+-- the bytes of a text
+abbrev pub bytes : String → List ℕ
+bytes s = bytesFrom s 0 (len s)
+
+abbrev pub fieldFile : List ℕ
+fieldFile =
+    bytes "     5     1\n   101    90      0      0\n   102    80    100      0\n   103    60      0    300\n   104    40    500    500\n   105    10      0      0\n"
+
+abbrev pub trimFile : List ℕ
+trimFile =
+    bytes "     5     2\n   201    70    400      0\n   202    50      3      4\n   203    30    100      5\n   204    20      0    300\n   205    15    500    500\n"
+
+abbrev pub input : List ℕ
+input = bytes "     2     1     5\n"
+
+abbrev pub output : List ℕ
+output =
+    bytes "     2     1     5\n     1   140   101   202          25\n     2   110   102   203          25\n     4     4          10\n"
+
+-- the worked query's whole output
+pub worked : wholeQuery fieldFile trimFile input ≡ output
+unfolding run
+worked = refl
+
+abbrev pub fields : List ℤ
+fields = tableOf fieldFile
+
+abbrev pub trims : List ℤ
+trims = tableOf trimFile
+
+abbrev pub query : Query
+query = inputQuery input
+
+-- the record after n reads
+pub afterReads : ℕ → Session
+afterReads zero = openCall query fields trims .session
+afterReads (suc n) = readCall fields trims (afterReads n) .session
+
+-- a shade, as a row of no other account
+abbrev pub shade : ℤ → ℤ → Row
+shade a b = record { pattern = 1; score = 0; a = a; b = b }
+
+-- what an entry of the table finds: whether it holds, a number, or what a take answers (rows and sum; 0 not yet, 1 finished)
+abbrev pub test : Bool → List ℤ
+test b = cond b (pos 1 ∷ []) (pos 0 ∷ [])
+
+abbrev pub column : Bool → List ℕ → List ℤ
+column signed l = cond (columnFits signed l) (columnNumber signed l ∷ []) []
+
+abbrev pub taken : Answer → List ℤ
+taken (Refused n) = []
+taken Opened = []
+taken Read = []
+taken Settled = []
+taken (Given p) = pos (p .field) ∷ pos (p .trim) ∷ pos (p .sum) ∷ []
+taken NotYet = pos 0 ∷ []
+taken Finished = pos 1 ∷ []
+
+abbrev pub account : Session → List ℤ
+account s = pos (s .depth .field .0) ∷ pos (s .depth .trim .0) ∷ pos (s .joined) ∷ []
+
+pub record Entry : Type 0 where
+  pub found : List ℤ
+  pub said : List ℤ
+
+abbrev pub entry : List ℤ → List ℤ → Entry
+entry x y = record { found = x; said = y }
+
+-- P1 to P12, in document 01's order: what the rules find, and what document 01 says
+pub table : List Entry
+table =
+    entry (test (qualifies 5 (shade (pos 0) (pos 0)) (shade (pos 3) (pos 4)))) (test true)
+    ∷ entry (test (qualifies 4 (shade (pos 0) (pos 0)) (shade (pos 3) (pos 4)))) (test false)
+    ∷ entry (test (qualifies 0 (shade (pos 3) (pos 4)) (shade (pos 3) (pos 4)))) (test true)
+    ∷ entry (test (qualifies 25499 (shade (negsuc 12799) (pos 0)) (shade (pos 12700) (pos 0)))) (test false)
+    ∷ entry (test (qualifies 25500 (shade (negsuc 12799) (pos 0)) (shade (pos 12700) (pos 0)))) (test true)
+    ∷ entry (column false (bytes "   101")) (pos 101 ∷ [])
+    ∷ entry (column false (bytes "  0101")) []
+    ∷ entry (column true (bytes "     -0")) []
+    ∷ entry (pos (ceiling fields trims (afterReads 5)) ∷ []) (pos 140 ∷ [])
+    ∷ entry (taken (takeCall fields trims (afterReads 5) .answer)) (pos 1 ∷ pos 2 ∷ pos 140 ∷ [])
+    ∷ entry (account (settledSession query fields trims)) (pos 4 ∷ pos 4 ∷ pos 10 ∷ [])
+    ∷ entry (taken (takeCall [] trims (openCall query [] trims .session) .answer)) (pos 1 ∷ [])
+    ∷ []
+
+-- the whole table at once, computed
+holds : map (λ e. e .found) table ≡ map (λ e. e .said) table
+unfolding run table afterReads
+holds = refl
+
+-- each entry, P1 being entry 0
+pub fact : (i : ℕ) → getD table i (entry [] []) .found ≡ getD table i (entry [] []) .said
+fact i =
+    let none = entry [] [] in
+    sym (List·getD-map (λ e. e .found) table i none)
+    ∙ ap (λ (l : List (List ℤ)). getD l i []) holds
+    ∙ List·getD-map (λ e. e .said) table i none

@@ -1,0 +1,172 @@
+-- Document 01, "The strict file". Definitions only. Assumes nothing.
+use Prim.Native.Nat.{ℕ, zero, suc, _+_, _*_, _-_}
+use mathlib.Core.Bool.{Bool, true, false, cond, _&&_, _||_, not}
+use mathlib.Core.List.{List, [], _∷_, _++_}
+use lib.Dec.{leb, ltb, eqb}
+use lib.IntN.{ℤ, pos, negsuc, negℤ}
+use lib.ListN.{length, getD, take, drop}
+use Rattle.lists.specs.Lists.{every, range, each}
+use Rattle.rules.specs.declared.Loaded.{Loaded}
+use Rattle.rules.specs.declared.Loaded.the-variants.{Rows, Unfit}
+use Rattle.rules.specs.Tables.{natOf}
+use Rattle.rules.specs.Numbers.{tableSize, cutFile, badColumn, wrongKind, shortSlice, unless, first}
+use Rattle.rules.specs.Calls.{between, rowCode}
+
+abbrev pub blank : ℕ
+blank = 32
+
+abbrev pub minus : ℕ
+minus = 45
+
+abbrev pub lineFeed : ℕ
+lineFeed = 10
+
+abbrev pub isDigit : ℕ → Bool
+isDigit b = between 48 57 b
+
+-- "blanks (spaces, or none if the digits fill it)": what follows them
+unfoldable pub afterBlanks : List ℕ → List ℕ
+afterBlanks [] = []
+afterBlanks (b ∷ l) = cond (eqb b blank) (afterBlanks l) (b ∷ l)
+
+-- "one or more digits without a leading zero (0 itself excepted)"
+unfoldable pub digitsFit : List ℕ → Bool
+digitsFit [] = false
+digitsFit (b ∷ []) = isDigit b
+digitsFit (b ∷ c ∷ l) = isDigit b && (not (eqb b 48) && every isDigit (c ∷ l))
+
+-- the number that digits write, the digits before them being worth n
+unfoldable pub digitsFrom : ℕ → List ℕ → ℕ
+digitsFrom n [] = n
+digitsFrom n (b ∷ l) = digitsFrom (10 * n + (b - 48)) l
+
+-- "In a and b a minus may precede the digits, never before 0": whether it stands there, and what follows it. The flag
+-- says whether the column may have one.
+unfoldable pub hasMinus : Bool → List ℕ → Bool
+hasMinus signed [] = false
+hasMinus signed (b ∷ l) = signed && eqb b minus
+
+unfoldable pub afterMinus : Bool → List ℕ → List ℕ
+afterMinus signed [] = []
+afterMinus signed (b ∷ l) = cond (hasMinus signed (b ∷ l)) l (b ∷ l)
+
+-- the digits of a column
+abbrev pub digitsOf : Bool → List ℕ → List ℕ
+digitsOf signed l = afterMinus signed (afterBlanks l)
+
+-- "A number is right-justified": whether a column's bytes are formed so
+unfoldable pub columnFits : Bool → List ℕ → Bool
+columnFits signed l =
+    digitsFit (digitsOf signed l)
+    && not (hasMinus signed (afterBlanks l) && eqb (digitsFrom 0 (digitsOf signed l)) 0)
+
+-- the number of a column that is formed so
+unfoldable pub columnNumber : Bool → List ℕ → ℤ
+columnNumber signed l =
+    let n = digitsFrom 0 (digitsOf signed l) in
+    cond (hasMinus signed (afterBlanks l)) (negℤ (pos n)) (pos n)
+
+-- the bytes of w columns, the first of them being column o + 1
+abbrev pub columns : List ℕ → ℕ → ℕ → List ℕ
+columns bytes o w = take w (drop o bytes)
+
+abbrev pub endsLine : List ℕ → ℕ → Bool
+endsLine bytes o = eqb (getD bytes o 0) lineFeed
+
+-- "Header, 13 bytes: row count in columns 1-6, kind in 7-12 (1 field, 2 trim), LF."
+unfoldable pub headerFits : List ℕ → Bool
+headerFits bytes =
+    columnFits false (columns bytes 0 6) && (columnFits false (columns bytes 6 6) && endsLine bytes 12)
+
+unfoldable pub fileCount : List ℕ → ℕ
+fileCount bytes = natOf (columnNumber false (columns bytes 0 6))
+
+unfoldable pub fileKind : List ℕ → ℕ
+fileKind bytes = natOf (columnNumber false (columns bytes 6 6))
+
+-- "Each row, 27 bytes": where row i + 1 begins
+abbrev pub rowStart : ℕ → ℕ
+rowStart i = 13 + 27 * i
+
+-- "pattern number 1-6, score 7-12, a 13-19, b 20-26, LF"
+unfoldable pub rowColumnsFit : List ℕ → ℕ → Bool
+rowColumnsFit bytes i =
+    let o = rowStart i in
+    columnFits false (columns bytes o 6)
+    && (columnFits false (columns bytes (o + 6) 6)
+    && (columnFits true (columns bytes (o + 12) 7)
+    && (columnFits true (columns bytes (o + 19) 7) && endsLine bytes (o + 26))))
+
+-- the four numbers of row i + 1
+unfoldable pub rowNumbers : List ℕ → ℕ → List ℤ
+rowNumbers bytes i =
+    let o = rowStart i in
+    columnNumber false (columns bytes o 6)
+    ∷ columnNumber false (columns bytes (o + 6) 6)
+    ∷ columnNumber true (columns bytes (o + 12) 7)
+    ∷ columnNumber true (columns bytes (o + 19) 7)
+    ∷ []
+
+-- the first n rows, as a table
+unfoldable pub fileTable : List ℕ → ℕ → List ℤ
+fileTable bytes n = each (rowNumbers bytes) (range 0 n)
+
+-- "each row by 9, 6, 7": row i + 1, t being the file's table
+unfoldable pub fileRowCode : List ℕ → List ℤ → ℕ → ℕ
+fileRowCode bytes t i = first (unless (rowColumnsFit bytes i) badColumn) (rowCode t i)
+
+-- the answer where row n + 1 follows rows that were answered so: "Refusals 6, 7, 9 add the row number"
+unfoldable pub andRow : List ℕ → List ℤ → ℕ → Loaded → Loaded
+andRow bytes t n (Rows m) = cond (eqb (fileRowCode bytes t n) 0) (Rows (n + 1)) (Unfit (fileRowCode bytes t n) (n + 1))
+andRow bytes t n (Unfit code row) = Unfit code row
+
+-- the first n rows
+unfoldable pub rowsLoaded : List ℕ → List ℤ → ℕ → Loaded
+rowsLoaded bytes t zero = Rows 0
+rowsLoaded bytes t (suc n) = andRow bytes t n (rowsLoaded bytes t n)
+
+-- "kind (10)": "header's kind isn't the one wanted, or the wanted one isn't 1 or 2"
+unfoldable pub kindFits : List ℕ → ℤ → Bool
+kindFits bytes kind = between 1 2 (natOf kind) && eqb (fileKind bytes) (natOf kind)
+
+-- A file without a slice. "Order: fewer than 13 bytes (8); header columns or LF (9); kind (10); count above 65,535 (4);
+-- length other than 13 + 27 × count (8); each row by 9, 6, 7".
+unfoldable pub checkFile : List ℕ → ℤ → Loaded
+checkFile bytes kind =
+    cond (ltb (length bytes) 13) (Unfit cutFile 0)
+    (cond (not (headerFits bytes)) (Unfit badColumn 0)
+    (cond (not (kindFits bytes kind)) (Unfit wrongKind 0)
+    (cond (ltb 65535 (fileCount bytes)) (Unfit tableSize 0)
+    (cond (not (eqb (length bytes) (rowStart (fileCount bytes)))) (Unfit cutFile 0)
+    (rowsLoaded bytes (fileTable bytes (fileCount bytes)) (fileCount bytes))))))
+
+-- "then 11": the answer where a slice of so many numbers is lent
+unfoldable pub andSlice : ℕ → Loaded → Loaded
+andSlice lent (Rows n) = cond (ltb lent (4 * n)) (Unfit shortSlice 0) (Rows n)
+andSlice lent (Unfit code row) = Unfit code row
+
+-- the lent numbers after an answer: "the first 4 × count numbers are the rows, the rest untouched"
+unfoldable pub loadedInto : List ℕ → List ℤ → Loaded → List ℤ
+loadedInto bytes lent (Rows n) = fileTable bytes n ++ drop (4 * n) lent
+loadedInto bytes lent (Unfit code row) = lent
+
+-- Reading a file into a lent slice: the answer, and the slice after it
+unfoldable pub loadAnswer : List ℕ → ℤ → List ℤ → Loaded
+loadAnswer bytes kind lent = andSlice (length lent) (checkFile bytes kind)
+
+unfoldable pub loadNumbers : List ℕ → ℤ → List ℤ → List ℤ
+loadNumbers bytes kind lent = loadedInto bytes lent (loadAnswer bytes kind lent)
+
+-- "the row count, or minus the refusal number"
+unfoldable pub signedAnswer : Loaded → ℤ
+signedAnswer (Rows n) = pos n
+signedAnswer (Unfit code row) = negℤ (pos code)
+
+-- "A check alone, without a slice and so without 11"
+unfoldable pub checkAlone : List ℕ → ℤ → ℤ
+checkAlone bytes kind = signedAnswer (checkFile bytes kind)
+
+-- the refusal's number, 0 where the file is accepted
+abbrev pub loadedCode : Loaded → ℕ
+loadedCode (Rows n) = 0
+loadedCode (Unfit code row) = code

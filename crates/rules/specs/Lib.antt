@@ -1,0 +1,11 @@
+pub mod Tables
+pub mod Session
+pub mod Read
+pub mod Take
+pub mod Sure
+pub mod Numbers
+pub mod Calls
+pub mod File
+pub mod Query
+pub mod Run
+pub mod Example

@@ -1,0 +1,136 @@
+-- Document 01, "One whole query": the two files and the input as bytes in, the listing as bytes out. Definitions only.
+-- Assumes nothing.
+use Prim.Native.Nat.{ℕ, zero, suc, _+_, _*_, _-_, _/_, _%_}
+use mathlib.Core.Bool.{Bool, true, false, cond, _&&_}
+use mathlib.Core.List.{List, [], _∷_, _++_}
+use lib.Dec.{leb, ltb, eqb}
+use lib.IntN.{ℤ, pos}
+use lib.ListN.{length, replicate}
+use Rattle.rules.specs.declared.Pair.{Pair}
+use Rattle.rules.specs.declared.Query.{Query}
+use Rattle.rules.specs.declared.Session.{Session}
+use Rattle.rules.specs.declared.Step.{Step}
+use Rattle.rules.specs.declared.Answer.{Answer}
+use Rattle.rules.specs.declared.Answer.the-variants.{Refused, Opened, Read, Settled, Given, NotYet, Finished}
+use Rattle.rules.specs.Tables.{natOf, row, squaredDistance}
+use Rattle.rules.specs.Numbers.{tableSize, cutFile, badColumn, unless, first}
+use Rattle.rules.specs.Calls.{step, openCode, openCall, readCall, takeCall}
+use Rattle.rules.specs.File.{blank, lineFeed, columns, columnFits, columnNumber, endsLine, fileCount, fileTable, checkFile, loadedCode}
+
+-- "It .. reads until settled": at most n reads
+unfoldable pub readUntilSettled : ℕ → List ℤ → List ℤ → Session → Session
+readUntilSettled zero f t s = s
+readUntilSettled (suc n) f t s =
+    let r = readCall f t s in
+    elim (r .answer) [
+      | Refused c ↦ s
+      | Opened ↦ s
+      | Read ↦ readUntilSettled n f t (r .session)
+      | Settled ↦ s
+      | Given p ↦ s
+      | NotYet ↦ s
+      | Finished ↦ s
+    ]
+
+-- "and takes until finished": the pairs brought out by at most n takes
+unfoldable pub takeUntilFinished : ℕ → List ℤ → List ℤ → Session → List Pair
+takeUntilFinished zero f t s = []
+takeUntilFinished (suc n) f t s =
+    let r = takeCall f t s in
+    elim (r .answer) [
+      | Refused c ↦ []
+      | Opened ↦ []
+      | Read ↦ []
+      | Settled ↦ []
+      | Given p ↦ p ∷ takeUntilFinished n f t (r .session)
+      | NotYet ↦ []
+      | Finished ↦ []
+    ]
+
+-- the record when it is settled; each read reads a row at least, so that the bound is never what ends it
+unfoldable pub settledSession : Query → List ℤ → List ℤ → Session
+settledSession q f t =
+    let s = openCall q f t .session in
+    readUntilSettled (s .rows .field .0 + s .rows .trim .0 + 1) f t s
+
+-- the list; at most k pairs come out, so that the bound is never what ends it
+unfoldable pub list : Query → List ℤ → List ℤ → List Pair
+list q f t = takeUntilFinished (q .k + 1) f t (settledSession q f t)
+
+-- a number right-justified in w columns
+unfoldable pub decimal : ℕ → ℕ → List ℕ
+decimal zero n = []
+decimal (suc w) n =
+    elim (ltb n 10) [ true ↦ replicate w blank | false ↦ decimal w (n / 10) ] ++ ((48 + n % 10) ∷ [])
+
+-- "Pairs: rank, sum, field number, trim number (six columns each), squared distance (12)."
+unfoldable pub pairLine : List ℤ → List ℤ → ℕ → Pair → List ℕ
+pairLine f t rank p =
+    let x = row f (p .field - 1) in
+    let y = row t (p .trim - 1) in
+    decimal 6 rank
+    ++ (decimal 6 (p .sum)
+    ++ (decimal 6 (x .pattern) ++ (decimal 6 (y .pattern) ++ (decimal 12 (squaredDistance x y) ++ (lineFeed ∷ [])))))
+
+-- the lines of a list whose first pair has this rank
+unfoldable pub pairLines : List ℤ → List ℤ → ℕ → List Pair → List ℕ
+pairLines f t rank [] = []
+pairLines f t rank (p ∷ l) = pairLine f t rank p ++ pairLines f t (rank + 1) l
+
+-- "First line: the query." "k, block, radius, six columns each, then LF"
+unfoldable pub queryLine : Query → List ℕ
+queryLine q = decimal 6 (q .k) ++ (decimal 6 (q .block) ++ (decimal 6 (q .radius) ++ (lineFeed ∷ [])))
+
+-- "Last: field rows read, trim rows read (six each), block pairs joined (12)."
+unfoldable pub lastLine : Session → List ℕ
+lastLine s =
+    decimal 6 (s .depth .field .0)
+    ++ (decimal 6 (s .depth .trim .0) ++ (decimal 12 (s .joined) ++ (lineFeed ∷ [])))
+
+unfoldable pub listing : Query → List ℤ → List ℤ → List ℕ
+listing q f t = queryLine q ++ (pairLines f t 1 (list q f t) ++ lastLine (settledSession q f t))
+
+-- "A file above 13,837 bytes is 4 before any other check of it"
+unfoldable pub programFileCode : List ℕ → ℤ → ℕ
+programFileCode bytes kind = first (unless (leb (length bytes) 13837) tableSize) (loadedCode (checkFile bytes kind))
+
+-- "input other than 19 bytes is 8, a bad column or LF in it 9"
+unfoldable pub inputCode : List ℕ → ℕ
+inputCode input =
+    first (unless (eqb (length input) 19) cutFile)
+    (unless
+    (columnFits false (columns input 0 6)
+    && (columnFits false (columns input 6 6) && (columnFits false (columns input 12 6) && endsLine input 18)))
+    badColumn)
+
+unfoldable pub inputQuery : List ℕ → Query
+inputQuery input =
+    record {
+      k = natOf (columnNumber false (columns input 0 6));
+      block = natOf (columnNumber false (columns input 6 6));
+      radius = natOf (columnNumber false (columns input 12 6));
+    }
+
+-- the table of an accepted file
+abbrev pub tableOf : List ℕ → List ℤ
+tableOf bytes = fileTable bytes (fileCount bytes)
+
+-- "A refusal prints its number alone, in six columns, and LF."
+unfoldable pub refusalLine : ℕ → List ℕ
+refusalLine code = decimal 6 code ++ (lineFeed ∷ [])
+
+-- "It checks the field file, the trim file, the input, then opens"
+unfoldable pub wholeQueryCode : List ℕ → List ℕ → List ℕ → ℕ
+wholeQueryCode field trim input =
+    first (programFileCode field (pos 1))
+    (first (programFileCode trim (pos 2))
+    (first (inputCode input) (openCode (inputQuery input) (tableOf field) (tableOf trim))))
+
+-- what the pairing program prints
+unfoldable pub wholeQuery : List ℕ → List ℕ → List ℕ → List ℕ
+wholeQuery field trim input =
+    let code = wholeQueryCode field trim input in
+    elim (eqb code 0) [
+      | true ↦ listing (inputQuery input) (tableOf field) (tableOf trim)
+      | false ↦ refusalLine code
+    ]

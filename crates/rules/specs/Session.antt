@@ -1,0 +1,89 @@
+-- Document 01, "The session", up to "Settled". Definitions only. Assumes nothing.
+use Prim.Native.Nat.{ℕ, zero, suc, _+_, _*_, _-_, _/_, _%_, min, max}
+use mathlib.Core.Bool.{Bool, true, false, cond, _&&_, _||_, not}
+use mathlib.Core.List.{List, [], _∷_, _++_, map}
+use lib.Dec.{leb, ltb, eqb}
+use lib.IntN.{ℤ}
+use lib.ListN.{length, getD, take, drop, replicate}
+use Rattle.lists.specs.Lists.{every}
+use Rattle.rules.specs.declared.FieldRows.{FieldRows}
+use Rattle.rules.specs.declared.TrimRows.{TrimRows}
+use Rattle.rules.specs.declared.Pair.{Pair}
+use Rattle.rules.specs.declared.Query.{Query}
+use Rattle.rules.specs.declared.Session.{Session}
+use Rattle.rules.specs.Tables.{row, rowCount}
+
+abbrev pub noPair : Pair
+noPair = record { sum = 0; field = 0; trim = 0 }
+
+-- the 64 pair places with these pairs in front: "those beyond the held pairs are zeros"
+unfoldable pub places : List Pair → List Pair
+places l = l ++ replicate (64 - length l) noPair
+
+-- "Opening gives a record with nothing read": of a query and the tables' row counts
+unfoldable pub opened : Query → FieldRows → TrimRows → Session
+opened q m n =
+    record {
+      query = q;
+      rows = record { field = m; trim = n };
+      depth = record { field = record { 0 = 0 }; trim = record { 0 = 0 } };
+      last = 0;
+      out = 0;
+      held = 0;
+      pairs = places [];
+      joined = 0;
+    }
+
+-- "its record is all zeros"
+unfoldable pub zeros : Session
+zeros = opened (record { k = 0; block = 0; radius = 0 }) (record { 0 = 0 }) (record { 0 = 0 })
+
+-- "pairs held (at most k less those out, ranked ..)": those in the first places
+abbrev pub heldPairs : Session → List Pair
+heldPairs s = take (s .held) (s .pairs)
+
+-- "HF and HT are the scores of the first rows"
+abbrev pub firstScore : List ℤ → ℕ
+firstScore t = row t 0 .score
+
+-- "LF and LT those of the last rows read"
+abbrev pub lastScore : List ℤ → ℕ → ℕ
+lastScore t depth = row t (depth - 1) .score
+
+abbrev pub fieldReadOut : Session → Bool
+fieldReadOut s = eqb (s .depth .field .0) (s .rows .field .0)
+
+abbrev pub trimReadOut : Session → Bool
+trimReadOut s = eqb (s .depth .trim .0) (s .rows .trim .0)
+
+abbrev pub bothReadOut : Session → Bool
+bothReadOut s = fieldReadOut s && trimReadOut s
+
+abbrev pub aTableIsEmpty : Session → Bool
+aTableIsEmpty s = eqb (s .rows .field .0) 0 || eqb (s .rows .trim .0) 0
+
+abbrev pub aDepthIsZero : Session → Bool
+aDepthIsZero s = eqb (s .depth .field .0) 0 || eqb (s .depth .trim .0) 0
+
+-- "Ceiling: the higher of HF + LT, if trim rows are unread, and LF + HT, if field rows are unread."
+-- The threshold that a held pair is judged by; a part that is not there counts as 0.
+unfoldable pub ceiling : List ℤ → List ℤ → Session → ℕ
+ceiling f t s =
+    max
+    (cond (trimReadOut s) 0 (firstScore f + lastScore t (s .depth .trim .0)))
+    (cond (fieldReadOut s) 0 (lastScore f (s .depth .field .0) + firstScore t))
+
+-- "While a depth is 0 and both tables have rows, nothing is secured. When both are read out, everything held is
+-- secured. Otherwise a held pair is secured if its sum is at least the ceiling."
+unfoldable pub secured : List ℤ → List ℤ → Session → Pair → Bool
+secured f t s p =
+    cond (aDepthIsZero s && not (aTableIsEmpty s)) false (cond (bothReadOut s) true (leb (ceiling f t s) (p .sum)))
+
+-- "Settled: a table is empty, or both are read out, or k pairs are out, or out plus held is k and every held pair
+-- is secured."
+unfoldable pub settled : List ℤ → List ℤ → Session → Bool
+settled f t s =
+    aTableIsEmpty s
+    || (bothReadOut s
+    || (eqb (s .out) (s .query .k)
+    || (eqb (s .out + s .held) (s .query .k) && every (secured f t s) (heldPairs s))))

@@ -1,0 +1,99 @@
+-- Document 01, "The two tables". Definitions only. Assumes nothing.
+use Prim.Native.Nat.{ℕ, zero, suc, _+_, _*_, _-_, _/_, _%_}
+use mathlib.Core.Bool.{Bool, true, false, cond, _&&_, _||_}
+use mathlib.Core.List.{List, [], _∷_, _++_, map}
+use lib.Dec.{leb, ltb, eqb}
+use lib.IntN.{ℤ, pos, negsuc, natAbs, _-ℤ_}
+use lib.Signed.{leZ}
+use lib.ListN.{length, getD, take, drop}
+use Rattle.lists.specs.Lists.{keep, every, range, each}
+use Rattle.rules.specs.declared.Pair.{Pair}
+
+-- "four to a row": number j of row i + 1 (rows are numbered from 1)
+abbrev pub num : List ℤ → ℕ → ℕ → ℤ
+num t i j = getD t (4 * i + j) (pos 0)
+
+abbrev pub rowCount : List ℤ → ℕ
+rowCount t = length t / 4
+
+unfoldable pub within : ℤ → ℤ → ℤ → Bool
+within low high x = leZ low x && leZ x high
+
+-- "pattern number 1 to 999,999; score 0 to 9,999; a and b, each -12,800 to 12,700"
+unfoldable pub rowInRange : List ℤ → ℕ → Bool
+rowInRange t i =
+    within (pos 1) (pos 999999) (num t i 0)
+    && (within (pos 0) (pos 9999) (num t i 1)
+    && (within (negsuc 12799) (pos 12700) (num t i 2)
+    && within (negsuc 12799) (pos 12700) (num t i 3)))
+
+-- "no score exceeds the one before it"
+unfoldable pub rowInOrder : List ℤ → ℕ → Bool
+rowInOrder t i = eqb i 0 || leZ (num t i 1) (num t (i - 1) 1)
+
+-- "A table has 0 to 65,535 rows", four numbers to each
+unfoldable pub sizeFits : List ℤ → Bool
+sizeFits t = eqb (length t % 4) 0 && leb (rowCount t) 65535
+
+-- "It is legal if every row keeps these ranges and no score exceeds the one before it."
+unfoldable pub legal : List ℤ → Bool
+legal t = sizeFits t && every (λ i. rowInRange t i && rowInOrder t i) (range 0 (rowCount t))
+
+-- a row as the rules below look at it; a score below 0, which no legal table has, counts as 0
+pub record Row : Type 0 where
+  pub pattern : ℕ
+  pub score : ℕ
+  pub a : ℤ
+  pub b : ℤ
+
+abbrev pub natOf : ℤ → ℕ
+natOf (pos n) = n
+natOf (negsuc n) = 0
+
+-- row i + 1
+unfoldable pub row : List ℤ → ℕ → Row
+row t i = record { pattern = natOf (num t i 0); score = natOf (num t i 1); a = num t i 2; b = num t i 3 }
+
+-- rows a + 1 to a + n, as a part of their table
+abbrev pub part : List ℤ → ℕ → ℕ → List ℤ
+part t a n = take (4 * n) (drop (4 * a) t)
+
+-- how far apart two numbers lie
+unfoldable pub gap : ℤ → ℤ → ℕ
+gap x y = natAbs (x -ℤ y)
+
+-- "da × da + db × db .. da and db being the differences of a and of b"
+unfoldable pub squaredDistance : Row → Row → ℕ
+squaredDistance x y = gap (x .a) (y .a) * gap (x .a) (y .a) + gap (x .b) (y .b) * gap (x .b) (y .b)
+
+-- "qualifies if da × da + db × db ≤ radius × radius"
+unfoldable pub qualifies : ℕ → Row → Row → Bool
+qualifies radius x y = leb (squaredDistance x y) (radius * radius)
+
+-- "Its sum is the two scores added."
+unfoldable pub pairSum : Row → Row → ℕ
+pairSum x y = x .score + y .score
+
+-- "ranked by higher sum, then lower field row, then lower trim row": whether p stands ahead of q
+unfoldable pub ahead : Pair → Pair → Bool
+ahead p q =
+    ltb (q .sum) (p .sum)
+    || (eqb (p .sum) (q .sum)
+    && (ltb (p .field) (q .field) || (eqb (p .field) (q .field) && ltb (p .trim) (q .trim))))
+
+-- some rows of a table: those after the first `start`, as a part of it
+pub record Block : Type 0 where
+  pub start : ℕ
+  pub rows : List ℤ
+
+-- the pair of row i + 1 of a field block and row j + 1 of a trim block
+unfoldable pub pairAt : Block → Block → ℕ → ℕ → Pair
+pairAt x y i j =
+    record { sum = pairSum (row (x .rows) i) (row (y .rows) j); field = x .start + i + 1; trim = y .start + j + 1 }
+
+-- the qualifying pairs of the rows of a field block and of a trim block
+unfoldable pub qualifying : ℕ → Block → Block → List Pair
+qualifying radius x y =
+    each
+    (λ i. map (pairAt x y i) (keep (λ j. qualifies radius (row (x .rows) i) (row (y .rows) j)) (range 0 (rowCount (y .rows)))))
+    (range 0 (rowCount (x .rows)))

@@ -1,0 +1,78 @@
+// The values that document 01 speaks of: query, pair, record, answers. No code.
+// What they mean stands in specs/, in document 01's order.
+
+// A count of field rows: the field table's row count, or its depth (d_R in source 001).
+pub struct FieldRows(pub u32);
+
+// A count of trim rows: the trim table's row count, or its depth (d_S in source 001).
+pub struct TrimRows(pub u32);
+
+// One count of each table.
+pub struct Counts {
+    pub field: FieldRows,
+    pub trim: TrimRows,
+}
+
+// What a list is asked for: its length k, the block size in rows, the radius.
+pub struct Query {
+    pub k: u32,
+    pub block: u32,
+    pub radius: u32,
+}
+
+// A field row and a trim row, numbered from 1, and their sum.
+pub struct Pair {
+    pub sum: u32,
+    pub field: u32,
+    pub trim: u32,
+}
+
+// The session's record: a value that goes in and comes back.
+pub struct Session {
+    pub query: Query,
+    // The tables' row counts.
+    pub rows: Counts,
+    // Rows read of each table.
+    pub depth: Counts,
+    // The table read last: 0 none, 1 field, 2 trim.
+    pub last: u32,
+    // Pairs out.
+    pub out: u32,
+    // Pairs held: so many of the 64 places, from the front.
+    pub held: u32,
+    pub pairs: [Pair; 64],
+    // Block pairs joined.
+    pub joined: u64,
+}
+
+// What a call of the session answers.
+pub enum Answer {
+    // The number of document 01's table.
+    Refused(u32),
+    // Opening: accepted.
+    Opened,
+    // Read: a block was read.
+    Read,
+    // Read: nothing unread can matter.
+    Settled,
+    // Take: the pair brought out.
+    Given(Pair),
+    // Take: no held pair is secured yet.
+    NotYet,
+    // Take: the list is complete.
+    Finished,
+}
+
+// What opening, read and take give back.
+pub struct Step {
+    pub answer: Answer,
+    pub session: Session,
+}
+
+// What reading a strict file answers.
+pub enum Loaded {
+    // The row count.
+    Rows(u32),
+    // The refusal's number, and its row (0 where none goes with it).
+    Unfit(u32, u32),
+}
