@@ -8,11 +8,12 @@ use mathlib.Core.List.{List, [], _∷_, map}
 use lib.Dec.{T}
 use lib.IntN.{ℤ, pos, negsuc}
 use lib.ListN.{getD, List·getD-map}
+use Rattle.rules.specs.declared.Shade.{Shade}
 use Rattle.rules.specs.declared.Query.{Query}
 use Rattle.rules.specs.declared.Session.{Session}
 use Rattle.rules.specs.declared.Answer.{Answer}
 use Rattle.rules.specs.declared.Answer.the-variants.{Refused, Opened, Read, Settled, Given, NotYet, Finished}
-use Rattle.rules.specs.Tables.{Row, qualifies}
+use Rattle.rules.specs.Tables.{qualifies}
 use Rattle.rules.specs.Session.{ceiling}
 use Rattle.rules.specs.Calls.{openCall, readCall, takeCall}
 use Rattle.rules.specs.File.{columnFits, columnNumber}
@@ -61,9 +62,8 @@ pub afterReads : ℕ → Session
 afterReads zero = openCall query fields trims .session
 afterReads (suc n) = readCall fields trims (afterReads n) .session
 
--- a shade, as a row of no other account
-abbrev pub shade : ℤ → ℤ → Row
-shade a b = record { pattern = 1; score = 0; a = a; b = b }
+abbrev pub shade : ℤ → ℤ → Shade
+shade a b = record { a = a; b = b }
 
 -- what an entry of the table finds: whether it holds, a number, or what a take answers (rows and sum; 0 not yet, 1 finished)
 abbrev pub test : Bool → List ℤ

@@ -70,7 +70,7 @@ pairLine f t rank p =
     let y = row t (p .trim - 1) in
     decimal 6 rank
     ++ (decimal 6 (p .sum)
-    ++ (decimal 6 (x .pattern) ++ (decimal 6 (y .pattern) ++ (decimal 12 (squaredDistance x y) ++ (lineFeed ∷ [])))))
+    ++ (decimal 6 (x .pattern) ++ (decimal 6 (y .pattern) ++ (decimal 12 (squaredDistance (x .shade) (y .shade)) ++ (lineFeed ∷ [])))))
 
 -- the lines of a list whose first pair has this rank
 unfoldable pub pairLines : List ℤ → List ℤ → ℕ → List Pair → List ℕ

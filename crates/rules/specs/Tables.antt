@@ -7,6 +7,7 @@ use lib.IntN.{ℤ, pos, negsuc, natAbs, _-ℤ_}
 use lib.Signed.{leZ}
 use lib.ListN.{length, getD, take, drop}
 use Rattle.lists.specs.Lists.{keep, every, range, each}
+use Rattle.rules.specs.declared.Shade.{Shade}
 use Rattle.rules.specs.declared.Pair.{Pair}
 
 -- "four to a row": number j of row i + 1 (rows are numbered from 1)
@@ -20,12 +21,14 @@ unfoldable pub within : ℤ → ℤ → ℤ → Bool
 within low high x = leZ low x && leZ x high
 
 -- "pattern number 1 to 999,999; score 0 to 9,999; a and b, each -12,800 to 12,700"
+unfoldable pub inRange : ℤ → ℤ → ℤ → ℤ → Bool
+inRange pattern score a b =
+    within (pos 1) (pos 999999) pattern
+    && (within (pos 0) (pos 9999) score
+    && (within (negsuc 12799) (pos 12700) a && within (negsuc 12799) (pos 12700) b))
+
 unfoldable pub rowInRange : List ℤ → ℕ → Bool
-rowInRange t i =
-    within (pos 1) (pos 999999) (num t i 0)
-    && (within (pos 0) (pos 9999) (num t i 1)
-    && (within (negsuc 12799) (pos 12700) (num t i 2)
-    && within (negsuc 12799) (pos 12700) (num t i 3)))
+rowInRange t i = inRange (num t i 0) (num t i 1) (num t i 2) (num t i 3)
 
 -- "no score exceeds the one before it"
 unfoldable pub rowInOrder : List ℤ → ℕ → Bool
@@ -39,20 +42,24 @@ sizeFits t = eqb (length t % 4) 0 && leb (rowCount t) 65535
 unfoldable pub legal : List ℤ → Bool
 legal t = sizeFits t && every (λ i. rowInRange t i && rowInOrder t i) (range 0 (rowCount t))
 
--- a row as the rules below look at it; a score below 0, which no legal table has, counts as 0
-pub record Row : Type 0 where
-  pub pattern : ℕ
-  pub score : ℕ
-  pub a : ℤ
-  pub b : ℤ
-
 abbrev pub natOf : ℤ → ℕ
 natOf (pos n) = n
 natOf (negsuc n) = 0
 
+-- a row as the rules below look at it; a number below 0, which no legal table has there, counts as 0
+pub record Row : Type 0 where
+  pub pattern : ℕ
+  pub score : ℕ
+  pub shade : Shade
+
 -- row i + 1
 unfoldable pub row : List ℤ → ℕ → Row
-row t i = record { pattern = natOf (num t i 0); score = natOf (num t i 1); a = num t i 2; b = num t i 3 }
+row t i =
+    record {
+      pattern = natOf (num t i 0);
+      score = natOf (num t i 1);
+      shade = record { a = num t i 2; b = num t i 3 };
+    }
 
 -- rows a + 1 to a + n, as a part of their table
 abbrev pub part : List ℤ → ℕ → ℕ → List ℤ
@@ -63,11 +70,11 @@ unfoldable pub gap : ℤ → ℤ → ℕ
 gap x y = natAbs (x -ℤ y)
 
 -- "da × da + db × db .. da and db being the differences of a and of b"
-unfoldable pub squaredDistance : Row → Row → ℕ
+unfoldable pub squaredDistance : Shade → Shade → ℕ
 squaredDistance x y = gap (x .a) (y .a) * gap (x .a) (y .a) + gap (x .b) (y .b) * gap (x .b) (y .b)
 
 -- "qualifies if da × da + db × db ≤ radius × radius"
-unfoldable pub qualifies : ℕ → Row → Row → Bool
+unfoldable pub qualifies : ℕ → Shade → Shade → Bool
 qualifies radius x y = leb (squaredDistance x y) (radius * radius)
 
 -- "Its sum is the two scores added."
@@ -95,5 +102,5 @@ pairAt x y i j =
 unfoldable pub qualifying : ℕ → Block → Block → List Pair
 qualifying radius x y =
     each
-    (λ i. map (pairAt x y i) (keep (λ j. qualifies radius (row (x .rows) i) (row (y .rows) j)) (range 0 (rowCount (y .rows)))))
+    (λ i. map (pairAt x y i) (keep (λ j. qualifies radius (row (x .rows) i .shade) (row (y .rows) j .shade)) (range 0 (rowCount (y .rows)))))
     (range 0 (rowCount (x .rows)))

@@ -1,6 +1,12 @@
 // The values that document 01 speaks of: query, pair, record, answers. No code.
 // What they mean stands in specs/, in document 01's order.
 
+// A place in the colour plane: hundredths of a* and b*.
+pub struct Shade {
+    pub a: i32,
+    pub b: i32,
+}
+
 // A count of field rows: the field table's row count, or its depth (d_R in source 001).
 pub struct FieldRows(pub u32);
 

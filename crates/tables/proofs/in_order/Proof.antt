@@ -1,0 +1,84 @@
+-- `in_order` meets its contract: the flag is the test of the two scores. Assumes nothing.
+use mathlib.Core.Path.{_≡_}
+use Prim.Native.Nat.{_+_, _*_, _-_}
+use lib.IntN.{pos}
+use lib.ListN.{getD}
+use mir.Syntax.{w32}
+use mir.Facts.{toZ-ofZ}
+use borrow.Author.Tests.{eq-eqb, ne-eqb}
+use Rattle.rules.specs.Tables.{rowInOrder}
+use borrow.Author.Needs.{needs, sfits-of}
+use Rattle.tables.proofs.in_order.Statement.{statement}
+use Rattle.tables.proofs.in_order.Tie as tie
+use Rattle.tables.proofs.in_order.Reads as reads
+use Rattle.tables.proofs.in_order.Lts as lts
+
+-- src/lib.rt:23:9
+returns : tie.Need-returns
+unfolding rowInOrder
+returns c = simp (eq-eqb _ _ (c .if1 .taken))
+
+-- src/lib.rt:25:18
+sub-before : tie.Need-sub-before
+sub-before c = search needs
+
+-- src/lib.rt:26:7
+mul-result : tie.Need-mul-result
+mul-result c = search needs
+
+-- src/lib.rt:26:7
+add-result : tie.Need-add-result
+add-result c = search needs
+
+-- src/lib.rt:26:5
+mul-result-2 : tie.Need-mul-result-2
+mul-result-2 c = search needs
+
+-- src/lib.rt:26:5
+shared-slice-copy-out-result : tie.Need-shared-slice-copy-out-result
+shared-slice-copy-out-result c = search needs
+
+-- src/lib.rt:26:23
+mul-result-3 : tie.Need-mul-result-3
+mul-result-3 c = search needs
+
+-- src/lib.rt:26:23
+add-result-2 : tie.Need-add-result-2
+add-result-2 c = search needs
+
+-- src/lib.rt:26:21
+mul-result-4 : tie.Need-mul-result-4
+mul-result-4 c = search needs
+
+-- src/lib.rt:26:21
+shared-slice-copy-out-result-2 : tie.Need-shared-slice-copy-out-result-2
+shared-slice-copy-out-result-2 c = search needs
+
+-- src/lib.rt:18:1
+returns-2 : tie.Need-returns-2
+unfolding rowInOrder
+returns-2 c =
+    let s = c .before .before .before .args in
+    let now = getD (s .t .now) (4 * s .i + 1) (pos 0) in
+    let before = getD (s .t .now) (4 * (s .i - 1) + 1) (pos 0) in
+    simp (
+      ne-eqb _ _ (c .before .before .if1 .left),
+      toZ-ofZ {w = w32} {z = now} (sfits-of (c .before .result .given)),
+      toZ-ofZ {w = w32} {z = before} (sfits-of (c .result2 .given)),
+    )
+
+pub in-order-spec : {M : Type 1} → statement M
+in-order-spec =
+    tie.close
+    (tie.spec
+    returns
+    sub-before
+    mul-result
+    add-result
+    mul-result-2
+    shared-slice-copy-out-result
+    mul-result-3
+    add-result-2
+    mul-result-4
+    shared-slice-copy-out-result-2
+    returns-2)

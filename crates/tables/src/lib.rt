@@ -1,0 +1,65 @@
+// The checks of a table's rows, document 01's 6 and 7: what the session and file reading share.
+ghost use mathlib.Core.Path.{_≡_};
+ghost use Prim.Native.Nat.{_+_, _*_, _≤_, _<_};
+ghost use lib.ListN.{length};
+ghost use Rattle.rules.specs.Tables.{inRange, rowInRange, rowInOrder};
+ghost use Rattle.rules.specs.Calls.{rowCode, rowsCode};
+
+// Whether the four numbers of a row keep their ranges.
+pub fn in_range(pattern: i32, score: i32, a: i32, b: i32) -> bool
+    ensures { λ r. ⌜ r ≡ inRange pattern score a b ⌝ }
+{
+    ((1 <= pattern) & (pattern <= 999999))
+        & (((0 <= score) & (score <= 9999))
+            & (((-12800 <= a) & (a <= 12700)) & ((-12800 <= b) & (b <= 12700))))
+}
+
+fn row_in_range(t: &[i32], i: usize) -> bool
+    requires { ⌜ (i < 65535) × (4 * i + 4 ≤ length (now t)) ⌝ }
+    ensures { λ r. ⌜ r ≡ rowInRange (now (t .entry)) i ⌝ }
+{
+    let o = 4 * i;
+    in_range(t[o], t[o + 1], t[o + 2], t[o + 3])
+}
+
+// Whether the score of row i + 1 is at most that of the row before.
+fn in_order(t: &[i32], i: usize) -> bool
+    requires { ⌜ (i < 65535) × (4 * i + 4 ≤ length (now t)) ⌝ }
+    ensures { λ r. ⌜ r ≡ rowInOrder (now (t .entry)) i ⌝ }
+{
+    if i == 0 {
+        return true;
+    }
+    let before = i - 1;
+    t[4 * i + 1] <= t[4 * before + 1]
+}
+
+// What row i + 1 of a table is refused by, 6 before 7; 0 where it is not.
+pub fn row_code(t: &[i32], i: usize) -> u32
+    requires { ⌜ (i < 65535) × (4 * i + 4 ≤ length (now t)) ⌝ }
+    ensures { λ r. ⌜ r ≡ rowCode (now (t .entry)) i ⌝ }
+{
+    if !row_in_range(t, i) {
+        return 6;
+    }
+    if !in_order(t, i) {
+        return 7;
+    }
+    0
+}
+
+// What the first of rows a + 1 to a + n that is refused is refused by; 0 where none is.
+pub fn rows_code(t: &[i32], a: usize, n: usize) -> u32
+    requires { ⌜ (a + n ≤ 65535) × (4 * (a + n) ≤ length (now t)) ⌝ }
+    ensures { λ r. ⌜ r ≡ rowsCode (now (t .entry)) a n ⌝ }
+{
+    let mut i: usize = 0;
+    while i < n {
+        let code = row_code(t, a + i);
+        if code != 0 {
+            return code;
+        }
+        i += 1;
+    }
+    0
+}

@@ -1,0 +1,60 @@
+-- The rules, run by the checker on all tables of up to two rows from a small domain: the sums that reading until settled
+-- and taking until finished bring out are the k highest of the plain list of all qualifying sums. Assumes nothing.
+use Prim.Native.Nat.{ℕ}
+use mathlib.Core.Path.{_≡_, refl}
+use mathlib.Core.Bool.{Bool, true, false, _&&_}
+use mathlib.Core.List.{List, [], _∷_, _++_, map}
+use lib.Dec.{leb, eqb}
+use lib.IntN.{ℤ, pos}
+use Rattle.lists.specs.Lists.{every, keep, each, best}
+use Rattle.rules.specs.declared.Query.{Query}
+use Rattle.rules.specs.Tables.{legal}
+use Rattle.rules.specs.Sure.{qualifyingSums}
+use Rattle.rules.specs.Query.{list}
+use Rattle.rules.specs.Run.{run}
+
+pub same : List ℕ → List ℕ → Bool
+same [] [] = true
+same [] (y ∷ m) = false
+same (x ∷ l) [] = false
+same (x ∷ l) (y ∷ m) = eqb x y && same l m
+
+-- all rows with one of these scores and one of these places
+pub rows : List ℕ → List ℕ → List (List ℤ)
+rows scores places = each (λ score. map (λ a. pos 1 ∷ pos score ∷ pos a ∷ pos 0 ∷ []) places) scores
+
+-- all legal tables of up to two of these rows
+pub tables : List (List ℤ) → List (List ℤ)
+tables some = keep legal ([] ∷ (some ++ each (λ x. map (λ y. x ++ y) some) some))
+
+-- Places 0 and 1 against 0 and 2, at radius 1: nearer, just as far, and farther.
+abbrev pub fieldTables : List (List ℤ)
+fieldTables = tables (rows (0 ∷ 1 ∷ 2 ∷ []) (0 ∷ 1 ∷ []))
+
+abbrev pub trimTables : List (List ℤ)
+trimTables = tables (rows (0 ∷ 1 ∷ []) (0 ∷ 2 ∷ []))
+
+pub query : ℕ → ℕ → Query
+query k block = record { k = k; block = block; radius = 1 }
+
+pub right : Query → List ℤ → List ℤ → Bool
+right q f t = same (map (λ p. p .sum) (list q f t)) (best (q .k) (qualifyingSums (q .radius) f t))
+
+pub allRight : Query → List (List ℤ) → List (List ℤ) → Bool
+allRight q fs ts = every (λ f. every (right q f) ts) fs
+
+pub k1-block1 : allRight (query 1 1) fieldTables trimTables ≡ true
+unfolding run best qualifyingSums same rows tables query right allRight
+k1-block1 = refl
+
+pub k1-block2 : allRight (query 1 2) fieldTables trimTables ≡ true
+unfolding run best qualifyingSums same rows tables query right allRight
+k1-block2 = refl
+
+pub k2-block1 : allRight (query 2 1) fieldTables trimTables ≡ true
+unfolding run best qualifyingSums same rows tables query right allRight
+k2-block1 = refl
+
+pub k2-block2 : allRight (query 2 2) fieldTables trimTables ≡ true
+unfolding run best qualifyingSums same rows tables query right allRight
+k2-block2 = refl

@@ -1,0 +1,1 @@
+// The rules, run on all tiny tables. No code.
