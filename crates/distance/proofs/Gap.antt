@@ -1,0 +1,113 @@
+-- The gap of two signed numbers, as naturals: its size, and what subtracting at 64 bits gives. Assumes nothing.
+use mathlib.Core.Path.{_≡_, refl, sym, ap, subst, _∙_}
+use mathlib.Core.Bool.{Bool, true, false, cond}
+use Prim.Native.Nat.{ℕ, zero, suc, _+_, _-_, _≤_, _<_, _^_}
+use native.Mathlib.Omega.{arith}
+use lib.IntN.{ℤ, pos, negsuc, natAbs, subℕ, _-ℤ_}
+use lib.Signed.{leZ, mag, nonNeg}
+use lib.Dec.{T, ltb}
+use mir.Syntax.{w32, w64}
+use mir.Val.{Fits, SFits, toZ, ofZ}
+use mir.Facts.{toZ-ofZ}
+use borrow.Author.Tests.{leb-true, leb-false, ltb-true, ltb-false, le-leb, le-ltb}
+use Rattle.rules.specs.Tables.{gap}
+
+-- the gap by the signs of the two numbers
+dist : ℤ → ℤ → ℕ
+dist (pos a) (pos b) = (a - b) + (b - a)
+dist (pos a) (negsuc b) = a + suc b
+dist (negsuc a) (pos b) = suc a + b
+dist (negsuc a) (negsuc b) = (a - b) + (b - a)
+
+abs-sub : (a b : ℕ) → natAbs (subℕ a b) ≡ (a - b) + (b - a)
+abs-sub a b = go (ltb a b) refl
+  where
+    go : (t : Bool) → ltb a b ≡ t → natAbs (cond t (negsuc (b - suc a)) (pos (a - b))) ≡ (a - b) + (b - a)
+    go true e = let h : a < b = ltb-true a b e in omega arith
+    go false e = let h : b ≤ a = ltb-false a b e in omega arith
+
+gap-is : (x y : ℤ) → gap x y ≡ dist x y
+unfolding gap dist
+gap-is (pos a) (pos zero) = omega arith
+gap-is (pos a) (pos (suc b)) = abs-sub a (suc b)
+gap-is (pos a) (negsuc b) = refl
+gap-is (negsuc a) (pos zero) = abs-sub 0 (suc a) ∙ omega arith
+gap-is (negsuc a) (pos (suc b)) = omega arith
+gap-is (negsuc a) (negsuc b) = abs-sub (suc b) (suc a) ∙ omega arith
+
+of-true : {b : Bool} → b ≡ true → T b
+of-true e = subst T (sym e) tt
+
+sub-no : (a b : ℕ) → b ≤ a → subℕ a b ≡ pos (a - b)
+sub-no a b h = rw (le-ltb a b h)
+
+-- the greater less the lesser is their gap
+sub-le : (x y : ℤ) → leZ y x ≡ true → x -ℤ y ≡ pos (dist x y)
+unfolding dist
+sub-le (pos a) (pos zero) h = ap pos (omega arith)
+sub-le (pos a) (pos (suc b)) h = let k : suc b ≤ a = leb-true (suc b) a h in sub-no a (suc b) k ∙ ap pos (omega arith)
+sub-le (pos a) (negsuc b) h = refl
+sub-le (negsuc a) (pos b) h = absurd (of-true h)
+sub-le (negsuc a) (negsuc b) h = let k : a ≤ b = leb-true a b h in sub-no (suc b) (suc a) (omega arith) ∙ ap pos (omega arith)
+
+pub total : (x y : ℤ) → leZ y x ≡ false → leZ x y ≡ true
+total (pos a) (pos b) h = le-leb a b (let k : a < b = leb-false b a h in omega arith)
+total (pos a) (negsuc b) h = absurd (of-true (sym h))
+total (negsuc a) (pos b) h = refl
+total (negsuc a) (negsuc b) h = le-leb b a (let k : b < a = leb-false a b h in omega arith)
+
+dist-sym : (x y : ℤ) → dist x y ≡ dist y x
+unfolding dist
+dist-sym (pos a) (pos b) = omega arith
+dist-sym (pos a) (negsuc b) = omega arith
+dist-sym (negsuc a) (pos b) = omega arith
+dist-sym (negsuc a) (negsuc b) = omega arith
+
+pub gap-sym : (x y : ℤ) → gap x y ≡ gap y x
+gap-sym x y = gap-is x y ∙ dist-sym x y ∙ sym (gap-is y x)
+
+dist-below : (x y : ℤ) → mag x < 2 ^ 31 → mag y < 2 ^ 31 → dist x y < 2 ^ 32
+unfolding dist
+dist-below (pos a) (pos b) h k = omega arith
+dist-below (pos a) (negsuc b) h k = omega arith
+dist-below (negsuc a) (pos b) h k = omega arith
+dist-below (negsuc a) (negsuc b) h k = omega arith
+
+pub gap-below : (x y : ℤ) → SFits w32 x → SFits w32 y → gap x y < 2 ^ 32
+gap-below x y f g = rw (gap-is x y) (dist-below x y (f .sfits) (g .sfits))
+
+-- a 32-bit number widened to 64 bits, as the code has it
+abbrev pub wide : ℤ → ℤ
+wide z = toZ w64 (ofZ w64 (toZ w32 (ofZ w32 z)))
+
+pub fits-wide : (z : ℤ) → SFits w32 z → SFits w64 (toZ w32 (ofZ w32 z))
+fits-wide z h = rw (toZ-ofZ h) (record { sfits = omega arith })
+
+wide-is : (z : ℤ) → SFits w32 z → wide z ≡ z
+wide-is z h = toZ-ofZ {w = w64} (fits-wide z h) ∙ toZ-ofZ h
+
+-- x - y where y <= x, both widened: it fits, it may be cast, and the cast is the gap
+module _ (x y : ℤ) (f : SFits w32 x) (g : SFits w32 y) (h : leZ (wide y) (wide x) ≡ true) where
+  difference : wide x -ℤ wide y ≡ pos (gap x y)
+  difference =
+      simp (wide-is x f, wide-is y g) (sub-le x y (simp (wide-is x f, wide-is y g) at h) ∙ ap pos (sym (gap-is x y)))
+
+  small : SFits w64 (pos (gap x y))
+  small = record { sfits = omega (arith, gap-below x y f g) }
+
+  pub sub-fits : SFits w64 (wide x -ℤ wide y)
+  sub-fits = rw difference small
+
+  back : toZ w64 (ofZ w64 (wide x -ℤ wide y)) ≡ pos (gap x y)
+  back = rw (difference, toZ-ofZ small)
+
+  pub cast-fits : T (nonNeg (toZ w64 (ofZ w64 (wide x -ℤ wide y)))) × Fits w64 (natAbs (toZ w64 (ofZ w64 (wide x -ℤ wide y))))
+  cast-fits = rw back (tt, record { fits = omega (arith, gap-below x y f g) })
+
+  pub cast-is : natAbs (toZ w64 (ofZ w64 (wide x -ℤ wide y))) ≡ gap x y
+  cast-is = ap natAbs back
+
+-- what is learnt of the gap of two 32-bit numbers that were passed on
+pub gap-of-passed : (n : ℕ) (x y : ℤ) → mag x < 2 ^ 31 → mag y < 2 ^ 31 → n ≡ gap (toZ w32 (ofZ w32 x)) (toZ w32 (ofZ w32 y)) → n ≡ gap x y
+gap-of-passed n x y f g e =
+    simp (toZ-ofZ {w = w32} {z = x} (record { sfits = f }), toZ-ofZ {w = w32} {z = y} (record { sfits = g })) at e

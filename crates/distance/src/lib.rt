@@ -1,0 +1,44 @@
+// The distance of two shades, for all 32-bit numbers and all radii: no sum wraps, whatever a table holds.
+use rules::Shade;
+ghost use mathlib.Core.Path.{_≡_};
+ghost use Prim.Native.Nat.{_<_, _^_, _-_, min};
+ghost use Rattle.rules.specs.Tables.{gap, squaredDistance, qualifies};
+
+// How far apart two numbers lie.
+fn apart(x: i32, y: i32) -> u64
+    ensures { λ r. ⌜ (r ≡ gap x y) × (r < 2 ^ 32) ⌝ }
+{
+    let a = x as i64;
+    let b = y as i64;
+    if b <= a {
+        return (a - b) as u64;
+    }
+    (b - a) as u64
+}
+
+// The squared distance of two shades; of two that lie farther apart than 64 bits can say, the largest number they can.
+pub fn squared_distance(x: Shade, y: Shade) -> u64
+    ensures { λ r. ⌜ r ≡ min (squaredDistance x y) (2 ^ 64 - 1) ⌝ }
+{
+    let da = apart(x.a, y.a);
+    let db = apart(x.b, y.b);
+    let aa = da * da;
+    let bb = db * db;
+    if bb <= 18446744073709551615 - aa {
+        return aa + bb;
+    }
+    18446744073709551615
+}
+
+// Whether two shades lie within the radius. A gap above the radius answers no before anything is squared.
+pub fn qualifies(radius: u32, x: Shade, y: Shade) -> bool
+    ensures { λ r. ⌜ r ≡ qualifies radius x y ⌝ }
+{
+    let r = radius as u64;
+    let da = apart(x.a, y.a);
+    let db = apart(x.b, y.b);
+    if r < da {
+        return false;
+    }
+    db * db <= r * r - da * da
+}
