@@ -16,14 +16,27 @@ fn apart(x: i32, y: i32) -> u64
     (b - a) as u64
 }
 
+// How far apart two shades lie in a and in b.
+struct Offset {
+    a: u64,
+    b: u64,
+}
+
+fn offset_of(x: Shade, y: Shade) -> Offset
+    ensures { λ r. ⌜ (r .a ≡ gap (x .a) (y .a)) × (r .b ≡ gap (x .b) (y .b)) × (r .a < 2 ^ 32) × (r .b < 2 ^ 32) ⌝ }
+{
+    let a = apart(x.a, y.a);
+    let b = apart(x.b, y.b);
+    Offset { a, b }
+}
+
 // The squared distance of two shades; of two that lie farther apart than 64 bits can say, the largest number they can.
 pub fn squared_distance(x: Shade, y: Shade) -> u64
     ensures { λ r. ⌜ r ≡ min (squaredDistance x y) (2 ^ 64 - 1) ⌝ }
 {
-    let da = apart(x.a, y.a);
-    let db = apart(x.b, y.b);
-    let aa = da * da;
-    let bb = db * db;
+    let d = offset_of(x, y);
+    let aa = d.a * d.a;
+    let bb = d.b * d.b;
     if bb <= 18446744073709551615 - aa {
         return aa + bb;
     }
@@ -35,10 +48,9 @@ pub fn qualifies(radius: u32, x: Shade, y: Shade) -> bool
     ensures { λ r. ⌜ r ≡ qualifies radius x y ⌝ }
 {
     let r = radius as u64;
-    let da = apart(x.a, y.a);
-    let db = apart(x.b, y.b);
-    if r < da {
+    let d = offset_of(x, y);
+    if r < d.a {
         return false;
     }
-    db * db <= r * r - da * da
+    d.b * d.b <= r * r - d.a * d.a
 }
