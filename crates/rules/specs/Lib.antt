@@ -7,5 +7,7 @@ pub mod Numbers
 pub mod Calls
 pub mod File
 pub mod Query
+pub mod Ranking
+pub mod Meaning
 pub mod Run
 pub mod Example
