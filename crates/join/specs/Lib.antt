@@ -1,3 +1,4 @@
 pub mod Join
 pub mod Regions
 pub mod Ceiling
+pub mod Sure
