@@ -92,18 +92,24 @@ module _ {A B : Type 0} (S : Side A) (U : Side B) where
       go false false a b n = two a b (leb b a) refl
 
 module _ {A B : Type 0} (S : Side A) (U : Side B) (qual : A → B → Bool) (laws : Laws S U qual) where
-  -- a pair with a field row beyond the reading
-  below-field : (F F′ : List A) (T T′ : List B) (p q i j : ℕ) → S .Legal F → 1 ≤ p → 1 ≤ q → Begins S p F F′ → Begins U q T T′ → p ≤ i → i < length F′ → j < length T′ → qual (rowAt S F′ i) (rowAt U T′ j) ≡ true → weightAt S F′ i + weightAt U T′ j ≤ ceiling S U F p T q
-  below-field F F′ T T′ p q i j g hp hq b c h hi hj e = go (S .ended F p) refl
+  -- a qualifying pair with a field row beyond the reading: the field table is not ended, and the sum no higher than its half
+  pub beyond-low : (F F′ : List A) (T T′ : List B) (p q i j : ℕ) → S .Legal F → 1 ≤ p → 1 ≤ q → Begins S p F F′ → Begins U q T T′ → p ≤ i → i < length F′ → j < length T′ → qual (rowAt S F′ i) (rowAt U T′ j) ≡ true
+      → (S .ended F p ≡ false) × (weightAt S F′ i + weightAt U T′ j ≤ last S F p + first U T)
+  beyond-low F F′ T T′ p q i j g hp hq b c h hi hj e = go (S .ended F p) refl
     where
-      go : (t : Bool) → S .ended F p ≡ t → weightAt S F′ i + weightAt U T′ j ≤ ceiling S U F p T q
+      go : (t : Bool) → S .ended F p ≡ t → (S .ended F p ≡ false) × (weightAt S F′ i + weightAt U T′ j ≤ last S F p + first U T)
       go true f = clash e (laws .fields .ended-dead F F′ p g b f i h hi (rowAt U T′ j))
       go false f =
           let x : weightAt S F′ i ≤ last S F′ p = weight-falls S U qual (laws .fields) F′ (p - 1) i (b .legal) (omega arith) hi in
           let y : weightAt U T′ j ≤ first U T′ = weight-falls U S (flip qual) (laws .trims) T′ 0 j (c .legal) (omega arith) hj in
-          omega (arith, begins-weight S p (p - 1) F F′ b (omega arith), begins-weight U q 0 T T′ c (omega arith), ceiling-half S U F p T q f)
+          (f, omega (arith, begins-weight S p (p - 1) F F′ b (omega arith), begins-weight U q 0 T T′ c (omega arith)))
 
-  half-falls : (F : List A) (T : List B) (p p′ q : ℕ) → S .Legal F → 1 ≤ p → p ≤ p′ → S .ended F p′ ≡ false → last S F p′ + first U T ≤ ceiling S U F p T q
+  below-field : (F F′ : List A) (T T′ : List B) (p q i j : ℕ) → S .Legal F → 1 ≤ p → 1 ≤ q → Begins S p F F′ → Begins U q T T′ → p ≤ i → i < length F′ → j < length T′ → qual (rowAt S F′ i) (rowAt U T′ j) ≡ true → weightAt S F′ i + weightAt U T′ j ≤ ceiling S U F p T q
+  below-field F F′ T T′ p q i j g hp hq b c h hi hj e =
+      let a = beyond-low F F′ T T′ p q i j g hp hq b c h hi hj e in
+      omega (arith, a .1, ceiling-half S U F p T q (a .0))
+
+  pub half-falls : (F : List A) (T : List B) (p p′ q : ℕ) → S .Legal F → 1 ≤ p → p ≤ p′ → S .ended F p′ ≡ false → last S F p′ + first U T ≤ ceiling S U F p T q
   half-falls F T p p′ q g hp h e =
       let a : p′ < length F = ended-not S U qual (laws .fields) F p′ e in
       let b : last S F p′ ≤ last S F p = weight-falls S U qual (laws .fields) F (p - 1) (p′ - 1) g (omega arith) (omega arith) in

@@ -68,9 +68,9 @@ module _ {A B : Type 0} (S : Side A) (U : Side B) (qual : A → B → Bool) (k :
 -- From the meaning to the test: two tables tell
 
 module _ {A B : Type 0} (S : Side A) (U : Side B) (qual : A → B → Bool) (laws : SideLaws S U qual) where
-  -- the rows read alone are a table that begins so
-  begins-take : (n : ℕ) (l : List A) → S .Legal l → Begins S n l (take n l)
-  begins-take n l g = record { legal = laws .legal-take n l g; rows = sym (take-take n n l (omega arith)); ends = λ h. take-all n l h }
+  -- the rows read, alone or with the next ones, are a table that begins so
+  pub begins-take : (n m : ℕ) (l : List A) → S .Legal l → n ≤ m → Begins S n l (take m l)
+  begins-take n m l g h = record { legal = laws .legal-take m l g; rows = sym (take-take n m l h); ends = λ k. take-all m l (omega arith) }
 
   -- and while the table is not ended, the rows read and one more
   begins-more : (n : ℕ) (l : List A) (x : A) → S .ended l n ≡ false → S .Legal (take n l ++ x ∷ []) → Begins S n l (take n l ++ x ∷ [])
@@ -96,7 +96,7 @@ module _ {A B : Type 0} (S : Side A) (U : Side B) (qual : A → B → Bool) (law
   -- a row that may follow, and makes a pair more at c while fewer than k are there
   row-tells : (k c : ℕ) (F : List A) (p : ℕ) (T T′ : List B) (q : ℕ) (x : A) → S .Legal F → Begins U q T T′ → S .ended F p ≡ false → S .Legal (take p F ++ x ∷ []) → 1 ≤ length T′ → qual x (rowAt U T′ 0) ≡ true → c ≤ S .weight x + first U T′ → atLeast c (sumsOf S U qual (take p F) T′) < k → Sure S U qual k F p T q → ⊥
   row-tells k c F p T T′ q x f d e g r y h n s =
-      let a = ap (atLeast c) (s .same (take p F) (take p F ++ x ∷ []) T′ T′ (begins-take p F f) (begins-more p F x e g) d d) in
+      let a = ap (atLeast c) (s .same (take p F) (take p F ++ x ∷ []) T′ T′ (begins-take p p F f (omega arith)) (begins-more p F x e g) d d) in
       omega (arith, a, count-best c k (sumsOf S U qual (take p F) T′), count-best c k (sumsOf S U qual (take p F ++ x ∷ []) T′), count-more S U qual c (take p F) T′ x r y h)
 
 module _ {A B : Type 0} (S : Side A) (U : Side B) (qual : A → B → Bool) (laws : Laws S U qual) where
@@ -108,7 +108,7 @@ module _ {A B : Type 0} (S : Side A) (U : Side B) (qual : A → B → Bool) (law
       let r : rowAt U (take q T) 0 ≡ rowAt U T 0 = getD-take q T 0 (U .blank) hq in
       let w : first U (take q T) ≡ first U T = ap (U .weight) r in
       let m : 1 ≤ length (take q T) = rw length-take (omega (arith, has-rows U S (flip qual) (laws .trims) T q g)) in
-      row-tells S U qual (laws .fields) k c F p T (take q T) q (x .row) f (begins-take U S (flip qual) (laws .trims) q T t) e (x .stands) m (rw r (x .fits)) (omega (arith, h (x .row) (x .level))) n s
+      row-tells S U qual (laws .fields) k c F p T (take q T) q (x .row) f (begins-take U S (flip qual) (laws .trims) q q T t (omega arith)) e (x .stands) m (rw r (x .fits)) (omega (arith, h (x .row) (x .level))) n s
 
   -- with nothing read of either table two rows that qualify tell
   seed-tells : (k : ℕ) (F : List A) (T : List B) → S .Legal F → S .ended F 0 ≡ false → U .ended T 0 ≡ false → 1 ≤ k → Sure S U qual k F 0 T 0 → ⊥
