@@ -1,7 +1,8 @@
 -- The words that the laws of lists are put in. Definitions only. Assumes nothing.
 use Prim.Native.Nat.{ℕ, zero, suc, _+_, _≤_}
 use mathlib.Core.Bool.{Bool, true, false}
-use mathlib.Core.List.{List, [], _∷_}
+use mathlib.Core.Path.{_≡_}
+use mathlib.Core.List.{List, [], _∷_, List·Memᴰ}
 
 -- 1 for a test that passed
 abbrev pub one : Bool → ℕ
@@ -22,3 +23,19 @@ All P (x ∷ l) = P x × All P l
 abbrev pub Falls : List ℕ → Type 0
 Falls [] = Unit {0}
 Falls (x ∷ l) = All (λ y. y ≤ x) l × Falls l
+
+-- a strict order in which any two differ or are ranked
+pub record Strict {A : Type 0} (ahead : A → A → Bool) : Type 0 where
+  pub trans : (x y z : A) → ahead x y ≡ true → ahead y z ≡ true → ahead x z ≡ true
+  pub asym : (x y : A) → ahead x y ≡ true → ahead y x ≡ false
+  pub tri : (x y : A) → ahead x y ≡ false → ahead y x ≡ false → x ≡ y
+
+-- nothing stands ahead of something before it; equals may stand side by side
+abbrev pub Ordered : {A : Type 0} → (A → A → Bool) → List A → Type 0
+Ordered ahead [] = Unit {0}
+Ordered ahead (x ∷ l) = All (λ y. ahead y x ≡ false) l × Ordered ahead l
+
+-- no element stands in the list twice
+abbrev pub Distinct : {A : Type 0} → List A → Type 0
+Distinct [] = Unit {0}
+Distinct (x ∷ l) = (List·Memᴰ x l → ⊥) × Distinct l
