@@ -1,6 +1,6 @@
 -- What lies outside a reading is no higher than the ceiling, and the ceiling never rises. Assumes the laws of the two tables.
 use mathlib.Core.Path.{_≡_, refl, sym, ap, _∙_}
-use mathlib.Core.Bool.{Bool, true, false, cond, _&&_, true≢false}
+use mathlib.Core.Bool.{Bool, true, false, cond, _&&_}
 use mathlib.Core.List.{List}
 use mathlib.Core.Logic.{_⊎_, inl, inr}
 use Prim.Native.Nat.{ℕ, zero, suc, _+_, _-_, _≤_, _<_, max}
@@ -10,11 +10,8 @@ use lib.Dec.{leb}
 use lib.ListN.{length, take, getD}
 use lib.Seq.{getD-take}
 use borrow.Author.Tests.{leb-true, leb-false}
+use Rattle.lists.specs.Bools.{clash, fails}
 use Rattle.join.specs.Join.{Side, SideLaws, Laws, Begins, rowAt, weightAt, first, last, ceiling, flip}
-
--- a test does not both pass and fail
-pub clash {ℓ} : {C : Type ℓ} {b : Bool} → b ≡ true → b ≡ false → C
-clash e f = absurd (true≢false (sym e ∙ f))
 
 -- the same laws, the tables in the other order
 pub swap-laws : {A B : Type 0} {S : Side A} {U : Side B} {qual : A → B → Bool} → Laws S U qual → Laws U S (flip qual)
@@ -42,11 +39,7 @@ module _ {A B : Type 0} (S : Side A) (U : Side B) (qual : A → B → Bool) (law
       omega arith
 
   pub ended-less : (l : List A) (n m : ℕ) → n ≤ m → S .ended l m ≡ false → S .ended l n ≡ false
-  ended-less l n m h e = go (S .ended l n) refl
-    where
-      go : (t : Bool) → S .ended l n ≡ t → S .ended l n ≡ false
-      go true f = clash (laws .ended-more l n m h f) e
-      go false f = f
+  ended-less l n m h e = fails (S .ended l n) (λ f. clash (laws .ended-more l n m h f) e)
 
 module _ {A B : Type 0} (S : Side A) (U : Side B) where
   pub ceiling-swap : (F : List A) (p : ℕ) (T : List B) (q : ℕ) → ceiling U S T q F p ≡ ceiling S U F p T q

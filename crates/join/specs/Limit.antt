@@ -11,9 +11,10 @@ use lib.Seq.{take-take}
 use borrow.Author.Tests.{leb-true, leb-false}
 use Rattle.lists.specs.Lists.{atLeast}
 use Rattle.lists.specs.Counts.{count-falls}
+use Rattle.lists.specs.Bools.{clash}
 use Rattle.join.specs.Join.{Side, Laws, Chosen, dropAt, rowAt, weightAt, first, last, ceiling, sumsOf, region, Sure, flip}
 use Rattle.join.specs.Regions.{region-grows, count-cut, count-swap}
-use Rattle.join.specs.Ceiling.{clash, swap-laws, ceiling-half, ceiling-le, ceiling-swap, ceiling-falls, half-falls, beyond-low}
+use Rattle.join.specs.Ceiling.{swap-laws, ceiling-half, ceiling-le, ceiling-swap, ceiling-falls, half-falls, beyond-low}
 use Rattle.join.specs.Sure.{begins-take, sure-cases, sure-is, sure-swap}
 
 module _ {A B : Type 0} (S : Side A) (U : Side B) (qual : A → B → Bool) (laws : Laws S U qual) (F : List A) (T : List B) (f : S .Legal F) (t : U .Legal T) where

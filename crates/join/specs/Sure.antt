@@ -11,17 +11,10 @@ use lib.Seq.{getD-take, take-take, take-all, take-append-le}
 use borrow.Author.Tests.{leb-true, leb-false, ltb-true, ltb-false, le-leb}
 use Rattle.lists.specs.Lists.{each, atLeast, best}
 use Rattle.lists.specs.Counts.{count-none, count-falls, count-best, best-ext}
+use Rattle.lists.specs.Bools.{clash, fails, both-true, one-true}
 use Rattle.join.specs.Join.{Side, SideLaws, Laws, Partner, Begins, rowAt, weightAt, first, last, ceiling, sumsOf, region, Sure, sureTest, flip}
 use Rattle.join.specs.Regions.{region-part, count-cut, count-more, count-swap, count-region}
-use Rattle.join.specs.Ceiling.{clash, swap-laws, ended-not, ceiling-half, ceiling-cases, ceiling-swap, outside-low}
-
-both-true : (a b : Bool) → (a && b) ≡ true → (a ≡ true) × (b ≡ true)
-both-true true b e = (refl, e)
-both-true false b e = clash e refl
-
-one-true : (a b : Bool) → (a || b) ≡ true → (a ≡ true) ⊎ (b ≡ true)
-one-true true b e = inl refl
-one-true false b e = inr e
+use Rattle.join.specs.Ceiling.{swap-laws, ended-not, ceiling-half, ceiling-cases, ceiling-swap, outside-low}
 
 -- the test's four grounds
 pub sure-cases : {A B : Type 0} (S : Side A) (U : Side B) (qual : A → B → Bool) (k : ℕ) (F : List A) (p : ℕ) (T : List B) (q : ℕ) → sureTest S U qual k F p T q ≡ true
@@ -87,11 +80,7 @@ module _ {A B : Type 0} (S : Side A) (U : Side B) (qual : A → B → Bool) (law
 
   -- and is not ended before it is read
   unread : (l : List A) → S .empty l 0 ≡ false → S .ended l 0 ≡ false
-  unread l e = go (S .ended l 0) refl
-    where
-      go : (t : Bool) → S .ended l 0 ≡ t → S .ended l 0 ≡ false
-      go true h = clash (laws .ended-zero l h) e
-      go false h = h
+  unread l e = fails (S .ended l 0) (λ h. clash (laws .ended-zero l h) e)
 
   -- a row that may follow, and makes a pair more at c while fewer than k are there
   row-tells : (k c : ℕ) (F : List A) (p : ℕ) (T T′ : List B) (q : ℕ) (x : A) → S .Legal F → Begins U q T T′ → S .ended F p ≡ false → S .Legal (take p F ++ x ∷ []) → 1 ≤ length T′ → qual x (rowAt U T′ 0) ≡ true → c ≤ S .weight x + first U T′ → atLeast c (sumsOf S U qual (take p F) T′) < k → Sure S U qual k F p T q → ⊥
@@ -142,8 +131,10 @@ module _ {A B : Type 0} (S : Side A) (U : Side B) (qual : A → B → Bool) (law
   -- fact 3: the test is what a sure reading is
   pub sure-is : (p q : ℕ) → Sure S U qual k F p T q ↔ (sureTest S U qual k F p T q ≡ true)
   unfolding sureTest
-  sure-is p q = (λ s. go (S .empty F p) (U .empty T q) (S .ended F p && U .ended T q) (leb 1 p && (leb 1 q && leb k r)) (λ e g b d. not-sure p q e g b (λ hp hq. leb-false k r (rw (le-leb 1 p hp, le-leb 1 q hq) at d)) s),
-      λ e. ⊎-elim (sure-empty S U qual k F p T q laws f) (⊎-elim (λ h. sure-swap U S (flip qual) k T q F p (sure-empty U S (flip qual) k T q F p (swap-laws laws) t h)) (⊎-elim (λ h. sure-ended S U qual k F p T q laws f t (h .0) (h .1)) (λ h. sure-covered S U qual k F p T q laws f t (h .0) (h .1) (h .2)))) (sure-cases S U qual k F p T q e))
+  sure-is p q = (
+    λ s. go (S .empty F p) (U .empty T q) (S .ended F p && U .ended T q) (leb 1 p && (leb 1 q && leb k r)) (λ e g b d. not-sure p q e g b (λ hp hq. leb-false k r (rw (le-leb 1 p hp, le-leb 1 q hq) at d)) s),
+    λ e. ⊎-elim (sure-empty S U qual k F p T q laws f) (⊎-elim (λ h. sure-swap U S (flip qual) k T q F p (sure-empty U S (flip qual) k T q F p (swap-laws laws) t h)) (⊎-elim (λ h. sure-ended S U qual k F p T q laws f t (h .0) (h .1)) (λ h. sure-covered S U qual k F p T q laws f t (h .0) (h .1) (h .2)))) (sure-cases S U qual k F p T q e),
+  )
     where
       r : ℕ
       r = region S U qual (ceiling S U F p T q) F p T q

@@ -6,9 +6,10 @@ use Prim.Native.Nat.{ℕ, zero, suc, _+_, _≤_, _<_, min}
 use native.Mathlib.Omega.{arith}
 use lib.Dec.{leb, ltb}
 use lib.ListN.{length, take}
-use borrow.Author.Tests.{leb-true, leb-false, le-leb, lt-leb, ltb-true, ltb-false}
+use borrow.Author.Tests.{leb-true, leb-false, le-leb, lt-leb, ltb-true, ltb-false, lt-ltb, le-ltb}
 use Rattle.lists.specs.Lists.{consIf, keep, each, ins, sort, atLeast, best}
-use Rattle.lists.specs.Words.{one, total, All, Falls}
+use Rattle.lists.specs.Words.{one, total, All, Strict, Ordered}
+use Rattle.lists.specs.Sorts.{sort-ordered, take-ordered}
 
 -- Counts of a list in parts
 
@@ -79,42 +80,15 @@ count-sort ahead c (x ∷ l) = let h = count-sort ahead c l in omega (arith, cou
 abbrev higher : ℕ → ℕ → Bool
 higher x y = ltb y x
 
-ins-all : (ahead : ℕ → ℕ → Bool) (x m : ℕ) (l : List ℕ) → x ≤ m → All (λ y. y ≤ m) l → All (λ y. y ≤ m) (ins ahead x l)
-unfolding ins
-ins-all ahead x m [] p h = (p, tt)
-ins-all ahead x m (y ∷ l) p h = go (ahead y x) (ins-all ahead x m l p (h .1))
-  where
-    go : (t : Bool) → All (λ y. y ≤ m) (ins ahead x l) → All (λ y. y ≤ m) (cond t (y ∷ ins ahead x l) (x ∷ y ∷ l))
-    go true a = (h .0, a)
-    go false a = (p, h)
-
-all-le : (m n : ℕ) (l : List ℕ) → m ≤ n → All (λ y. y ≤ m) l → All (λ y. y ≤ n) l
-all-le m n [] p h = tt
-all-le m n (x ∷ l) p h = (let a : x ≤ m = h .0 in omega arith, all-le m n l p (h .1))
-
-ins-falls : (x : ℕ) (l : List ℕ) → Falls l → Falls (ins higher x l)
-unfolding ins
-ins-falls x [] h = (tt, tt)
-ins-falls x (y ∷ l) h = go (ltb x y) refl (ins-falls x l (h .1))
-  where
-    go : (t : Bool) → ltb x y ≡ t → Falls (ins higher x l) → Falls (cond t (y ∷ ins higher x l) (x ∷ y ∷ l))
-    go true e a = (ins-all higher x y l (omega (arith, ltb-true x y e)) (h .0), a)
-    go false e a = ((ltb-false x y e, all-le y x l (ltb-false x y e) (h .0)), h)
-
-pub sort-falls : (l : List ℕ) → Falls (sort (λ x y. ltb y x) l)
-unfolding sort
-sort-falls [] = tt
-sort-falls (x ∷ l) = ins-falls x (sort higher l) (sort-falls l)
+pub higher-strict : Strict (λ x y. ltb y x)
+higher-strict = record { trans = λ x y z e f. lt-ltb z x (omega (arith, ltb-true y x e, ltb-true z y f)); asym = λ x y e. le-ltb x y (omega (arith, ltb-true y x e)); tri = λ x y e f. omega (arith, ltb-false y x e, ltb-false x y f) }
 
 -- no number of a list below the bar passes it
-count-low : (c m : ℕ) (l : List ℕ) → m < c → All (λ y. y ≤ m) l → atLeast c l ≡ 0
+count-low : (c m : ℕ) (l : List ℕ) → m < c → All (λ y. ltb m y ≡ false) l → atLeast c l ≡ 0
 count-low c m [] p h = count-none c
-count-low c m (x ∷ l) p h =
-    let a = count-low c m l p (h .1) in
-    let b : x ≤ m = h .0 in
-    rw (count-cons c x l, lt-leb c x (omega arith)) (omega arith)
+count-low c m (x ∷ l) p h = rw (count-cons c x l, lt-leb c x (omega (arith, ltb-false m x (h .0)))) (omega (arith, count-low c m l p (h .1)))
 
-pub count-take : (c k : ℕ) (l : List ℕ) → Falls l → atLeast c (take k l) ≡ min k (atLeast c l)
+pub count-take : (c k : ℕ) (l : List ℕ) → Ordered (λ x y. ltb y x) l → atLeast c (take k l) ≡ min k (atLeast c l)
 count-take c zero l h = omega (arith, count-none c)
 count-take c (suc k) [] h = omega (arith, count-none c)
 count-take c (suc k) (x ∷ l) h = rw (count-cons c x l, count-cons c x (take k l), count-take c k l (h .1)) (go (leb c x) refl)
@@ -125,41 +99,31 @@ count-take c (suc k) (x ∷ l) h = rw (count-cons c x l, count-cons c x (take k 
 
 pub count-best : (c k : ℕ) (l : List ℕ) → atLeast c (best k l) ≡ min k (atLeast c l)
 unfolding best
-count-best c k l = count-take c k (sort higher l) (sort-falls l) ∙ ap (min k) (count-sort higher c l)
+count-best c k l = count-take c k (sort higher l) (sort-ordered higher higher-strict l) ∙ ap (min k) (count-sort higher c l)
 
 -- Equal counts, equal lists
-
-take-falls : (k : ℕ) (l : List ℕ) → Falls l → Falls (take k l)
-take-falls zero l h = tt
-take-falls (suc k) [] h = tt
-take-falls (suc k) (x ∷ l) h = (take-all k l (h .0), take-falls k l (h .1))
-  where
-    take-all : (k : ℕ) (l : List ℕ) → All (λ y. y ≤ x) l → All (λ y. y ≤ x) (take k l)
-    take-all zero l h = tt
-    take-all (suc k) [] h = tt
-    take-all (suc k) (y ∷ l) h = (h .0, take-all k l (h .1))
 
 -- the first number passes its own bar
 count-first : (x : ℕ) (l : List ℕ) → 1 ≤ atLeast x (x ∷ l)
 count-first x l = rw (count-cons x x l, le-leb x x (omega arith)) (omega arith)
 
-first-le : (x y : ℕ) (l m : List ℕ) → Falls (y ∷ m) → atLeast x (x ∷ l) ≡ atLeast x (y ∷ m) → x ≤ y
+first-le : (x y : ℕ) (l m : List ℕ) → Ordered higher (y ∷ m) → atLeast x (x ∷ l) ≡ atLeast x (y ∷ m) → x ≤ y
 first-le x y l m h e = go (leb x y) refl
   where
     go : (t : Bool) → leb x y ≡ t → x ≤ y
     go true f = leb-true x y f
-    go false f = absurd (omega (arith, count-first x l, count-low x y (y ∷ m) (leb-false x y f) (omega arith, h .0)))
+    go false f = absurd (omega (arith, count-first x l, count-low x y (y ∷ m) (leb-false x y f) (le-ltb y y (omega arith), h .0)))
 
-falls-ext : (l m : List ℕ) → Falls l → Falls m → ((c : ℕ) → atLeast c l ≡ atLeast c m) → l ≡ m
-falls-ext [] [] p q h = refl
-falls-ext [] (y ∷ m) p q h = absurd (omega (arith, h y, count-none y, count-first y m))
-falls-ext (x ∷ l) [] p q h = absurd (omega (arith, h x, count-none x, count-first x l))
-falls-ext (x ∷ l) (y ∷ m) p q h =
+ordered-ext : (l m : List ℕ) → Ordered higher l → Ordered higher m → ((c : ℕ) → atLeast c l ≡ atLeast c m) → l ≡ m
+ordered-ext [] [] p q h = refl
+ordered-ext [] (y ∷ m) p q h = absurd (omega (arith, h y, count-none y, count-first y m))
+ordered-ext (x ∷ l) [] p q h = absurd (omega (arith, h x, count-none x, count-first x l))
+ordered-ext (x ∷ l) (y ∷ m) p q h =
     let e : x ≡ y = omega (arith, first-le x y l m q (h x), first-le y x m l p (sym (h y))) in
     let r : (c : ℕ) → atLeast c l ≡ atLeast c m = λ c. omega (arith, h c, count-cons c x l, count-cons c y m, ap (λ z. one (leb c z)) e) in
-    rw (e, falls-ext l m (p .1) (q .1) r)
+    rw (e, ordered-ext l m (p .1) (q .1) r)
 
 -- the best k are known by their counts
 pub best-ext : (k : ℕ) (l m : List ℕ) → ((c : ℕ) → min k (atLeast c l) ≡ min k (atLeast c m)) → best k l ≡ best k m
 unfolding best
-best-ext k l m h = falls-ext (best k l) (best k m) (take-falls k (sort higher l) (sort-falls l)) (take-falls k (sort higher m) (sort-falls m)) (λ c. count-best c k l ∙ h c ∙ sym (count-best c k m))
+best-ext k l m h = ordered-ext (best k l) (best k m) (take-ordered higher k (sort higher l) (sort-ordered higher higher-strict l)) (take-ordered higher k (sort higher m) (sort-ordered higher higher-strict m)) (λ c. count-best c k l ∙ h c ∙ sym (count-best c k m))

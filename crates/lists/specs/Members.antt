@@ -113,7 +113,10 @@ module _ {A : Type 0} (ahead : A → A → Bool) (order : Strict ahead) where
       let e : x ≡ y = same-first x y l m r s (h x .0 (List·Memᴰ·head refl)) (h y .1 (List·Memᴰ·head refl)) in
       ap₂ (λ a b. a ∷ b) e (ranked-ext l m (ranked-rest x l r) (ranked-rest y m s) (λ z. (λ k. later z x l y m (ranked-distinct (x ∷ l) r .0) e k (h z .0 (List·Memᴰ·tail k)), λ k. later z y m x l (ranked-distinct (y ∷ m) s .0) (sym e) k (h z .1 (List·Memᴰ·tail k)))))
 
-  -- what the best n leave out: they are n, and each stands ahead of it
+  -- lists without repeats that have the same elements are ranked alike
+  pub sort-ext : (l m : List A) → Distinct l → Distinct m → ((x : A) → List·Memᴰ x l ↔ List·Memᴰ x m) → sort ahead l ≡ sort ahead m
+  sort-ext l m d e h = ranked-ext (sort ahead l) (sort ahead m) (sort-ranked l d) (sort-ranked m e) (λ x. (λ k. mem-sort ahead x m .1 (h x .0 (mem-sort ahead x l .0 k)), λ k. mem-sort ahead x l .1 (h x .1 (mem-sort ahead x m .0 k))))
+
   ordered-out : (n : ℕ) (x : A) (l : List A) → Ordered ahead l → List·Memᴰ x l → (List·Memᴰ x (take n l) → ⊥) → (length (take n l) ≡ n) × ((y : A) → List·Memᴰ y (take n l) → ahead y x ≡ true)
   ordered-out zero x l o m out = (refl, λ y k. absurd (List·Memᴰ·not-nil k))
   ordered-out (suc n) x [] o m out = absurd (List·Memᴰ·not-nil m)
@@ -127,10 +130,7 @@ module _ {A : Type 0} (ahead : A → A → Bool) (order : Strict ahead) where
       ahead-of : ahead z x ≡ true
       ahead-of = apart z x (all-at (λ y. ahead y z ≡ false) x (o .0) within) (λ e. out (List·Memᴰ·head (sym e)))
 
-  -- sorting lists without repeats that have the same elements
-  pub sort-ext : (l m : List A) → Distinct l → Distinct m → ((x : A) → List·Memᴰ x l ↔ List·Memᴰ x m) → sort ahead l ≡ sort ahead m
-  sort-ext l m d e h = ranked-ext (sort ahead l) (sort ahead m) (sort-ranked l d) (sort-ranked m e) (λ x. (λ k. mem-sort ahead x m .1 (h x .0 (mem-sort ahead x l .0 k)), λ k. mem-sort ahead x l .1 (h x .1 (mem-sort ahead x m .0 k))))
-
+  -- what the best n leave out: they are n, and each stands ahead of it
   pub left-out : (n : ℕ) (x : A) (l : List A) → List·Memᴰ x l → (List·Memᴰ x (take n (sort ahead l)) → ⊥) → (length (take n (sort ahead l)) ≡ n) × ((y : A) → List·Memᴰ y (take n (sort ahead l)) → ahead y x ≡ true)
   left-out n x l m out = ordered-out n x (sort ahead l) (sort-ordered ahead order l) (mem-sort ahead x l .1 m) out
 

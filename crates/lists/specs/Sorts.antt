@@ -1,7 +1,7 @@
 -- Laws of ranking a list: in any order of its elements, in parts, and of its front. Assumes a strict order where it says so.
 use mathlib.Core.Path.{_≡_, refl, sym, ap, subst, _∙_}
 use mathlib.Core.Bool.{Bool, true, false, cond, _&&_}
-use mathlib.Core.List.{List, [], _∷_, _++_, append-nil, List·Memᴰ, List·Memᴰ·head, List·Memᴰ·tail}
+use mathlib.Core.List.{List, [], _∷_, _++_, append-nil, List·Memᴰ, List·Memᴰ·head, List·Memᴰ·tail, List·Permᴰ, List·Permᴰ·nil, List·Permᴰ·cons, List·Permᴰ·swap, List·Permᴰ·trans}
 use Prim.Native.Nat.{ℕ, zero, suc, _+_, _≤_}
 use native.Mathlib.Omega.{arith}
 use lib.ListN.{length, take}
@@ -151,6 +151,14 @@ module _ {A : Type 0} (ahead : A → A → Bool) (order : Strict ahead) where
   -- what is not ahead of y is not ahead of what y is not ahead of
   pub not-ahead : (x y z : A) → ahead y x ≡ false → ahead z y ≡ false → ahead z x ≡ false
   not-ahead x y z e f = fails (ahead z x) (λ h. clash (between x y z h f) e)
+
+  -- as all orders of the elements do
+  pub sort-perm : {l m : List A} → List·Permᴰ l m → sort ahead l ≡ sort ahead m
+  unfolding sort
+  sort-perm List·Permᴰ·nil = refl
+  sort-perm (List·Permᴰ·cons {a = a} {l₂ = m} e h) = ap (ins ahead a) (sort-perm h) ∙ ap (λ x. ins ahead x (sort ahead m)) e
+  sort-perm (List·Permᴰ·swap {a = a} {b = b} {a′ = c} {l = l} e f) = ins-swap a b (sort ahead l) ∙ ap (λ x. ins ahead x (ins ahead a (sort ahead l))) f ∙ ap (λ x. ins ahead c (ins ahead x (sort ahead l))) e
+  sort-perm (List·Permᴰ·trans h k) = sort-perm h ∙ sort-perm k
 
   -- putting keeps a list in order
   pub ins-ordered : (x : A) (l : List A) → Ordered ahead l → Ordered ahead (ins ahead x l)

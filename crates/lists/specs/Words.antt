@@ -1,5 +1,5 @@
 -- The words that the laws of lists are put in. Definitions only. Assumes nothing.
-use Prim.Native.Nat.{ℕ, zero, suc, _+_, _≤_}
+use Prim.Native.Nat.{ℕ, _+_}
 use mathlib.Core.Bool.{Bool, true, false}
 use mathlib.Core.Path.{_≡_}
 use mathlib.Core.List.{List, [], _∷_, List·Memᴰ}
@@ -19,12 +19,7 @@ abbrev pub All : {A : Type 0} → (A → Type 0) → List A → Type 0
 All P [] = Unit {0}
 All P (x ∷ l) = P x × All P l
 
--- no number exceeds one before it
-abbrev pub Falls : List ℕ → Type 0
-Falls [] = Unit {0}
-Falls (x ∷ l) = All (λ y. y ≤ x) l × Falls l
-
--- a strict order in which any two differ or are ranked
+-- a strict order: of any two that differ, one stands ahead
 pub record Strict {A : Type 0} (ahead : A → A → Bool) : Type 0 where
   pub trans : (x y z : A) → ahead x y ≡ true → ahead y z ≡ true → ahead x z ≡ true
   pub asym : (x y : A) → ahead x y ≡ true → ahead y x ≡ false
