@@ -3,17 +3,17 @@ use mathlib.Core.Path.{_≡_, refl, sym, ap, _∙_}
 use mathlib.Core.Bool.{Bool, true, false, _&&_}
 use mathlib.Core.List.{List, [], _∷_, _++_, map}
 use mathlib.Core.Logic.{_⊎_, inl, inr}
-use Prim.Native.Nat.{ℕ, zero, suc, _+_, _≤_, _<_, min}
+use Prim.Native.Nat.{ℕ, _+_, _≤_, _<_, min}
 use native.Mathlib.Nat.{add-comm}
 use native.Mathlib.Omega.{arith}
 use lib.Dec.{leb}
-use lib.ListN.{length, take, getD, length-take}
+use lib.ListN.{length, take, length-take}
 use lib.Seq.{getD-take}
-use borrow.Author.Tests.{leb-true, le-leb, lt-leb}
-use Rattle.lists.specs.Lists.{keep, each, atLeast}
+use borrow.Author.Tests.{le-leb, lt-leb}
+use Rattle.lists.specs.Lists.{keep, atLeast}
 use Rattle.lists.specs.Words.{one, total}
 use Rattle.lists.specs.Counts.{count-each, count-map-keep}
-use Rattle.lists.specs.Totals.{total-append, total-le, total-same, total-take, total-grows, total-part, total-swap}
+use Rattle.lists.specs.Totals.{total-append, total-le, total-take, total-grows, total-part, total-swap}
 use Rattle.join.specs.Join.{Side, sumsOf, rowAt, weightAt, first, region, flip}
 
 module _ {A B : Type 0} (S : Side A) (U : Side B) (qual : A → B → Bool) where

@@ -1,12 +1,12 @@
 -- What a sure reading is: fact 3. Assumes the laws of the two tables.
 use mathlib.Core.Path.{_≡_, refl, sym, ap, ap₂, _∙_}
-use mathlib.Core.Bool.{Bool, true, false, cond, _&&_, _||_}
+use mathlib.Core.Bool.{Bool, true, false, _&&_, _||_}
 use mathlib.Core.List.{List, [], _∷_, _++_}
 use mathlib.Core.Logic.{_⊎_, inl, inr, ⊎-elim, _↔_}
-use Prim.Native.Nat.{ℕ, zero, suc, _+_, _-_, _≤_, _<_, min}
+use Prim.Native.Nat.{ℕ, zero, suc, _+_, _≤_, _<_, min}
 use native.Mathlib.Omega.{arith}
 use lib.Dec.{leb, ltb}
-use lib.ListN.{length, take, getD, length-take}
+use lib.ListN.{length, take, length-take}
 use lib.Seq.{getD-take, take-take, take-all, take-append-le}
 use borrow.Author.Tests.{leb-true, leb-false, ltb-true, ltb-false, le-leb}
 use Rattle.lists.specs.Lists.{each, atLeast, best}
@@ -14,7 +14,7 @@ use Rattle.lists.specs.Counts.{count-none, count-falls, count-best, best-ext}
 use Rattle.lists.specs.Bools.{clash, fails, both-true, one-true}
 use Rattle.join.specs.Join.{Side, SideLaws, Laws, Partner, Begins, rowAt, weightAt, first, last, ceiling, sumsOf, region, Sure, sureTest, flip}
 use Rattle.join.specs.Regions.{region-part, count-cut, count-more, count-swap, count-region}
-use Rattle.join.specs.Ceiling.{swap-laws, ended-not, ceiling-half, ceiling-cases, ceiling-swap, outside-low}
+use Rattle.join.specs.Ceiling.{swap-laws, ended-not, ceiling-cases, outside-low}
 
 -- the test's four grounds
 pub sure-cases : {A B : Type 0} (S : Side A) (U : Side B) (qual : A → B → Bool) (k : ℕ) (F : List A) (p : ℕ) (T : List B) (q : ℕ) → sureTest S U qual k F p T q ≡ true

@@ -3,7 +3,7 @@ use mathlib.Core.Path.{_≡_, refl, sym, ap, _∙_}
 use mathlib.Core.List.{List, [], _∷_, _++_}
 use Prim.Native.Nat.{ℕ, zero, suc, _+_, _≤_, _<_}
 use native.Mathlib.Omega.{arith}
-use lib.ListN.{length, take, drop, getD, take-append-drop}
+use lib.ListN.{length, take, getD}
 use Rattle.lists.specs.Words.{total}
 
 module _ {A : Type 0} where
@@ -32,14 +32,6 @@ module _ {A : Type 0} where
       let b = h x in
       omega arith
 
-  pub total-same : (d : A) (f g : A → ℕ) (l : List A) → ((i : ℕ) → i < length l → f (getD l i d) ≡ g (getD l i d)) → total f l ≡ total g l
-  unfolding total
-  total-same d f g [] h = refl
-  total-same d f g (x ∷ l) h =
-      let a = total-same d f g l (λ i k. h (suc i) (omega arith)) in
-      let b : f x ≡ g x = h 0 (omega arith) in
-      omega arith
-
   -- where the terms from place p on are 0, the first p give the total
   pub total-take : (d : A) (f : A → ℕ) (p : ℕ) (l : List A) → ((i : ℕ) → p ≤ i → i < length l → f (getD l i d) ≡ 0) → total f l ≡ total f (take p l)
   unfolding total
@@ -51,7 +43,7 @@ module _ {A : Type 0} where
       omega arith
   total-take d f (suc p) (x ∷ l) h = ap (λ n. f x + n) (total-take d f p l (λ i j k. h (suc i) (omega arith) (omega arith)))
 
-  -- the first rows give no more than all, and fewer no more than more
+  -- more terms, no smaller total
   pub total-grows : (f : A → ℕ) (p q : ℕ) (l : List A) → p ≤ q → total f (take p l) ≤ total f (take q l)
   unfolding total
   total-grows f zero q l h = omega arith
