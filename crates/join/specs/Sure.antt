@@ -145,3 +145,19 @@ module _ {A B : Type 0} (S : Side A) (U : Side B) (qual : A → B → Bool) (law
       go false false true d h = refl
       go false false false true h = refl
       go false false false false h = absurd (h refl refl refl refl)
+
+-- What follows from a sure reading
+
+module _ {A : Type 0} (S : Side A) where
+  -- what begins with more rows begins with fewer
+  begins-less : (n m : ℕ) (l l′ : List A) → n ≤ m → Begins S m l l′ → Begins S n l l′
+  begins-less n m l l′ h b = record { legal = b .legal; rows = sym (take-take n m l h) ∙ ap (take n) (b .rows) ∙ take-take n m l′ h; ends = λ k. b .ends (omega arith) }
+
+module _ {A B : Type 0} (S : Side A) (U : Side B) (qual : A → B → Bool) (k : ℕ) (F : List A) (p : ℕ) (T : List B) (q : ℕ) (s : Sure S U qual k F p T q) where
+  -- a reading that contains a sure one is sure
+  pub sure-grows : (p′ q′ : ℕ) → p ≤ p′ → q ≤ q′ → Sure S U qual k F p′ T q′
+  sure-grows p′ q′ h h′ = record { same = λ F₁ F₂ T₁ T₂ f₁ f₂ t₁ t₂. s .same F₁ F₂ T₁ T₂ (begins-less S p p′ F F₁ h f₁) (begins-less S p p′ F F₂ h f₂) (begins-less U q q′ T T₁ h′ t₁) (begins-less U q q′ T T₂ h′ t₂) }
+
+  -- the k highest sums of the tables are those of the region read
+  pub sure-best : Laws S U qual → S .Legal F → U .Legal T → best k (sumsOf S U qual F T) ≡ best k (sumsOf S U qual (take p F) (take q T))
+  sure-best laws f t = s .same F (take p F) T (take q T) (record { legal = f; rows = refl; ends = λ h. refl }) (begins-take S U qual (laws .fields) p p F f (omega arith)) (record { legal = t; rows = refl; ends = λ h. refl }) (begins-take U S (flip qual) (laws .trims) q q T t (omega arith))
