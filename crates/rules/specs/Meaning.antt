@@ -21,12 +21,12 @@ and-false false = refl
 pub ceiling-trim-read-out : (f t : List ℤ) (s : Session) → trimReadOut s ≡ true → fieldReadOut s ≡ false →
     ceiling f t s ≡ lastScore f (s .depth .field .0) + firstScore t
 unfolding ceiling
-ceiling-trim-read-out f t s h k = rw (h, k) (omega arith)
+ceiling-trim-read-out f t s h k = simp (h, k) (omega arith)
 
 pub ceiling-field-read-out : (f t : List ℤ) (s : Session) → trimReadOut s ≡ false → fieldReadOut s ≡ true →
     ceiling f t s ≡ firstScore f + lastScore t (s .depth .trim .0)
 unfolding ceiling
-ceiling-field-read-out f t s h k = rw (h, k) (omega arith)
+ceiling-field-read-out f t s h k = simp (h, k) (omega arith)
 
 -- ---- the table read next, both having been read and neither to its end
 
