@@ -17,35 +17,41 @@ use Rattle.rules.specs.Numbers.{tableSize, cutFile, badColumn, unless, f
 use Rattle.rules.specs.Calls.{step, openCode, openCall, readCall, takeCall}
 use Rattle.rules.specs.File.{blank, lineFeed, columns, columnFits, columnNumber, endsLine, fileCount, fileTable, checkFile, loadedCode}
 
+abbrev pub wasRead : Answer → Bool
+wasRead (Refused n) = false
+wasRead Opened = false
+wasRead Read = true
+wasRead Settled = false
+wasRead (Given p) = false
+wasRead NotYet = false
+wasRead Finished = false
+
 -- "It .. reads until settled": at most n reads
 unfoldable pub readUntilSettled : ℕ → List ℤ → List ℤ → Session → Session
 readUntilSettled zero f t s = s
 readUntilSettled (suc n) f t s =
     let r = readCall f t s in
-    elim (r .answer) [
-      | Refused c ↦ s
-      | Opened ↦ s
-      | Read ↦ readUntilSettled n f t (r .session)
-      | Settled ↦ s
-      | Given p ↦ s
-      | NotYet ↦ s
-      | Finished ↦ s
-    ]
+    elim (wasRead (r .answer)) [ true ↦ readUntilSettled n f t (r .session) | false ↦ s ]
+
+-- the pair that an answer brings out
+abbrev pub given : Answer → List Pair
+given (Refused n) = []
+given Opened = []
+given Read = []
+given Settled = []
+given (Given p) = p ∷ []
+given NotYet = []
+given Finished = []
+
+abbrev pub wasGiven : Answer → Bool
+wasGiven a = ltb 0 (length (given a))
 
 -- "and takes until finished": the pairs brought out by at most n takes
 unfoldable pub takeUntilFinished : ℕ → List ℤ → List ℤ → Session → List Pair
 takeUntilFinished zero f t s = []
 takeUntilFinished (suc n) f t s =
     let r = takeCall f t s in
-    elim (r .answer) [
-      | Refused c ↦ []
-      | Opened ↦ []
-      | Read ↦ []
-      | Settled ↦ []
-      | Given p ↦ p ∷ takeUntilFinished n f t (r .session)
-      | NotYet ↦ []
-      | Finished ↦ []
-    ]
+    elim (wasGiven (r .answer)) [ true ↦ given (r .answer) ++ takeUntilFinished n f t (r .session) | false ↦ [] ]
 
 -- the record when it is settled; each read reads a row at least, so that the bound is never what ends it
 unfoldable pub settledSession : Query → List ℤ → List ℤ → Session
