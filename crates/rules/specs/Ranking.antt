@@ -6,6 +6,7 @@ use Prim.Native.Nat.{ℕ, _<_, _≤_}
 use native.Mathlib.Omega.{arith}
 use lib.Dec.{T, eqb, ltb}
 use borrow.Author.Tests.{eqb-true, eqb-false, ltb-true, ltb-false, lt-ltb, le-ltb, eq-eqb, ne-eqb}
+use Rattle.lists.specs.Words.{Strict}
 use Rattle.rules.specs.declared.Pair.{Pair}
 use Rattle.rules.specs.Tables.{ahead}
 
@@ -105,3 +106,6 @@ ahead-tri p q h k =
     let t : p .trim ≡ q .trim =
     neither (p .trim) (q .trim) (λ l. refuted p q h (inr (s, inr (g, l)))) (λ l. refuted q p k (inr (sym s, inr (sym g, l)))) in
     λ i. record { sum = s i; field = g i; trim = t i }
+
+pub ahead-strict : Strict ahead
+ahead-strict = record { trans = ahead-trans; asym = ahead-asym; tri = ahead-tri }

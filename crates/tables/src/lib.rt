@@ -1,8 +1,9 @@
-// The checks of a table's rows, document 01's 6 and 7: what the session and file reading share.
+// The rows of a table and their checks, document 01's 6 and 7: what the session and file reading share.
+use rules::Shade;
 ghost use mathlib.Core.Path.{_≡_};
-ghost use Prim.Native.Nat.{_+_, _*_, _≤_, _<_};
+ghost use Prim.Native.Nat.{_+_, _*_, _≤_, _<_, _^_};
 ghost use lib.ListN.{length};
-ghost use Rattle.rules.specs.Tables.{inRange, rowInRange, rowInOrder};
+ghost use Rattle.rules.specs.Tables.{inRange, rowInRange, rowInOrder, row};
 ghost use Rattle.rules.specs.Calls.{rowCode, rowsCode};
 
 // Whether the four numbers of a row keep their ranges.
@@ -32,6 +33,29 @@ fn in_order(t: &[i32], i: usize) -> bool
     }
     let before = i - 1;
     t[4 * i + 1] <= t[4 * before + 1]
+}
+
+// The score of row i + 1; one below 0, which no checked table has, is 0.
+pub fn score(t: &[i32], i: usize) -> u32
+    requires { ⌜ 4 * i + 4 ≤ length (now t) ⌝ }
+    ensures { λ r. ⌜ (r ≡ row (now (t .entry)) i .score) × (r < 2 ^ 31) ⌝ }
+{
+    let x = t[4 * i + 1];
+    if 0 <= x {
+        return x as u32;
+    }
+    0
+}
+
+// The shade of row i + 1.
+pub fn shade(t: &[i32], i: usize) -> Shade
+    requires { ⌜ 4 * i + 4 ≤ length (now t) ⌝ }
+    ensures { λ r. ⌜ r ≡ row (now (t .entry)) i .shade ⌝ }
+{
+    Shade {
+        a: t[4 * i + 2],
+        b: t[4 * i + 3],
+    }
 }
 
 // What row i + 1 of a table is refused by, 6 before 7; 0 where it is not.

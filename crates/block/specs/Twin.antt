@@ -1,0 +1,150 @@
+-- Pair by pair is all at once: the pairs held after a block pair are the best-ranked of those held and the qualifying
+-- pairs met. Assumes nothing.
+use mathlib.Core.Path.{_≡_, refl, sym, ap, _∙_}
+use mathlib.Core.Bool.{Bool, true, false, cond}
+use mathlib.Core.List.{List, [], _∷_, _++_, map, map-append, append-assoc, append-nil}
+use Prim.Native.Nat.{ℕ, zero, suc, _+_, _≤_, min}
+use native.Mathlib.Omega.{arith}
+use native.Mathlib.Nat.{zero-add}
+use native.Mathlib.Numerals.{add-one}
+use lib.ListN.{length, take, length-take}
+use lib.Seq.{take-all}
+use Rattle.lists.specs.Lists.{consIf, keep, each, range, ins, sort, ranked}
+use Rattle.lists.specs.Words.{Ordered}
+use Rattle.lists.specs.Appends.{keep-append, each-append, range-end}
+use Rattle.lists.specs.Sorts as Sorts
+use Rattle.rules.specs.declared.Pair.{Pair}
+use Rattle.rules.specs.Tables.{Block, row, rowCount, qualifies, pairAt, qualifying, ahead}
+use Rattle.rules.specs.Ranking.{ahead-strict}
+use Rattle.held.specs.declared.Held.{Held}
+use Rattle.held.specs.Held.{listOf, heldOf}
+use Rattle.held.specs.Tidy.{list-of-held}
+use Rattle.block.specs.Block.{putIf, metRow, metRows}
+
+-- pairs put one after the other
+unfoldable pub putAll : ℕ → List Pair → List Pair → List Pair
+putAll room l [] = l
+putAll room l (p ∷ m) = putAll room (take room (ins ahead p l)) m
+
+putAll-append : (room : ℕ) (l m n : List Pair) → putAll room l (m ++ n) ≡ putAll room (putAll room l m) n
+unfolding putAll
+putAll-append room l [] n = refl
+putAll-append room l (p ∷ m) n = putAll-append room (take room (ins ahead p l)) m n
+
+-- putting one by one, and keeping `room` of them each time, is ranking all and keeping `room`
+putAll-sort : (room : ℕ) (l m : List Pair) → Ordered ahead l → length l ≤ room → putAll room l m ≡ take room (sort ahead (l ++ m))
+unfolding putAll sort
+putAll-sort room l [] o h =
+    sym (ap (λ (r : List Pair). take room (sort ahead r)) (append-nil l) ∙ ap (take room) (Sorts.ordered-sort ahead l o) ∙ take-all room l h)
+putAll-sort room l (p ∷ m) o h =
+    let next = take room (ins ahead p l) in
+    let sorted : sort ahead (p ∷ l) ≡ ins ahead p l = ap (ins ahead p) (Sorts.ordered-sort ahead l o) in
+    putAll-sort room next m (Sorts.take-ordered ahead room (ins ahead p l) (Sorts.ins-ordered ahead ahead-strict p l o)) (few room (ins ahead p l))
+    ∙ ap (λ (r : List Pair). take room (sort ahead (take room r ++ m))) (sym sorted)
+    ∙ Sorts.take-sort-append ahead ahead-strict room (p ∷ l) m
+    ∙ ap (take room) (moved l m)
+  where
+    few : (n : ℕ) (r : List Pair) → length (take n r) ≤ n
+    few n r = omega (arith, length-take n r)
+
+    moved : (l m : List Pair) → sort ahead ((p ∷ l) ++ m) ≡ sort ahead (l ++ p ∷ m)
+    moved l m =
+        ap (ins ahead p) (Sorts.sort-append-comm ahead ahead-strict l m)
+        ∙ sym (Sorts.sort-append-comm ahead ahead-strict l (p ∷ m))
+
+module _ (radius room : ℕ) (x y : Block) where
+  test : ℕ → ℕ → Bool
+  test i j = qualifies radius (row (x .rows) i .shade) (row (y .rows) j .shade)
+
+  -- the pairs of row i + 1 of x with the first j rows of y
+  pairsOf : ℕ → ℕ → List Pair
+  pairsOf i j = map (pairAt x y i) (keep (test i) (range 0 j))
+
+  put-one : (b : Bool) (i j : ℕ) (l : List Pair) → putIf b room (pairAt x y i j) l ≡ putAll room l (map (pairAt x y i) (consIf b j []))
+  unfolding putAll consIf
+  put-one true i j l = refl
+  put-one false i j l = refl
+
+  pairs-suc : (i j : ℕ) → pairsOf i (suc j) ≡ pairsOf i j ++ map (pairAt x y i) (consIf (test i j) j [])
+  unfolding pairsOf keep
+  pairs-suc i j =
+      ap (λ (r : List ℕ). map (pairAt x y i) (keep (test i) r)) (range-end 0 j ∙ ap (λ (b : ℕ). range 0 j ++ b ∷ []) (zero-add j))
+      ∙ ap (map (pairAt x y i)) (keep-append (test i) (range 0 j) (j ∷ []))
+      ∙ map-append (pairAt x y i) (keep (test i) (range 0 j)) (consIf (test i j) j [])
+
+  row-is : (i : ℕ) (l : List Pair) (j : ℕ) → metRow radius room x y i l j ≡ putAll room l (pairsOf i j)
+  unfolding metRow pairsOf test range keep putAll
+  row-is i l zero = refl
+  row-is i l (suc j) =
+      ap (putIf (test i j) room (pairAt x y i j)) (row-is i l j)
+      ∙ put-one (test i j) i j (putAll room l (pairsOf i j))
+      ∙ sym (putAll-append room l (pairsOf i j) (map (pairAt x y i) (consIf (test i j) j [])))
+      ∙ ap (putAll room l) (sym (pairs-suc i j))
+
+  -- the pairs of the first i rows of x with all rows of y
+  pairsTo : ℕ → List Pair
+  pairsTo i = each (λ a. pairsOf a (rowCount (y .rows))) (range 0 i)
+
+  pairs-to-suc : (i : ℕ) → pairsTo (suc i) ≡ pairsTo i ++ pairsOf i (rowCount (y .rows))
+  unfolding pairsTo each
+  pairs-to-suc i =
+      ap (each (λ a. pairsOf a (rowCount (y .rows)))) (range-end 0 i ∙ ap (λ (b : ℕ). range 0 i ++ b ∷ []) (zero-add i))
+      ∙ each-append (λ a. pairsOf a (rowCount (y .rows))) (range 0 i) (i ∷ [])
+      ∙ ap (λ (r : List Pair). pairsTo i ++ r) (append-nil (pairsOf i (rowCount (y .rows))))
+
+  rows-are : (l : List Pair) (i : ℕ) → metRows radius room x y l i ≡ putAll room l (pairsTo i)
+  unfolding metRows pairsTo range each putAll
+  rows-are l zero = refl
+  rows-are l (suc i) =
+      row-is i (metRows radius room x y l i) (rowCount (y .rows))
+      ∙ ap (λ (r : List Pair). putAll room r (pairsOf i (rowCount (y .rows)))) (rows-are l i)
+      ∙ sym (putAll-append room l (pairsTo i) (pairsOf i (rowCount (y .rows))))
+      ∙ ap (putAll room l) (sym (pairs-to-suc i))
+
+  all-is : pairsTo (rowCount (x .rows)) ≡ qualifying radius x y
+  unfolding pairsTo pairsOf test qualifying
+  all-is = refl
+
+  -- the block join, pair by pair, is the rule's
+  pub met-is : (l : List Pair) → ranked ahead l ≡ true → length l ≤ room →
+      metRows radius room x y l (rowCount (x .rows)) ≡ take room (sort ahead (l ++ qualifying radius x y))
+  met-is l r h =
+      rows-are l (rowCount (x .rows))
+      ∙ ap (putAll room l) all-is
+      ∙ putAll-sort room l (qualifying radius x y) (Sorts.ranked-ordered ahead ahead-strict l r) h
+
+  pub row-few : (i : ℕ) (l : List Pair) (j : ℕ) → length l ≤ room → length (metRow radius room x y i l j) ≤ room
+  unfolding metRow test
+  row-few i l zero h = h
+  row-few i l (suc j) h = go (test i j) (row-few i l j h)
+    where
+      go : (b : Bool) → length (metRow radius room x y i l j) ≤ room → length (putIf b room (pairAt x y i j) (metRow radius room x y i l j)) ≤ room
+      go true k = omega (arith, length-take room (ins ahead (pairAt x y i j) (metRow radius room x y i l j)))
+      go false k = k
+
+  pub rows-few : (l : List Pair) (i : ℕ) → length l ≤ room → length (metRows radius room x y l i) ≤ room
+  unfolding metRows
+  rows-few l zero h = h
+  rows-few l (suc i) h = row-few i (metRows radius room x y l i) (rowCount (y .rows)) (rows-few l i h)
+
+  -- one turn of the inner loop, the pairs held being those of the turns before
+  pub row-joins : (i j : ℕ) (l : List Pair) (g g′ : Held) (p : Pair) →
+      g ≡ heldOf (metRow radius room x y i l j) →
+      qualifies radius (row (x .rows) i .shade) (row (y .rows) j .shade) ≡ true →
+      p ≡ pairAt x y i j →
+      g′ ≡ heldOf (take room (ins ahead p (listOf g))) →
+      g′ ≡ heldOf (metRow radius room x y i l (j + 1))
+  unfolding metRow
+  row-joins i j l g g′ p e q f h =
+      h
+      ∙ ap (λ (r : Held). heldOf (take room (ins ahead p (listOf r)))) e
+      ∙ ap (λ (r : List Pair). heldOf (take room (ins ahead p r))) (list-of-held (metRow radius room x y i l j))
+      ∙ ap (λ (r : Pair). heldOf (take room (ins ahead r (metRow radius room x y i l j)))) f
+      ∙ sym (rw (add-one, q))
+
+  pub row-passes : (i j : ℕ) (l : List Pair) (g : Held) →
+      g ≡ heldOf (metRow radius room x y i l j) →
+      qualifies radius (row (x .rows) i .shade) (row (y .rows) j .shade) ≡ false →
+      g ≡ heldOf (metRow radius room x y i l (j + 1))
+  unfolding metRow
+  row-passes i j l g e q = e ∙ sym (rw (add-one, q))

@@ -1,0 +1,62 @@
+// The block join: the qualifying pairs of a field block and a trim block, each a part of its table, are put among the
+// pairs held.
+use held::Held;
+use rules::Pair;
+ghost use mathlib.Core.Path.{_≡_};
+ghost use Prim.Native.Nat.{_+_, _*_, _≤_, _<_, _/_, _%_};
+ghost use lib.ListN.{length, getD};
+ghost use Rattle.rules.specs.Tables.{Block, row, qualifies, pairAt};
+ghost use Rattle.held.specs.Held.{Tidy, listOf, heldOf};
+ghost use Rattle.block.specs.Block.{at, Rows, metRow, metRows};
+
+// Whether row i + 1 of x and row j + 1 of y lie within the radius.
+fn near(radius: u32, x: &[i32], i: usize, y: &[i32], j: usize) -> bool
+    requires { ⌜ (4 * i + 4 ≤ length (now x)) × (4 * j + 4 ≤ length (now y)) ⌝ }
+    ensures { λ r. ⌜ r ≡ qualifies radius (row (now (x .entry)) i .shade) (row (now (y .entry)) j .shade) ⌝ }
+{
+    let p = tables::shade(x, i);
+    let q = tables::shade(y, j);
+    distance::qualifies(radius, p, q)
+}
+
+// The pair of row i + 1 of x and row j + 1 of y; a and c rows stand before x and y in their tables.
+fn pair_at(x: &[i32], a: usize, i: usize, y: &[i32], c: usize, j: usize) -> Pair
+    requires { ⌜ (4 * i + 4 ≤ length (now x)) × (4 * j + 4 ≤ length (now y)) × (a + i < 65535) × (c + j < 65535) ⌝ }
+    ensures { λ r. ⌜ r ≡ pairAt (at a (now (x .entry))) (at c (now (y .entry))) i j ⌝ }
+{
+    let s = tables::score(x, i);
+    let t = tables::score(y, j);
+    Pair {
+        sum: s + t,
+        field: (a + i + 1) as u32,
+        trim: (c + j + 1) as u32,
+    }
+}
+
+// Row i + 1 of x with every row of y.
+fn join_row(
+    radius: u32,
+    room: usize,
+    x: &[i32],
+    a: usize,
+    i: usize,
+    y: &[i32],
+    c: usize,
+    h: Held,
+) -> Held
+    requires { ⌜ Tidy h room ⌝ }
+    requires { ⌜ Rows a (now x) × Rows c (now y) × (i < length (now x) / 4) ⌝ }
+    ensures { λ r. ⌜ r ≡ heldOf (metRow radius room (at a (now (x .entry))) (at c (now (y .entry))) i (listOf h) (length (now (y .entry)) / 4)) ⌝ }
+{
+    let n = y.len() / 4;
+    let mut g = h;
+    let mut j: usize = 0;
+    while j < n {
+        if near(radius, x, i, y, j) {
+            let p = pair_at(x, a, i, y, c, j);
+            g = held::put(g, room, p);
+        }
+        j += 1;
+    }
+    g
+}
