@@ -148,3 +148,15 @@ module _ (radius room : ℕ) (x y : Block) where
       g ≡ heldOf (metRow radius room x y i l (j + 1))
   unfolding metRow
   row-passes i j l g e q = e ∙ sym (rw (add-one, q))
+
+  -- one turn of the outer loop
+  pub rows-join : (i : ℕ) (l : List Pair) (g g′ : Held) →
+      g ≡ heldOf (metRows radius room x y l i) →
+      g′ ≡ heldOf (metRow radius room x y i (listOf g) (rowCount (y .rows))) →
+      g′ ≡ heldOf (metRows radius room x y l (i + 1))
+  unfolding metRows
+  rows-join i l g g′ e h =
+      h
+      ∙ ap (λ (r : Held). heldOf (metRow radius room x y i (listOf r) (rowCount (y .rows)))) e
+      ∙ ap (λ (r : List Pair). heldOf (metRow radius room x y i r (rowCount (y .rows)))) (list-of-held (metRows radius room x y l i))
+      ∙ sym (rw add-one)

@@ -4,10 +4,13 @@ use held::Held;
 use rules::Pair;
 ghost use mathlib.Core.Path.{_≡_};
 ghost use Prim.Native.Nat.{_+_, _*_, _≤_, _<_, _/_, _%_};
-ghost use lib.ListN.{length, getD};
-ghost use Rattle.rules.specs.Tables.{Block, row, qualifies, pairAt};
+ghost use mathlib.Core.Bool.{true};
+ghost use mathlib.Core.List.{_++_};
+ghost use lib.ListN.{length, take};
+ghost use Rattle.lists.specs.Lists.{sort, ranked};
+ghost use Rattle.rules.specs.Tables.{row, qualifies, pairAt, qualifying, ahead};
 ghost use Rattle.held.specs.Held.{Tidy, listOf, heldOf};
-ghost use Rattle.block.specs.Block.{at, Rows, metRow, metRows};
+ghost use Rattle.block.specs.Block.{at, Rows, metRow};
 
 // Whether row i + 1 of x and row j + 1 of y lie within the radius.
 fn near(radius: u32, x: &[i32], i: usize, y: &[i32], j: usize) -> bool
@@ -57,6 +60,22 @@ fn join_row(
             g = held::put(g, room, p);
         }
         j += 1;
+    }
+    g
+}
+
+// The block join: of the pairs held and the qualifying pairs of x and y the best-ranked, at most room.
+pub fn join(radius: u32, room: usize, x: &[i32], a: usize, y: &[i32], c: usize, h: Held) -> Held
+    requires { ⌜ Tidy h room × (ranked ahead (listOf h) ≡ true) ⌝ }
+    requires { ⌜ Rows a (now x) × Rows c (now y) ⌝ }
+    ensures { λ r. ⌜ r ≡ heldOf (take room (sort ahead (listOf h ++ qualifying radius (at a (now (x .entry))) (at c (now (y .entry)))))) ⌝ }
+{
+    let m = x.len() / 4;
+    let mut g = h;
+    let mut i: usize = 0;
+    while i < m {
+        g = join_row(radius, room, x, a, i, y, c, g);
+        i += 1;
     }
     g
 }
