@@ -1,2 +1,4 @@
+pub mod Bools
+pub mod Record
 pub mod Read
 pub mod Until

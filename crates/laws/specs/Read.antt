@@ -14,31 +14,10 @@ use Rattle.rules.specs.declared.Session.{Session}
 use Rattle.rules.specs.declared.Pair.{Pair}
 use Rattle.lists.specs.Lists.{every, ranked}
 use Rattle.rules.specs.Tables.{Block, qualifying, ahead}
+use Rattle.laws.specs.Bools.{or-left, or-right}
+use Rattle.laws.specs.Record.{Fits}
 use Rattle.rules.specs.Session.{fieldReadOut, trimReadOut, bothReadOut, aTableIsEmpty, heldPairs, secured, settled}
 use Rattle.rules.specs.Read.{blockCount, fieldNext, scoreDrop, oldDepth, newDepth, bestHeld, holding, meet, skipped, meetBlocks, readTo, readTable, readBlock}
-use Rattle.rules.specs.Calls.{between, queryCode, countsFit, pairFits, markFits, isZeros, recordFits, recordCode, lentCode, sameSizeCode, rowsCode, callCode}
-use Rattle.rules.specs.Numbers.{first, unless, listLength, blockSize, radiusRange, badRecord}
-
--- ---- Bool
-
-pub of-true : {b : Bool} → b ≡ true → T b
-of-true e = subst T (sym e) tt
-
-pub and-left : (a b : Bool) → a && b ≡ true → a ≡ true
-and-left true b h = refl
-and-left false b h = h
-
-pub and-right : (a b : Bool) → a && b ≡ true → b ≡ true
-and-right true b h = h
-and-right false b h = absurd (of-true h)
-
-pub or-left : (a b : Bool) → a || b ≡ false → a ≡ false
-or-left true b h = h
-or-left false b h = refl
-
-pub or-right : (a b : Bool) → a || b ≡ false → b ≡ false
-or-right true b h = absurd (of-true (sym h))
-or-right false b h = h
 
 -- ---- A met block changes the pairs held and the joined count, and nothing else
 
@@ -103,19 +82,6 @@ chosen-unread f t s h k =
 
 -- ---- A read raises a depth
 
--- what 5 says of a table's counts
-pub record CountsFit (rows depth : ℕ) : Type 0 where
-  pub few : rows ≤ 65535
-  pub within : depth ≤ rows
-
-counts-fit : (block rows depth : ℕ) → countsFit block rows depth ≡ true → CountsFit rows depth
-unfolding countsFit
-counts-fit block rows depth h =
-    record {
-      few = leb-true rows 65535 (and-left (leb rows 65535) _ h);
-      within = leb-true depth rows (and-left (leb depth rows) _ (and-right (leb rows 65535) _ h));
-    }
-
 -- the rows that are not read yet
 abbrev pub unreadRows : Session → ℕ
 unreadRows s = (s .rows .field .0 - s .depth .field .0) + (s .rows .trim .0 - s .depth .trim .0)
@@ -135,90 +101,12 @@ raised false s r kept b m n h =
     let d = deeper (s .query .block) (s .rows .trim .0) (s .depth .trim .0) b n h in
     rw (kept .rows, kept .depth) (omega arith)
 
-first-none : (c d : ℕ) → eqb (first c d) 0 ≡ true → (eqb c 0 ≡ true) × (eqb d 0 ≡ true)
-first-none c d h = go (eqb c 0) refl h
-  where
-    go : (b : Bool) → eqb c 0 ≡ b → eqb (cond b d c) 0 ≡ true → (eqb c 0 ≡ true) × (eqb d 0 ≡ true)
-    go true e k = (e, k)
-    go false e k = absurd (of-true {b = false} (sym e ∙ k))
-
-unless-passed : (b : Bool) (n : ℕ) → eqb n 0 ≡ false → eqb (unless b n) 0 ≡ true → b ≡ true
-unless-passed true n h k = refl
-unless-passed false n h k = absurd (of-true {b = false} (sym h ∙ k))
-
--- the grounds of 5 that stand after "out plus held exceeds k"
-restFits : Session → Bool
-restFits s =
-    every (pairFits s) (heldPairs s)
-    && (ranked ahead (heldPairs s)
-    && (markFits s
-    && (every isZeros (drop (s .held) (s .pairs))
-    && leb (s .joined)
-    (blockCount (s .query .block) (s .depth .field .0) * blockCount (s .query .block) (s .depth .trim .0)))))
-
--- the grounds of 5, one by one
-pub record Grounds (s : Session) : Type 0 where
-  pub query : eqb (queryCode (s .query)) 0 ≡ true
-  pub field : countsFit (s .query .block) (s .rows .field .0) (s .depth .field .0) ≡ true
-  pub trim : countsFit (s .query .block) (s .rows .trim .0) (s .depth .trim .0) ≡ true
-  pub room : leb (s .out + s .held) (s .query .k) ≡ true
-
-pub grounds : (s : Session) → recordFits s ≡ true → Grounds s
-unfolding recordFits restFits
-grounds s h =
-    let a = eqb (queryCode (s .query)) 0 in
-    let b = countsFit (s .query .block) (s .rows .field .0) (s .depth .field .0) in
-    let c = countsFit (s .query .block) (s .rows .trim .0) (s .depth .trim .0) in
-    let d = leb (s .out + s .held) (s .query .k) in
-    let after-a = and-right a (b && (c && (d && restFits s))) h in
-    let after-b = and-right b (c && (d && restFits s)) after-a in
-    let after-c = and-right c (d && restFits s) after-b in
-    record {
-      query = and-left a (b && (c && (d && restFits s))) h;
-      field = and-left b (c && (d && restFits s)) after-a;
-      trim = and-left c (d && restFits s) after-b;
-      room = and-left d (restFits s) after-c;
-    }
-
--- what a record that is not refused by 5 keeps
-pub record Fits (s : Session) : Type 0 where
-  pub block : 1 ≤ s .query .block
-  pub field : CountsFit (s .rows .field .0) (s .depth .field .0)
-  pub trim : CountsFit (s .rows .trim .0) (s .depth .trim .0)
-  pub room : s .out + s .held ≤ s .query .k
-
-block-fits : (q : Query) → eqb (queryCode q) 0 ≡ true → 1 ≤ q .block
-unfolding queryCode
-block-fits q h =
-    let a = unless (between 1 64 (q .k)) listLength in
-    let b = unless (between 1 1024 (q .block)) blockSize in
-    let c = unless (leb (q .radius) 40000) radiusRange in
-    let k = unless-passed (between 1 1024 (q .block)) blockSize refl (first-none b c (first-none a (first b c) h .1) .0) in
-    leb-true 1 (q .block) (and-left (leb 1 (q .block)) (leb (q .block) 1024) k)
-
-pub record-fits : (s : Session) → recordFits s ≡ true → Fits s
-record-fits s h =
-    let g = grounds s h in
-    record {
-      block = block-fits (s .query) (g .query);
-      field = counts-fit (s .query .block) (s .rows .field .0) (s .depth .field .0) (g .field);
-      trim = counts-fit (s .query .block) (s .rows .trim .0) (s .depth .trim .0) (g .trim);
-      room = leb-true (s .out + s .held) (s .query .k) (g .room);
-    }
-
--- the calls' checks begin with 5
-pub call-fits : (f t : List ℤ) (s : Session) → eqb (callCode f t s) 0 ≡ true → recordFits s ≡ true
-unfolding callCode lentCode recordCode
-call-fits f t s h =
-    unless-passed (recordFits s) badRecord refl
-    (first-none (recordCode s) _ (first-none (lentCode f t s) _ h .0) .0)
-
 -- an unsettled read raises a depth
 pub read-raises : (f t : List ℤ) (s : Session) → Fits s → settled f t s ≡ false → unreadRows (readBlock f t s) < unreadRows s
 unfolding settled readTable
 read-raises f t s fits h =
     let rest = eqb (s .out) (s .query .k) || (eqb (s .out + s .held) (s .query .k) && every (secured f t s) (heldPairs s)) in
-    raised (fieldNext f t s) s _ (blocks-keep _ s _ _ _ _) (fits .block) (fits .field .within) (fits .trim .within)
+    raised (fieldNext f t s) s _ (blocks-keep _ s _ _ _ _) (fits .query .block .0) (fits .field .within) (fits .trim .within)
     (chosen-unread f t s
     (or-left (aTableIsEmpty s) (bothReadOut s || rest) h)
     (or-left (bothReadOut s) rest (or-right (aTableIsEmpty s) (bothReadOut s || rest) h)))

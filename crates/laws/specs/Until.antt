@@ -21,7 +21,9 @@ use Rattle.rules.specs.Read.{readBlock}
 use Rattle.rules.specs.Take.{firstHeld, givesPair, movedOut, finished}
 use Rattle.rules.specs.Calls.{step, openCode, callCode, newBlockCode, openCall, readCall, takeCall}
 use Rattle.rules.specs.Query.{wasRead, given, wasGiven, readUntilSettled, takeUntilFinished, settledSession, list}
-use Rattle.laws.specs.Read.{of-true, and-left, unreadRows, call-fits, record-fits, read-raises, read-keeps-query}
+use Rattle.laws.specs.Bools.{of-true, and-left}
+use Rattle.laws.specs.Record.{call-fits, record-fits}
+use Rattle.laws.specs.Read.{unreadRows, read-raises, read-keeps-query}
 
 -- a read that reads a block was accepted, and not settled
 pub record Reads (f t : List ℤ) (s : Session) : Type 0 where

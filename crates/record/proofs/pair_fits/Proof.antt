@@ -1,0 +1,14 @@
+-- `pair_fits` meets its contract: the tests are the rule's. Assumes nothing.
+use mathlib.Core.Path.{refl}
+use Rattle.record.specs.Grounds.{pairWithin}
+use Rattle.record.proofs.pair_fits.Statement.{statement}
+use Rattle.record.proofs.pair_fits.Tie as tie
+use Rattle.record.proofs.pair_fits.Reads as reads
+use Rattle.record.proofs.pair_fits.Lts as lts
+
+returns : tie.Need-returns
+unfolding pairWithin
+returns c = refl
+
+pub pair-fits-spec : {M : Type 1} → statement M
+pair-fits-spec = tie.close (tie.spec returns)
