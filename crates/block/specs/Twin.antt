@@ -9,7 +9,7 @@ use native.Mathlib.Nat.{zero-add}
 use native.Mathlib.Numerals.{add-one}
 use lib.ListN.{length, take, length-take}
 use lib.Seq.{take-all}
-use Rattle.lists.specs.Lists.{consIf, keep, each, range, ins, sort, ranked}
+use Rattle.lists.specs.Lists.{consIf, keep, each, range, ins, sort}
 use Rattle.lists.specs.Words.{Ordered}
 use Rattle.lists.specs.Appends.{keep-append, each-append, range-end}
 use Rattle.lists.specs.Sorts as Sorts
@@ -106,12 +106,12 @@ module _ (radius room : ℕ) (x y : Block) where
   all-is = refl
 
   -- the block join, pair by pair, is the rule's
-  pub met-is : (l : List Pair) → ranked ahead l ≡ true → length l ≤ room →
+  pub met-is : (l : List Pair) → Ordered ahead l → length l ≤ room →
       metRows radius room x y l (rowCount (x .rows)) ≡ take room (sort ahead (l ++ qualifying radius x y))
   met-is l r h =
       rows-are l (rowCount (x .rows))
       ∙ ap (putAll room l) all-is
-      ∙ putAll-sort room l (qualifying radius x y) (Sorts.ranked-ordered ahead ahead-strict l r) h
+      ∙ putAll-sort room l (qualifying radius x y) r h
 
   pub row-few : (i : ℕ) (l : List Pair) (j : ℕ) → length l ≤ room → length (metRow radius room x y i l j) ≤ room
   unfolding metRow test

@@ -4,10 +4,10 @@ use held::Held;
 use rules::Pair;
 ghost use mathlib.Core.Path.{_≡_};
 ghost use Prim.Native.Nat.{_+_, _*_, _≤_, _<_, _/_, _%_};
-ghost use mathlib.Core.Bool.{true};
 ghost use mathlib.Core.List.{_++_};
 ghost use lib.ListN.{length, take};
-ghost use Rattle.lists.specs.Lists.{sort, ranked};
+ghost use Rattle.lists.specs.Lists.{sort};
+ghost use Rattle.lists.specs.Words.{Ordered};
 ghost use Rattle.rules.specs.Tables.{row, qualifies, pairAt, qualifying, ahead};
 ghost use Rattle.held.specs.Held.{Tidy, listOf, heldOf};
 ghost use Rattle.block.specs.Block.{at, Rows, metRow};
@@ -66,7 +66,7 @@ fn join_row(
 
 // The block join: of the pairs held and the qualifying pairs of x and y the best-ranked, at most room.
 pub fn join(radius: u32, room: usize, x: &[i32], a: usize, y: &[i32], c: usize, h: Held) -> Held
-    requires { ⌜ Tidy h room × (ranked ahead (listOf h) ≡ true) ⌝ }
+    requires { ⌜ Tidy h room × Ordered ahead (listOf h) ⌝ }
     requires { ⌜ Rows a (now x) × Rows c (now y) ⌝ }
     ensures { λ r. ⌜ r ≡ heldOf (take room (sort ahead (listOf h ++ qualifying radius (at a (now (x .entry))) (at c (now (y .entry)))))) ⌝ }
 {

@@ -1,4 +1,5 @@
 pub mod Bools
 pub mod Record
+pub mod Sizes
 pub mod Read
 pub mod Until

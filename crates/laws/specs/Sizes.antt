@@ -1,0 +1,50 @@
+-- What a slice that is not refused by 4 keeps. Assumes nothing.
+use mathlib.Core.Path.{_≡_, refl}
+use mathlib.Core.Bool.{true}
+use mathlib.Core.List.{List}
+use Prim.Native.Nat.{ℕ, _*_, _≤_, _%_}
+use native.Mathlib.Omega.{arith}
+use lib.Dec.{eqb, leb}
+use lib.IntN.{ℤ}
+use lib.ListN.{length}
+use borrow.Author.Tests.{eqb-true, leb-true}
+use Rattle.rules.specs.declared.Query.{Query}
+use Rattle.rules.specs.Tables.{sizeFits, rowCount}
+use Rattle.rules.specs.Numbers.{first, tableSize}
+use Rattle.rules.specs.Calls.{queryCode, sizeCode, sameSizeCode, openCode}
+use Rattle.laws.specs.Bools.{and-left, and-right, first-none, unless-passed}
+
+pub record Sized (t : List ℤ) : Type 0 where
+  pub few : rowCount t ≤ 65535
+  pub whole : 4 * rowCount t ≡ length t
+
+pub sized : (t : List ℤ) → sizeFits t ≡ true → Sized t
+unfolding sizeFits
+sized t h =
+    let r : length t % 4 ≡ 0 = eqb-true (length t % 4) 0 (and-left (eqb (length t % 4) 0) (leb (rowCount t) 65535) h) in
+    record {
+      few = leb-true (rowCount t) 65535 (and-right (eqb (length t % 4) 0) (leb (rowCount t) 65535) h);
+      whole = omega arith;
+    }
+
+-- an opening that is not refused
+pub open-sized : (q : Query) (f t : List ℤ) → eqb (openCode q f t) 0 ≡ true → Sized f × Sized t
+unfolding openCode sizeCode
+open-sized q f t h =
+    let sizes = first-none (queryCode q) (first (sizeCode f) (sizeCode t)) h .1 in
+    let both = first-none (sizeCode f) (sizeCode t) sizes in
+    (sized f (unless-passed (sizeFits f) tableSize refl (both .0)), sized t (unless-passed (sizeFits t) tableSize refl (both .1)))
+
+-- a slice of the row count at opening
+pub record SameSize (rows : ℕ) (t : List ℤ) : Type 0 where
+  pub size : Sized t
+  pub count : rowCount t ≡ rows
+
+pub same-size : (rows : ℕ) (t : List ℤ) → eqb (sameSizeCode rows t) 0 ≡ true → SameSize rows t
+unfolding sameSizeCode
+same-size rows t h =
+    let k = unless-passed _ tableSize refl h in
+    record {
+      size = sized t (and-left (sizeFits t) (eqb (rowCount t) rows) k);
+      count = eqb-true (rowCount t) rows (and-right (sizeFits t) (eqb (rowCount t) rows) k);
+    }

@@ -1,0 +1,14 @@
+-- `fresh` meets its contract: the record is the rule's. Assumes nothing.
+use mathlib.Core.Path.{refl}
+use Rattle.rules.specs.Session.{opened, places}
+use Rattle.session.proofs.fresh.Statement.{statement}
+use Rattle.session.proofs.fresh.Tie as tie
+use Rattle.session.proofs.fresh.Reads as reads
+use Rattle.session.proofs.fresh.Lts as lts
+
+returns : tie.Need-returns
+unfolding opened places
+returns c = refl
+
+pub fresh-spec : {M : Type 1} → statement M
+fresh-spec = tie.close (tie.spec returns)
