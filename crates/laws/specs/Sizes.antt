@@ -1,4 +1,4 @@
--- What a slice that is not refused by 4 keeps. Assumes nothing.
+-- What a slice that is not refused by 4 keeps, and what the calls know once 5 and 4 have passed. Assumes nothing.
 use mathlib.Core.Path.{_≡_, refl}
 use mathlib.Core.Bool.{true}
 use mathlib.Core.List.{List}
@@ -9,9 +9,11 @@ use lib.IntN.{ℤ}
 use lib.ListN.{length}
 use borrow.Author.Tests.{eqb-true, leb-true}
 use Rattle.rules.specs.declared.Query.{Query}
+use Rattle.rules.specs.declared.Session.{Session}
 use Rattle.rules.specs.Tables.{sizeFits, rowCount}
-use Rattle.rules.specs.Numbers.{first, tableSize}
-use Rattle.rules.specs.Calls.{queryCode, sizeCode, sameSizeCode, openCode}
+use Rattle.rules.specs.Numbers.{first, tableSize, badRecord}
+use Rattle.rules.specs.Calls.{queryCode, sizeCode, sameSizeCode, openCode, recordFits, recordCode, lentCode}
+use Rattle.laws.specs.Record.{Fits, record-fits}
 use Rattle.laws.specs.Bools.{and-left, and-right, first-none, unless-passed}
 
 pub record Sized (t : List ℤ) : Type 0 where
@@ -47,4 +49,24 @@ same-size rows t h =
     record {
       size = sized t (and-left (sizeFits t) (eqb (rowCount t) rows) k);
       count = eqb-true (rowCount t) rows (and-right (sizeFits t) (eqb (rowCount t) rows) k);
+    }
+
+-- a record and two slices that are refused neither by 5 nor by 4
+pub record Lent (f t : List ℤ) (s : Session) : Type 0 where
+  pub fits : Fits s
+  pub field : SameSize (s .rows .field .0) f
+  pub trim : SameSize (s .rows .trim .0) t
+
+pub lent : (f t : List ℤ) (s : Session) → eqb (lentCode f t s) 0 ≡ true → Lent f t s
+unfolding lentCode recordCode
+lent f t s h =
+    let a = recordCode s in
+    let b = sameSizeCode (s .rows .field .0) f in
+    let c = sameSizeCode (s .rows .trim .0) t in
+    let after-a = first-none a (first b c) h in
+    let after-b = first-none b c (after-a .1) in
+    record {
+      fits = record-fits s (unless-passed (recordFits s) badRecord refl (after-a .0));
+      field = same-size (s .rows .field .0) f (after-b .0);
+      trim = same-size (s .rows .trim .0) t (after-b .1);
     }

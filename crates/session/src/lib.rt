@@ -11,17 +11,8 @@ use rules::TrimRows;
 ghost use mathlib.Core.Path.{_≡_};
 ghost use Prim.Native.Nat.{_+_, _*_, _-_, _≤_, _<_, _/_, _%_};
 ghost use lib.ListN.{length, take, drop};
-ghost use Rattle.rules.specs.Tables.{sizeFits, rowCount};
 ghost use Rattle.rules.specs.Session.{opened, zeros};
-ghost use Rattle.rules.specs.Read.{scoreDrop};
-ghost use Rattle.rules.specs.Calls.{openCode, openCall, lentCode, callCode};
-
-// Whether a slice has four numbers to a row and at most 65,535 rows.
-fn size_fits(t: &[i32]) -> bool
-    ensures { λ r. ⌜ r ≡ sizeFits (now (t .entry)) ⌝ }
-{
-    (t.len() % 4 == 0) & (t.len() / 4 <= 65535)
-}
+ghost use Rattle.rules.specs.Calls.{openCode, openCall};
 
 // What an opening is refused by: 1, 2, 3, 4; 0 where it is not.
 fn open_code(q: Query, f: &[i32], t: &[i32]) -> u32
@@ -31,10 +22,10 @@ fn open_code(q: Query, f: &[i32], t: &[i32]) -> u32
     if code != 0 {
         return code;
     }
-    if !size_fits(f) {
+    if !checks::size_fits(f) {
         return 4;
     }
-    if !size_fits(t) {
+    if !checks::size_fits(t) {
         return 4;
     }
     0

@@ -1,10 +1,10 @@
 -- `size_fits` meets its contract: the tests are the rule's. Assumes nothing.
 use mathlib.Core.Path.{refl}
 use Rattle.rules.specs.Tables.{sizeFits}
-use Rattle.session.proofs.size_fits.Statement.{statement}
-use Rattle.session.proofs.size_fits.Tie as tie
-use Rattle.session.proofs.size_fits.Reads as reads
-use Rattle.session.proofs.size_fits.Lts as lts
+use Rattle.checks.proofs.size_fits.Statement.{statement}
+use Rattle.checks.proofs.size_fits.Tie as tie
+use Rattle.checks.proofs.size_fits.Reads as reads
+use Rattle.checks.proofs.size_fits.Lts as lts
 
 returns : tie.Need-returns
 unfolding sizeFits
