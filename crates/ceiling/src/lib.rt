@@ -1,0 +1,50 @@
+// The ceiling, and whether a held pair is secured: the threshold of document 01's sessions.
+use rules::Pair;
+use rules::Session;
+ghost use mathlib.Core.Path.{_≡_};
+ghost use mathlib.Core.Bool.{cond};
+ghost use Prim.Native.Nat.{_+_, _*_, _≤_, _<_, max};
+ghost use lib.ListN.{length};
+ghost use Rattle.rules.specs.Session.{ceiling, secured};
+ghost use Rattle.ceiling.specs.Reached.{Reached};
+
+fn pick(t: bool, a: u32, b: u32) -> u32
+    ensures { λ r. ⌜ r ≡ cond t a b ⌝ }
+{
+    if t { a } else { b }
+}
+
+fn higher(a: u32, b: u32) -> u32
+    ensures { λ r. ⌜ r ≡ max a b ⌝ }
+{
+    if a < b { b } else { a }
+}
+
+// The ceiling: the higher of HF + LT, if trim rows are unread, and LF + HT, if field rows are unread.
+pub fn threshold(f: &[i32], t: &[i32], s: Session) -> u32
+    requires { ⌜ Reached (now f) (now t) s ⌝ }
+    ensures { λ r. ⌜ r ≡ ceiling (now (f .entry)) (now (t .entry)) s ⌝ }
+{
+    let d = s.depth.field.0;
+    let e = s.depth.trim.0;
+    let hf = tables::score(f, 0);
+    let lt = tables::score(t, e as usize - 1);
+    let lf = tables::score(f, d as usize - 1);
+    let ht = tables::score(t, 0);
+    let a = pick(e == s.rows.trim.0, 0, hf + lt);
+    let b = pick(d == s.rows.field.0, 0, lf + ht);
+    higher(a, b)
+}
+
+// Whether a held pair is secured.
+pub fn is_secured(f: &[i32], t: &[i32], s: Session, p: Pair) -> bool
+    requires { ⌜ Reached (now f) (now t) s ⌝ }
+    ensures { λ r. ⌜ r ≡ secured (now (f .entry)) (now (t .entry)) s p ⌝ }
+{
+    let d = s.depth.field.0;
+    let e = s.depth.trim.0;
+    if (d == s.rows.field.0) & (e == s.rows.trim.0) {
+        return true;
+    }
+    threshold(f, t, s) <= p.sum
+}
