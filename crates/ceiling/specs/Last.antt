@@ -20,6 +20,8 @@ use Rattle.rules.specs.Tables.{ahead}
 use Rattle.rules.specs.Ranking.{Before, before-ahead}
 use Rattle.rules.specs.Session.{noPair, bothReadOut, aDepthIsZero, aTableIsEmpty, ceiling, secured}
 use Rattle.rules.specs.Read.{lowest}
+use Rattle.laws.specs.Record.{held-reached}
+use Rattle.laws.specs.Sizes.{Lent}
 use Rattle.ceiling.specs.Reached.{Reached}
 
 -- what is not ahead has no higher sum
@@ -103,3 +105,14 @@ reached-secured f t s p r =
     let d : s .depth .field .0 ≡ 0 → ⊥ = omega (arith, r .field-read) in
     let e : s .depth .trim .0 ≡ 0 → ⊥ = omega (arith, r .trim-read) in
     rw (ne-eqb (s .depth .field .0) 0 d, ne-eqb (s .depth .trim .0) 0 e)
+
+-- a record with a pair held, over its tables
+pub held-then-reached : (f t : List ℤ) (s : Session) → Lent f t s → 0 < length (s .pairs) → 0 < s .held → Reached f t s
+held-then-reached f t s l n h =
+    let r = held-reached s (l .fits) n h in
+    record {
+      field-read = r .0;
+      trim-read = r .1;
+      field-rows = omega (arith, l .field .size .whole, l .field .count, l .fits .field .within);
+      trim-rows = omega (arith, l .trim .size .whole, l .trim .count, l .fits .trim .within)
+    }

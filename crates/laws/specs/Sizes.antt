@@ -12,7 +12,7 @@ use Rattle.rules.specs.declared.Query.{Query}
 use Rattle.rules.specs.declared.Session.{Session}
 use Rattle.rules.specs.Tables.{sizeFits, rowCount}
 use Rattle.rules.specs.Numbers.{first, tableSize, badRecord}
-use Rattle.rules.specs.Calls.{queryCode, sizeCode, sameSizeCode, openCode, recordFits, recordCode, lentCode}
+use Rattle.rules.specs.Calls.{queryCode, sizeCode, sameSizeCode, openCode, recordFits, recordCode, lentCode, callCode}
 use Rattle.laws.specs.Record.{Fits, record-fits}
 use Rattle.laws.specs.Bools.{and-left, and-right, first-none, unless-passed}
 
@@ -70,3 +70,8 @@ lent f t s h =
       field = same-size (s .rows .field .0) f (after-b .0);
       trim = same-size (s .rows .trim .0) t (after-b .1);
     }
+
+-- the checks of read and take begin with these
+pub call-lent : (f t : List ℤ) (s : Session) → eqb (callCode f t s) 0 ≡ true → Lent f t s
+unfolding callCode
+call-lent f t s h = lent f t s (first-none (lentCode f t s) _ h .0)

@@ -10,9 +10,12 @@ use rules::Step;
 use rules::TrimRows;
 ghost use mathlib.Core.Path.{_≡_};
 ghost use Prim.Native.Nat.{_+_, _*_, _-_, _≤_, _<_, _/_, _%_};
-ghost use lib.ListN.{length, take, drop};
-ghost use Rattle.rules.specs.Session.{opened, zeros};
-ghost use Rattle.rules.specs.Calls.{openCode, openCall};
+ghost use mathlib.Core.List.{[], _∷_, _++_};
+ghost use lib.ListN.{length, drop};
+ghost use Rattle.rules.specs.Session.{noPair, opened, zeros};
+ghost use Rattle.rules.specs.Take.{givesPair, movedOut, finished};
+ghost use Rattle.laws.specs.Sizes.{Lent};
+ghost use Rattle.rules.specs.Calls.{openCode, openCall, takeCall};
 
 // What an opening is refused by: 1, 2, 3, 4; 0 where it is not.
 fn open_code(q: Query, f: &[i32], t: &[i32]) -> u32
@@ -86,6 +89,93 @@ pub fn start(q: Query, f: &[i32], t: &[i32]) -> Step
     let s = fresh(q, m, n);
     Step {
         answer: Answer::Opened,
+        session: s,
+    }
+}
+
+// All but the first of 64 pair places, and a place of zeros behind them.
+fn without_first(a: [Pair; 64]) -> [Pair; 64]
+    ensures { λ r. ⌜ r ≡ drop 1 a ++ (noPair ∷ []) ⌝ }
+{
+    let mut b = a;
+    let mut j: usize = 0;
+    while j < 63 {
+        let q = b[j + 1];
+        b[j] = q;
+        j += 1;
+    }
+    let z = Pair {
+        sum: 0,
+        field: 0,
+        trim: 0,
+    };
+    b[63] = z;
+    b
+}
+
+// The first held pair moves out.
+fn moved_out(s: Session) -> Session
+    requires { ⌜ (0 < s .held) × (s .out ≤ 64) ⌝ }
+    ensures { λ r. ⌜ r ≡ movedOut s ⌝ }
+{
+    let a = s.pairs;
+    let b = without_first(a);
+    let mut r = s;
+    r.out = s.out + 1;
+    r.held = s.held - 1;
+    r.pairs = b;
+    r
+}
+
+// Whether a take answers the first held pair.
+fn gives_pair(f: &[i32], t: &[i32], s: Session) -> bool
+    requires { ⌜ Lent (now f) (now t) s ⌝ }
+    ensures { λ r. ⌜ r ≡ givesPair (now (f .entry)) (now (t .entry)) s ⌝ }
+{
+    if s.held == 0 {
+        return false;
+    }
+    let p = s.pairs[0];
+    ceiling::is_secured(f, t, s, p)
+}
+
+fn is_finished(s: Session) -> bool
+    ensures { λ r. ⌜ r ≡ finished s ⌝ }
+{
+    let m = s.rows.field.0;
+    let n = s.rows.trim.0;
+    let d = s.depth.field.0;
+    let e = s.depth.trim.0;
+    (s.out == s.query.k) | (((m == 0) | (n == 0)) | (((d == m) & (e == n)) & (s.held == 0)))
+}
+
+// Take: the first held pair, if it is secured; else finished, or not yet.
+pub fn take(f: &[i32], t: &[i32], s: Session) -> Step
+    ensures { λ r. ⌜ r ≡ takeCall (now (f .entry)) (now (t .entry)) s ⌝ }
+{
+    let code = checks::call_code(f, t, s);
+    if code != 0 {
+        return Step {
+            answer: Answer::Refused(code),
+            session: s,
+        };
+    }
+    if gives_pair(f, t, s) {
+        let p = s.pairs[0];
+        let r = moved_out(s);
+        return Step {
+            answer: Answer::Given(p),
+            session: r,
+        };
+    }
+    if is_finished(s) {
+        return Step {
+            answer: Answer::Finished,
+            session: s,
+        };
+    }
+    Step {
+        answer: Answer::NotYet,
         session: s,
     }
 }
