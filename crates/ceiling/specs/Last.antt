@@ -114,5 +114,5 @@ held-then-reached f t s l n h =
       field-read = r .0;
       trim-read = r .1;
       field-rows = omega (arith, l .field .size .whole, l .field .count, l .fits .field .within);
-      trim-rows = omega (arith, l .trim .size .whole, l .trim .count, l .fits .trim .within)
+      trim-rows = omega (arith, l .trim .size .whole, l .trim .count, l .fits .trim .within);
     }

@@ -11,11 +11,13 @@ use rules::TrimRows;
 ghost use mathlib.Core.Path.{_≡_};
 ghost use Prim.Native.Nat.{_+_, _*_, _-_, _≤_, _<_, _/_, _%_};
 ghost use mathlib.Core.List.{[], _∷_, _++_};
-ghost use lib.ListN.{length, drop};
+ghost use denote.Ref.{ptr};
+ghost use lib.ListN.{length, getD, drop};
 ghost use Rattle.rules.specs.Session.{noPair, opened, zeros};
-ghost use Rattle.rules.specs.Take.{givesPair, movedOut, finished};
+ghost use Rattle.rules.specs.Take.{givesPair, movedOut, finished, lastBlock};
+ghost use Rattle.rules.specs.Tables.{part};
 ghost use Rattle.laws.specs.Sizes.{Lent};
-ghost use Rattle.rules.specs.Calls.{openCode, openCall, takeCall};
+ghost use Rattle.rules.specs.Calls.{openCode, openCall, takeCall, showCall, movedOn, showPlace};
 
 // What an opening is refused by: 1, 2, 3, 4; 0 where it is not.
 fn open_code(q: Query, f: &[i32], t: &[i32]) -> u32
@@ -127,6 +129,14 @@ fn moved_out(s: Session) -> Session
     r
 }
 
+// Place i of 64; that there are 64 is what its callers learn of a record's places.
+fn place_at(a: [Pair; 64], i: usize) -> Pair
+    requires { ⌜ i < 64 ⌝ }
+    ensures { λ r. ⌜ (r ≡ getD a i noPair) × (length a ≡ 64) ⌝ }
+{
+    a[i]
+}
+
 // Whether a take answers the first held pair.
 fn gives_pair(f: &[i32], t: &[i32], s: Session) -> bool
     requires { ⌜ Lent (now f) (now t) s ⌝ }
@@ -135,7 +145,8 @@ fn gives_pair(f: &[i32], t: &[i32], s: Session) -> bool
     if s.held == 0 {
         return false;
     }
-    let p = s.pairs[0];
+    let a = s.pairs;
+    let p = place_at(a, 0);
     ceiling::is_secured(f, t, s, p)
 }
 
@@ -178,4 +189,33 @@ pub fn take(f: &[i32], t: &[i32], s: Session) -> Step
         answer: Answer::NotYet,
         session: s,
     }
+}
+
+// The rows of a table from the first to the last of its last block down to a depth.
+fn last_rows<'a>(t: &'a [i32], block: u32, depth: u32) -> &'a [i32]
+    requires { ⌜ (0 < block) × (0 < depth) × (depth ≤ 65535) × (4 * depth ≤ length (now t)) ⌝ }
+    ensures { λ r. ⌜ now r ≡ part (now (t .entry)) (lastBlock block depth) (depth - lastBlock block depth) ⌝ }
+    ensures { λ r. ⌜ ptr r ≡ movedOn (ptr (t .entry)) (4 * lastBlock block depth) ⌝ }
+{
+    let a = 4 * (((depth - 1) / block * block) as usize);
+    let e = 4 * (depth as usize);
+    &t[a..e]
+}
+
+// Show: the rows last read, as a part of the table that they came from; the empty part at the front of the field table
+// where nothing was read or the call is refused by 5 or 4.
+pub fn show<'a>(f: &'a [i32], t: &'a [i32], s: Session) -> &'a [i32]
+    ensures { λ r. ⌜ now r ≡ showCall (now (f .entry)) (now (t .entry)) s ⌝ }
+    ensures { λ r. ⌜ ptr r ≡ showPlace (now (f .entry)) (now (t .entry)) (ptr (f .entry)) (ptr (t .entry)) s ⌝ }
+{
+    if checks::lent_code(f, t, s) != 0 {
+        return &f[..0];
+    }
+    if s.last == 1 {
+        return last_rows(f, s.query.block, s.depth.field.0);
+    }
+    if s.last == 2 {
+        return last_rows(t, s.query.block, s.depth.trim.0);
+    }
+    &f[..0]
 }

@@ -59,22 +59,24 @@ is-finished-requires c κs = search needs
 returns-3 : tie.Need-returns-3
 unfolding takeCall
 returns-3 c =
-    simp
-    (passed (c .before .before .before .before),
-    ← c .before .before .before .gives-pair .ensures,
-    c .before .before .if2 .left,
-    ← c .before .is-finished .ensures,
-    c .if3 .taken)
+    simp (
+      passed (c .before .before .before .before),
+      ← c .before .before .before .gives-pair .ensures,
+      c .before .before .if2 .left,
+      ← c .before .is-finished .ensures,
+      c .if3 .taken,
+    )
 
 returns-4 : tie.Need-returns-4
 unfolding takeCall
 returns-4 c =
-    simp
-    (passed (c .before .before .before .before),
-    ← c .before .before .before .gives-pair .ensures,
-    c .before .before .if2 .left,
-    ← c .before .is-finished .ensures,
-    c .if3 .left)
+    simp (
+      passed (c .before .before .before .before),
+      ← c .before .before .before .gives-pair .ensures,
+      c .before .before .if2 .left,
+      ← c .before .is-finished .ensures,
+      c .if3 .left,
+    )
 
 pub take-spec : {M : Type 1} → statement M
 take-spec =
