@@ -8,19 +8,20 @@ use native.Mathlib.Nat.{not-suc-le-zero}
 use native.Mathlib.Omega.{arith}
 use lib.Dec.{leb}
 use lib.IntN.{ℤ}
-use lib.ListN.{length, getD}
+use lib.ListN.{length, getD, take}
+use lib.Seq.{length-take-le, getD-take}
 use borrow.Author.Tests.{leb-true, leb-false, le-leb, ne-eqb}
 use Rattle.lists.specs.Lists.{every}
 use Rattle.lists.specs.Bools.{clash}
 use Rattle.lists.specs.Words.{All, Ordered}
-use Rattle.lists.specs.Sorts.{all-map}
+use Rattle.lists.specs.Sorts.{all-map, ranked-ordered}
 use Rattle.rules.specs.declared.Pair.{Pair}
 use Rattle.rules.specs.declared.Session.{Session}
 use Rattle.rules.specs.Tables.{ahead}
-use Rattle.rules.specs.Ranking.{Before, before-ahead}
-use Rattle.rules.specs.Session.{noPair, bothReadOut, aDepthIsZero, aTableIsEmpty, ceiling, secured}
+use Rattle.rules.specs.Ranking.{Before, before-ahead, ahead-strict}
+use Rattle.rules.specs.Session.{noPair, heldPairs, bothReadOut, aDepthIsZero, aTableIsEmpty, ceiling, secured}
 use Rattle.rules.specs.Read.{lowest}
-use Rattle.laws.specs.Record.{held-reached}
+use Rattle.laws.specs.Record.{Fits, held-reached}
 use Rattle.laws.specs.Sizes.{Lent}
 use Rattle.ceiling.specs.Reached.{Reached}
 
@@ -116,3 +117,16 @@ held-then-reached f t s l n h =
       field-rows = omega (arith, l .field .size .whole, l .field .count, l .fits .field .within);
       trim-rows = omega (arith, l .trim .size .whole, l .trim .count, l .fits .trim .within);
     }
+
+-- the last of the first n places
+pub last-taken : (a : List Pair) (n : ℕ) → 0 < n → n ≤ length a → lastOf (take n a) ≡ getD a (n - 1) noPair
+last-taken a n h k =
+    ap (λ (i : ℕ). getD (take n a) (i - 1) noPair) (length-take-le n a k) ∙ getD-take n a (n - 1) noPair (omega arith)
+
+-- every held pair is secured where the one in the last held place is
+pub held-secured : (f t : List ℤ) (s : Session) → Fits s → s .held ≤ length (s .pairs) → 0 < s .held →
+    every (secured f t s) (heldPairs s) ≡ secured f t s (getD (s .pairs) (s .held - 1) noPair)
+held-secured f t s fits k h =
+    let some : 0 < length (heldPairs s) = omega (arith, length-take-le (s .held) (s .pairs) k) in
+    all-secured f t s (heldPairs s) some (ranked-ordered ahead ahead-strict (heldPairs s) (fits .rank))
+    ∙ ap (secured f t s) (last-taken (s .pairs) (s .held) h k)

@@ -12,7 +12,7 @@ ghost use mathlib.Core.Path.{_≡_};
 ghost use Prim.Native.Nat.{_+_, _*_, _-_, _≤_, _<_, _/_, _%_};
 ghost use mathlib.Core.List.{[], _∷_, _++_};
 ghost use denote.Ref.{ptr};
-ghost use lib.ListN.{length, getD, drop};
+ghost use lib.ListN.{length, drop};
 ghost use Rattle.rules.specs.Session.{noPair, opened, zeros};
 ghost use Rattle.rules.specs.Take.{givesPair, movedOut, finished, lastBlock};
 ghost use Rattle.rules.specs.Tables.{part};
@@ -129,14 +129,6 @@ fn moved_out(s: Session) -> Session
     r
 }
 
-// Place i of 64; that there are 64 is what its callers learn of a record's places.
-fn place_at(a: [Pair; 64], i: usize) -> Pair
-    requires { ⌜ i < 64 ⌝ }
-    ensures { λ r. ⌜ (r ≡ getD a i noPair) × (length a ≡ 64) ⌝ }
-{
-    a[i]
-}
-
 // Whether a take answers the first held pair.
 fn gives_pair(f: &[i32], t: &[i32], s: Session) -> bool
     requires { ⌜ Lent (now f) (now t) s ⌝ }
@@ -146,7 +138,7 @@ fn gives_pair(f: &[i32], t: &[i32], s: Session) -> bool
         return false;
     }
     let a = s.pairs;
-    let p = place_at(a, 0);
+    let p = held::place_at(a, 0);
     ceiling::is_secured(f, t, s, p)
 }
 

@@ -12,7 +12,7 @@ use Rattle.session.proofs.gives_pair.Tie as tie
 use Rattle.session.proofs.gives_pair.Reads as reads
 use Rattle.session.proofs.gives_pair.Lts as lts
 use Rattle.ceiling.proofs.is_secured.Reads as is-secured-reads
-use Rattle.session.proofs.place_at.Reads as place-at-reads
+use Rattle.held.proofs.place_at.Reads as place-at-reads
 
 returns : tie.Need-returns
 unfolding givesPair
