@@ -1,10 +1,12 @@
--- A record whose held pairs are in order, ready to meet a block pair. Assumes nothing.
+-- A record whose held pairs are in order, ready to meet a block pair. Definitions only. Assumes nothing.
 use Prim.Native.Nat.{ℕ, _+_, _≤_, _<_}
 use mathlib.Core.Path.{_≡_}
+use mathlib.Core.Bool.{Bool, cond}
 use lib.ListN.{length}
 use Rattle.lists.specs.Words.{Ordered}
 use Rattle.rules.specs.declared.Session.{Session}
-use Rattle.rules.specs.Tables.{ahead}
+use Rattle.rules.specs.Tables.{Block, ahead}
+use Rattle.rules.specs.Read.{meet}
 use Rattle.rules.specs.Session.{places, heldPairs}
 use Rattle.laws.specs.Record.{QueryFits}
 
@@ -15,3 +17,7 @@ pub record Ready (s : Session) : Type 0 where
   pub count : length (heldPairs s) ≡ s .held
   pub zeros : s .pairs ≡ places (heldPairs s)
   pub order : Ordered ahead (heldPairs s)
+
+-- a new block and an old one meet, as field and trim; the flag says whether the new block is of the field table
+abbrev pub meetParts : Bool → Session → Block → Block → Session
+meetParts field s new old = meet s (cond field new old) (cond field old new)

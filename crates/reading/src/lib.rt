@@ -6,13 +6,13 @@ use rules::Session;
 use rules::TrimRows;
 ghost use mathlib.Core.Path.{_≡_};
 ghost use mathlib.Core.Bool.{cond};
-ghost use Prim.Native.Nat.{_+_, _*_, _-_, _≤_, _<_, _^_};
+ghost use Prim.Native.Nat.{_+_, _*_, _-_, _≤_, _<_, _^_, min};
 ghost use lib.ListN.{length, take, drop};
 ghost use Rattle.rules.specs.Session.{settled};
-ghost use Rattle.rules.specs.Read.{scoreDrop, fieldNext, skipped, meet};
+ghost use Rattle.rules.specs.Read.{scoreDrop, fieldNext, skipped, meet, rowsBetween, meetBlocks};
 ghost use Rattle.laws.specs.Sizes.{Lent};
 ghost use Rattle.block.specs.Block.{at, Rows};
-ghost use Rattle.reading.specs.Ready.{Ready};
+ghost use Rattle.reading.specs.Ready.{Ready, meetParts};
 
 // How far a table's score has dropped from its first row to the last row read.
 fn drop_of(t: &[i32], depth: u32) -> u32
@@ -79,4 +79,105 @@ pub fn is_settled(f: &[i32], t: &[i32], s: Session) -> bool
     let a = s.pairs;
     let p = held::place_at(a, s.held as usize - 1);
     ceiling::is_secured(f, t, s, p)
+}
+
+// Whether a block pair cannot change the pairs held: k are held or out, and its first scores add to less than the
+// lowest held sum.
+fn is_skipped(s: Session, x: &[i32], a: usize, y: &[i32], c: usize) -> bool
+    requires { ⌜ Ready s × (4 ≤ length (now x)) × (4 ≤ length (now y)) ⌝ }
+    ensures { λ r. ⌜ r ≡ skipped s (at a (now (x .entry))) (at c (now (y .entry))) ⌝ }
+{
+    if s.out + s.held != s.query.k {
+        return false;
+    }
+    let places = s.pairs;
+    let low = held::place_at(places, s.held as usize - 1);
+    let first = tables::score(x, 0);
+    let second = tables::score(y, 0);
+    first + second < low.sum
+}
+
+// One block pair, field and trim, a and c rows standing before them: skipped, or joined and counted.
+fn meet_pair(s: Session, x: &[i32], a: usize, y: &[i32], c: usize) -> Session
+    requires { ⌜ Ready s × (4 ≤ length (now x)) × (4 ≤ length (now y)) × (s .joined < 2 ^ 63) ⌝ }
+    requires { ⌜ Rows a (now x) × Rows c (now y) ⌝ }
+    ensures { λ r. ⌜ r ≡ meet s (at a (now (x .entry))) (at c (now (y .entry))) ⌝ }
+{
+    if is_skipped(s, x, a, y, c) {
+        return s;
+    }
+    let places = s.pairs;
+    let h = Held {
+        n: s.held as usize,
+        pairs: places,
+    };
+    let room = (s.query.k - s.out) as usize;
+    let g = block::join(s.query.radius, room, x, a, y, c, h);
+    let mut r = s;
+    let best = g.pairs;
+    r.held = g.n as u32;
+    r.pairs = best;
+    r.joined = s.joined + 1;
+    r
+}
+
+fn lesser(a: usize, b: usize) -> usize
+    ensures { λ r. ⌜ r ≡ min a b ⌝ }
+{
+    if a <= b { a } else { b }
+}
+
+// Rows a + 1 to e of one table meet rows c + 1 to g of the other; the flag says whether the first are of the field table.
+fn meet_parts(
+    field: bool,
+    s: Session,
+    own: &[i32],
+    a: usize,
+    e: usize,
+    other: &[i32],
+    c: usize,
+    g: usize,
+) -> Session
+    requires { ⌜ Ready s × (s .joined < 2 ^ 63) ⌝ }
+    requires { ⌜ (a < e) × (e ≤ 65535) × (4 * e ≤ length (now own)) ⌝ }
+    requires { ⌜ (c < g) × (g ≤ 65535) × (4 * g ≤ length (now other)) ⌝ }
+    ensures { λ r. ⌜ r ≡ meetParts field s (rowsBetween (now (own .entry)) a e) (rowsBetween (now (other .entry)) c g) ⌝ }
+{
+    let i = 4 * a;
+    let j = 4 * e;
+    let k = 4 * c;
+    let l = 4 * g;
+    if field {
+        return meet_pair(s, &own[i..j], a, &other[k..l], c);
+    }
+    meet_pair(s, &other[k..l], c, &own[i..j], a)
+}
+
+// The new block, rows a + 1 to e of one table, meets the first n blocks of the other table, down to its depth.
+fn meet_blocks(
+    field: bool,
+    s: Session,
+    own: &[i32],
+    a: usize,
+    e: usize,
+    other: &[i32],
+    depth: usize,
+    n: usize,
+) -> Session
+    requires { ⌜ Ready s × (s .joined + n < 2 ^ 63) ⌝ }
+    requires { ⌜ (a < e) × (e ≤ 65535) × (4 * e ≤ length (now own)) ⌝ }
+    requires { ⌜ (depth ≤ 65535) × (4 * depth ≤ length (now other)) × (n * s .query .block < depth + s .query .block) ⌝ }
+    ensures { λ r. ⌜ r ≡ meetBlocks field s (rowsBetween (now (own .entry)) a e) (now (other .entry)) depth n ⌝ }
+{
+    let block = s.query.block as usize;
+    let mut r = s;
+    let mut c: usize = 0;
+    let mut i: usize = 0;
+    while i < n {
+        let g = lesser(c + block, depth);
+        r = meet_parts(field, r, own, a, e, other, c, g);
+        c = c + block;
+        i += 1;
+    }
+    r
 }

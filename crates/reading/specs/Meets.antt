@@ -1,0 +1,151 @@
+-- Block pairs met by a record that is ready: it stays ready. Assumes nothing.
+use mathlib.Core.Path.{_≡_, refl, sym, ap, ap₂, _∙_}
+use mathlib.Core.Bool.{Bool, true, false, cond}
+use mathlib.Core.List.{List, [], _∷_, _++_}
+use Prim.Native.Nat.{ℕ, zero, suc, _+_, _*_, _-_, _≤_, _<_, min}
+use native.Mathlib.Nat.{mul-le-mul-right, suc-mul}
+use native.Mathlib.Numerals.{add-one}
+use native.Mathlib.Omega.{arith}
+use lib.IntN.{ℤ}
+use lib.ListN.{length, getD, take, drop, length-take, length-drop}
+use lib.Seq.{length-take-le}
+use Rattle.lists.specs.Lists.{sort}
+use Rattle.lists.specs.Words.{Ordered}
+use Rattle.lists.specs.Sorts.{sort-ordered, take-ordered}
+use Rattle.rules.specs.declared.Pair.{Pair}
+use Rattle.rules.specs.declared.Session.{Session}
+use Rattle.rules.specs.Tables.{Block, qualifying, ahead}
+use Rattle.rules.specs.Ranking.{ahead-strict}
+use Rattle.rules.specs.Session.{noPair, places, heldPairs}
+use Rattle.rules.specs.Read.{lowest, skipped, bestHeld, holding, meet, rowsBetween, blockAt, meetBlocks}
+use Rattle.held.specs.declared.Held.{Held}
+use Rattle.held.specs.Held.{listOf, heldOf, Tidy}
+use Rattle.held.specs.Tidy.{list-of-held}
+use Rattle.block.specs.Block.{at, Rows}
+use Rattle.ceiling.specs.Last.{lowest-is-last, last-taken}
+use Rattle.reading.specs.Ready.{Ready, meetParts}
+
+-- the pairs held, as the block join takes them
+abbrev pub heldIn : Session → Held
+heldIn s = record { n = s .held; pairs = s .pairs }
+
+pub ready-tidy : (s : Session) → Ready s → Tidy (heldIn s) (s .query .k - s .out)
+ready-tidy s r =
+    let e = r .count in
+    let z = r .zeros in
+    record {
+      few = omega (arith, r .room);
+      room-fits = omega (arith, r .query .k .1);
+      zeros = λ i. record { n = sym e i; pairs = z i };
+    }
+
+-- the lowest held sum stands in the last held place
+pub lowest-held : (s : Session) → Ready s → s .held ≤ length (s .pairs) → 0 < s .held → lowest (heldPairs s) ≡ getD (s .pairs) (s .held - 1) noPair .sum
+lowest-held s r k h =
+    lowest-is-last (heldPairs s) (omega (arith, r .count)) (r .order)
+    ∙ ap (λ (p : Pair). p .sum) (last-taken (s .pairs) (s .held) h k)
+
+-- the best of the pairs held and met are in order, and not too many
+best-ordered : (s : Session) (met : List Pair) → Ordered ahead (bestHeld s met)
+unfolding bestHeld
+best-ordered s met = take-ordered ahead (s .query .k - s .out) (sort ahead (heldPairs s ++ met)) (sort-ordered ahead ahead-strict (heldPairs s ++ met))
+
+best-few : (s : Session) (met : List Pair) → length (bestHeld s met) ≤ s .query .k - s .out
+unfolding bestHeld
+best-few s met = omega (arith, length-take (s .query .k - s .out) (sort ahead (heldPairs s ++ met)))
+
+holding-ready : (s : Session) (l : List Pair) → Ready s → Ordered ahead l → length l ≤ s .query .k - s .out → Ready (holding s l)
+unfolding holding
+holding-ready s l r o h =
+    let e : take (length l) (places l) ≡ l = list-of-held l in
+    record {
+      query = r .query;
+      room = omega (arith, r .room);
+      wanted = r .wanted;
+      count = ap length e;
+      zeros = ap places (sym e);
+      order = rw e o;
+    }
+
+pub meet-ready : (s : Session) (x y : Block) → Ready s → Ready (meet s x y)
+unfolding meet
+meet-ready s x y r = go (skipped s x y)
+  where
+    go : (b : Bool) → Ready (cond b s (holding s (bestHeld s (qualifying (s .query .radius) x y))))
+    go true = r
+    go false = holding-ready s (bestHeld s (qualifying (s .query .radius) x y)) r (best-ordered s _) (best-few s _)
+
+pub blocks-ready : (field : Bool) (s : Session) (new : Block) (t : List ℤ) (depth n : ℕ) → Ready s → Ready (meetBlocks field s new t depth n)
+unfolding meetBlocks
+blocks-ready field s new t depth zero r = r
+blocks-ready field s new t depth (suc n) r = meet-ready _ _ _ (blocks-ready field s new t depth n r)
+
+-- each block pair adds one at most to the joined count
+joined-one : (s : Session) (b : Bool) (l : List Pair) → cond b s (holding s l) .joined ≤ s .joined + 1
+unfolding holding
+joined-one s true l = omega arith
+joined-one s false l = omega arith
+
+pub meet-joined : (s : Session) (x y : Block) → meet s x y .joined ≤ s .joined + 1
+unfolding meet
+meet-joined s x y = joined-one s (skipped s x y) (bestHeld s (qualifying (s .query .radius) x y))
+
+pub blocks-joined : (field : Bool) (s : Session) (new : Block) (t : List ℤ) (depth n : ℕ) → meetBlocks field s new t depth n .joined ≤ s .joined + n
+unfolding meetBlocks
+blocks-joined field s new t depth zero = omega arith
+blocks-joined field s new t depth (suc n) =
+    let r = meetBlocks field s new t depth n in
+    omega (arith, blocks-joined field s new t depth n, meet-joined r (cond field new (blockAt t (s .query .block) depth n)) (cond field (blockAt t (s .query .block) depth n) new))
+
+pub taken-few : (g : Held) (room : ℕ) (m : List Pair) → g ≡ heldOf (take room m) → g .n ≤ room
+taken-few g room m e =
+    let n : g .n ≡ length (take room m) = ap (λ (h : Held). h .n) e in
+    omega (arith, length-take room m)
+
+-- ---- Parts of a table as blocks
+
+-- the numbers from row a + 1 to row e of a table, as the code cuts them out
+pub part-is : (t : List ℤ) (a e : ℕ) → at a (take (4 * e - 4 * a) (drop (4 * a) t)) ≡ rowsBetween t a e
+part-is t a e =
+    let n : 4 * e - 4 * a ≡ 4 * (e - a) = omega arith in
+    ap (λ (m : ℕ). at a (take m (drop (4 * a) t))) n
+
+-- they are whole rows, within a table's 65,535
+pub part-rows : (t : List ℤ) (a e : ℕ) → a ≤ e → e ≤ 65535 → 4 * e ≤ length t → Rows a (take (4 * e - 4 * a) (drop (4 * a) t))
+part-rows t a e h k l =
+    let n : length (take (4 * e - 4 * a) (drop (4 * a) t)) ≡ 4 * e - 4 * a =
+    length-take-le (4 * e - 4 * a) (drop (4 * a) t) (omega (arith, length-drop (4 * a) t)) in
+    record { whole = omega arith; few = omega arith }
+
+pub part-long : (t : List ℤ) (a e : ℕ) → a < e → 4 * e ≤ length t → 4 ≤ length (take (4 * e - 4 * a) (drop (4 * a) t))
+part-long t a e h l =
+    let n : length (take (4 * e - 4 * a) (drop (4 * a) t)) ≡ 4 * e - 4 * a =
+    length-take-le (4 * e - 4 * a) (drop (4 * a) t) (omega (arith, length-drop (4 * a) t)) in
+    omega arith
+
+-- ---- The blocks of a table, one after the other
+
+-- block i + 1 begins above the depth, if blocks up to the n-th do
+pub block-begins : (n block depth i : ℕ) → n * block < depth + block → i < n → i * block < depth
+block-begins n block depth i h k = omega (arith, mul-le-mul-right block k, suc-mul i block)
+
+pub block-next : (block i c : ℕ) → c ≡ i * block → c + block ≡ (i + 1) * block
+block-next block i c e =
+    let s : (i + 1) * block ≡ i * block + block = ap (λ (j : ℕ). j * block) (add-one i) ∙ suc-mul i block in
+    omega arith
+
+-- one turn: the next block is met
+pub blocks-next : (field : Bool) (s : Session) (new : Block) (t : List ℤ) (depth i c g block : ℕ) (r r′ : Session) →
+    block ≡ s .query .block →
+    c ≡ i * block →
+    r ≡ meetBlocks field s new t depth i →
+    g ≡ min (c + block) depth →
+    r′ ≡ meetParts field r new (rowsBetween t c g) →
+    r′ ≡ meetBlocks field s new t depth (i + 1)
+unfolding meetBlocks
+blocks-next field s new t depth i c g block r r′ eb ec er eg h =
+    let c-is : c ≡ i * s .query .block = ec ∙ ap (λ (b : ℕ). i * b) eb in
+    let g-is : g ≡ min (i * s .query .block + s .query .block) depth = eg ∙ ap₂ (λ (x y : ℕ). min (x + y) depth) c-is eb in
+    h
+    ∙ ap₂ (λ (x : Session) (y : Block). meetParts field x new y) er (ap₂ (λ (x y : ℕ). rowsBetween t x y) c-is g-is)
+    ∙ sym (rw add-one)
