@@ -1,2 +1,3 @@
 pub mod Ready
+pub mod Side
 pub mod Meets

@@ -1,18 +1,22 @@
 // Read: which table is next, whether anything unread can matter, and a new block that meets the blocks already read of
 // the other table in their order.
 use held::Held;
+use rules::Answer;
+use rules::Counts;
 use rules::FieldRows;
 use rules::Session;
+use rules::Step;
 use rules::TrimRows;
 ghost use mathlib.Core.Path.{_≡_};
 ghost use mathlib.Core.Bool.{cond};
 ghost use Prim.Native.Nat.{_+_, _*_, _-_, _≤_, _<_, _^_, min};
 ghost use lib.ListN.{length, take, drop};
 ghost use Rattle.rules.specs.Session.{settled};
-ghost use Rattle.rules.specs.Read.{scoreDrop, fieldNext, skipped, meet, rowsBetween, meetBlocks};
+ghost use Rattle.rules.specs.Read.{scoreDrop, fieldNext, skipped, meet, rowsBetween, meetBlocks, nextDepth, readTo};
 ghost use Rattle.laws.specs.Sizes.{Lent};
 ghost use Rattle.block.specs.Block.{at, Rows};
 ghost use Rattle.reading.specs.Ready.{Ready, meetParts};
+ghost use Rattle.reading.specs.Side.{Due, readSide, sideStep};
 
 // How far a table's score has dropped from its first row to the last row read.
 fn drop_of(t: &[i32], depth: u32) -> u32
@@ -180,4 +184,84 @@ fn meet_blocks(
         i += 1;
     }
     r
+}
+
+fn pick(t: bool, a: u32, b: u32) -> u32
+    ensures { λ r. ⌜ r ≡ cond t a b ⌝ }
+{
+    if t { a } else { b }
+}
+
+// The record with one table read down to row e, and marked as read last.
+fn read_down(field: bool, e: u32, s: Session) -> Session
+    ensures { λ r. ⌜ r ≡ readTo field e s ⌝ }
+{
+    let d = pick(field, e, s.depth.field.0);
+    let g = pick(field, s.depth.trim.0, e);
+    let last = pick(field, 1, 2);
+    let depth = Counts {
+        field: FieldRows(d),
+        trim: TrimRows(g),
+    };
+    let mut r = s;
+    r.depth = depth;
+    r.last = last;
+    r
+}
+
+// The depth that a read leads to: one block further, or all rows.
+fn next_depth(block: u32, rows: u32, depth: u32) -> u32
+    requires { ⌜ (block ≤ 1024) × (depth ≤ 65535) ⌝ }
+    ensures { λ r. ⌜ r ≡ nextDepth block rows depth ⌝ }
+{
+    if depth + block <= rows {
+        return depth + block;
+    }
+    rows
+}
+
+// One block of a table is read and meets the other table's.
+fn read_on(field: bool, own: &[i32], other: &[i32], s: Session) -> Session
+    requires { ⌜ Due field (now own) (now other) s ⌝ }
+    ensures { λ r. ⌜ r ≡ readSide field (now (own .entry)) (now (other .entry)) s ⌝ }
+{
+    let block = s.query.block;
+    let rows = pick(field, s.rows.field.0, s.rows.trim.0);
+    let d = pick(field, s.depth.field.0, s.depth.trim.0);
+    let depth = pick(field, s.depth.trim.0, s.depth.field.0);
+    let e = next_depth(block, rows, d);
+    let n = record::block_count(block, depth);
+    let r = meet_blocks(
+        field,
+        s,
+        own,
+        d as usize,
+        e as usize,
+        other,
+        depth as usize,
+        n as usize,
+    );
+    read_down(field, e, r)
+}
+
+// The new block is checked by 6 and 7, then read.
+pub fn read_side(field: bool, own: &[i32], other: &[i32], s: Session) -> Step
+    requires { ⌜ Due field (now own) (now other) s ⌝ }
+    ensures { λ r. ⌜ r ≡ sideStep field (now (own .entry)) (now (other .entry)) s ⌝ }
+{
+    let rows = pick(field, s.rows.field.0, s.rows.trim.0);
+    let d = pick(field, s.depth.field.0, s.depth.trim.0);
+    let e = next_depth(s.query.block, rows, d);
+    let code = tables::rows_code(own, d as usize, (e - d) as usize);
+    if code != 0 {
+        return Step {
+            answer: Answer::Refused(code),
+            session: s,
+        };
+    }
+    let r = read_on(field, own, other, s);
+    Step {
+        answer: Answer::Read,
+        session: r,
+    }
 }

@@ -1,0 +1,45 @@
+-- A read of one table, the other one beside it: one text for field and trim. Definitions only. Assumes nothing.
+use Prim.Native.Nat.{ℕ, _*_, _-_, _≤_, _<_}
+use mathlib.Core.Bool.{Bool, true, false, cond}
+use mathlib.Core.List.{List}
+use lib.Dec.{eqb}
+use lib.IntN.{ℤ}
+use lib.ListN.{length}
+use Rattle.rules.specs.declared.Session.{Session}
+use Rattle.rules.specs.declared.Step.{Step}
+use Rattle.rules.specs.declared.Answer.the-variants.{Refused, Read}
+use Rattle.rules.specs.Read.{rowsBetween, blockCount, oldDepth, newDepth, meetBlocks, readTo}
+use Rattle.rules.specs.Calls.{step, rowsCode}
+use Rattle.reading.specs.Ready.{Ready}
+
+-- rows of the table that is read, and the depth of the other one
+abbrev pub ownRows : Bool → Session → ℕ
+ownRows field s = cond field (s .rows .field .0) (s .rows .trim .0)
+
+abbrev pub otherDepth : Bool → Session → ℕ
+otherDepth field s = cond field (s .depth .trim .0) (s .depth .field .0)
+
+-- `readTable`, of the table that is read and of the other one
+unfoldable pub readSide : Bool → List ℤ → List ℤ → Session → Session
+readSide field own other s =
+    readTo field (newDepth field s)
+    (meetBlocks field s (rowsBetween own (oldDepth field s) (newDepth field s)) other (otherDepth field s) (blockCount (s .query .block) (otherDepth field s)))
+
+-- what 6 and 7 say of the new block
+unfoldable pub sideCode : Bool → List ℤ → Session → ℕ
+sideCode field own s = rowsCode own (oldDepth field s) (newDepth field s - oldDepth field s)
+
+-- the read's answer: the new block is checked first
+unfoldable pub sideStep : Bool → List ℤ → List ℤ → Session → Step
+sideStep field own other s =
+    cond (eqb (sideCode field own s) 0) (step Read (readSide field own other s)) (step (Refused (sideCode field own s)) s)
+
+-- what a read knows of the two tables: rows are left of the one that is read, and the slices have the rows
+pub record Due (field : Bool) (own other : List ℤ) (s : Session) : Type 0 where
+  pub ready : Ready s
+  pub left : oldDepth field s < ownRows field s
+  pub few : ownRows field s ≤ 65535
+  pub rows : 4 * ownRows field s ≤ length own
+  pub other-few : otherDepth field s ≤ 65535
+  pub other-rows : 4 * otherDepth field s ≤ length other
+  pub joined : s .joined ≤ 4294836225
