@@ -1,3 +1,4 @@
 pub mod Ready
 pub mod Side
 pub mod Meets
+pub mod Due

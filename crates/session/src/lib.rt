@@ -17,7 +17,7 @@ ghost use Rattle.rules.specs.Session.{noPair, opened, zeros};
 ghost use Rattle.rules.specs.Take.{givesPair, movedOut, finished, lastBlock};
 ghost use Rattle.rules.specs.Tables.{part};
 ghost use Rattle.laws.specs.Sizes.{Lent};
-ghost use Rattle.rules.specs.Calls.{openCode, openCall, takeCall, showCall, movedOn, showPlace};
+ghost use Rattle.rules.specs.Calls.{openCode, openCall, readCall, takeCall, showCall, movedOn, showPlace};
 
 // What an opening is refused by: 1, 2, 3, 4; 0 where it is not.
 fn open_code(q: Query, f: &[i32], t: &[i32]) -> u32
@@ -93,6 +93,29 @@ pub fn start(q: Query, f: &[i32], t: &[i32]) -> Step
         answer: Answer::Opened,
         session: s,
     }
+}
+
+// Read: settled, or one block of the table that is next, which meets the blocks already read of the other.
+pub fn read(f: &[i32], t: &[i32], s: Session) -> Step
+    ensures { λ r. ⌜ r ≡ readCall (now (f .entry)) (now (t .entry)) s ⌝ }
+{
+    let code = checks::call_code(f, t, s);
+    if code != 0 {
+        return Step {
+            answer: Answer::Refused(code),
+            session: s,
+        };
+    }
+    if reading::is_settled(f, t, s) {
+        return Step {
+            answer: Answer::Settled,
+            session: s,
+        };
+    }
+    if reading::field_next(f, t, s) {
+        return reading::read_side(true, f, t, s);
+    }
+    reading::read_side(false, t, f, s)
 }
 
 // All but the first of 64 pair places, and a place of zeros behind them.

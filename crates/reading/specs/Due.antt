@@ -1,0 +1,151 @@
+-- What an unsettled read knows once its checks have passed. Assumes nothing.
+use mathlib.Core.Path.{_≡_, refl, sym, ap, ap₂, _∙_}
+use mathlib.Core.Bool.{Bool, true, false, cond, _&&_, _||_}
+use mathlib.Core.List.{List, [], _∷_, _++_}
+use Prim.Native.Nat.{ℕ, zero, suc, _+_, _*_, _-_, _/_, _≤_, _<_}
+use native.Mathlib.Nat.{div-lt-iff-lt-mul, mul-le-mul}
+use native.Mathlib.Omega.{arith}
+use lib.Dec.{eqb}
+use lib.IntN.{ℤ}
+use lib.ListN.{length, take, drop, replicate, length-drop, take-append-drop}
+use lib.Seq.{length-take-le}
+use borrow.Author.Tests.{eqb-true, eqb-false}
+use Rattle.lists.specs.Lists.{every}
+use Rattle.lists.specs.Sorts.{ranked-ordered}
+use Rattle.rules.specs.declared.Pair.{Pair}
+use Rattle.rules.specs.declared.Session.{Session}
+use Rattle.rules.specs.declared.Step.{Step}
+use Rattle.rules.specs.declared.Answer.the-variants.{Refused, Read}
+use Rattle.rules.specs.Tables.{ahead}
+use Rattle.rules.specs.Ranking.{ahead-strict}
+use Rattle.rules.specs.Session.{noPair, places, heldPairs, fieldReadOut, trimReadOut, bothReadOut, aTableIsEmpty, secured, settled}
+use Rattle.rules.specs.Read.{fieldNext, readTable, readBlock}
+use Rattle.rules.specs.Calls.{isZeros, step, newBlockCode}
+use Rattle.laws.specs.Bools.{and-left, and-right, or-left, or-right}
+use Rattle.laws.specs.Record.{Fits}
+use Rattle.laws.specs.Sizes.{Lent}
+use Rattle.laws.specs.Read.{chosen-unread}
+use Rattle.reading.specs.Ready.{Ready}
+use Rattle.reading.specs.Side.{ownRows, otherDepth, readSide, sideCode, sideStep, Due}
+
+-- ---- The places beyond the held pairs
+
+zero-pair : (p : Pair) → isZeros p ≡ true → p ≡ noPair
+zero-pair p h =
+    let a = eqb (p .sum) 0 in
+    let b = eqb (p .field) 0 in
+    let c = eqb (p .trim) 0 in
+    let x = eqb-true (p .sum) 0 (and-left a (b && c) h) in
+    let y = eqb-true (p .field) 0 (and-left b c (and-right a (b && c) h)) in
+    let z = eqb-true (p .trim) 0 (and-right b c (and-right a (b && c) h)) in
+    λ i. record { sum = x i; field = y i; trim = z i }
+
+all-zeros : (l : List Pair) → every isZeros l ≡ true → l ≡ replicate (length l) noPair
+unfolding every
+all-zeros [] h = refl
+all-zeros (p ∷ l) h =
+    ap₂ (λ (q : Pair) (m : List Pair). q ∷ m) (zero-pair p (and-left (isZeros p) (every isZeros l) h)) (all-zeros l (and-right (isZeros p) (every isZeros l) h))
+
+held-count : (s : Session) → Fits s → length (s .pairs) ≡ 64 → length (heldPairs s) ≡ s .held
+held-count s fits n = length-take-le (s .held) (s .pairs) (omega (arith, fits .room, fits .query .k .1))
+
+zeros-beyond : (s : Session) → Fits s → length (s .pairs) ≡ 64 → s .pairs ≡ places (heldPairs s)
+unfolding places
+zeros-beyond s fits n =
+    let c = held-count s fits n in
+    let e : length (drop (s .held) (s .pairs)) ≡ 64 - length (heldPairs s) = omega (arith, length-drop (s .held) (s .pairs)) in
+    sym (take-append-drop (s .held) (s .pairs))
+    ∙ ap (λ (m : List Pair). heldPairs s ++ m) (all-zeros (drop (s .held) (s .pairs)) (fits .zeros) ∙ ap (λ (i : ℕ). replicate i noPair) e)
+
+-- ---- Unsettled
+
+-- the grounds of settled, none of which holds
+record Unsettled (s : Session) : Type 0 where
+  no-table-empty : aTableIsEmpty s ≡ false
+  not-both-out : bothReadOut s ≡ false
+  not-all-out : eqb (s .out) (s .query .k) ≡ false
+
+unsettled : (f t : List ℤ) (s : Session) → settled f t s ≡ false → Unsettled s
+unfolding settled
+unsettled f t s h =
+    let last = eqb (s .out + s .held) (s .query .k) && every (secured f t s) (heldPairs s) in
+    let rest = eqb (s .out) (s .query .k) || last in
+    let after = or-right (aTableIsEmpty s) (bothReadOut s || rest) h in
+    record {
+      no-table-empty = or-left (aTableIsEmpty s) (bothReadOut s || rest) h;
+      not-both-out = or-left (bothReadOut s) rest after;
+      not-all-out = or-left (eqb (s .out) (s .query .k)) last (or-right (bothReadOut s) rest after);
+    }
+
+module _ (f t : List ℤ) (s : Session) (l : Lent f t s) (n : length (s .pairs) ≡ 64) (h : settled f t s ≡ false) where
+  ready : Ready s
+  ready =
+      let fits = l .fits in
+      let out : s .out ≡ s .query .k → ⊥ = eqb-false (s .out) (s .query .k) (unsettled f t s h .not-all-out) in
+      record {
+        query = fits .query;
+        room = fits .room;
+        wanted = omega (arith, fits .room);
+        count = held-count s fits n;
+        zeros = zeros-beyond s fits n;
+        order = ranked-ordered ahead ahead-strict (heldPairs s) (fits .rank);
+      }
+
+  blocks-few : (block depth : ℕ) → 1 ≤ block → depth ≤ 65535 → (depth + block - 1) / block ≤ 65535
+  blocks-few block depth b k =
+      let less : (depth + block - 1) / block < 65536 = div-lt-iff-lt-mul b .1 (omega arith) in
+      omega arith
+
+  joined-few : s .joined ≤ 4294836225
+  joined-few =
+      let fits = l .fits in
+      let block = fits .query .block .0 in
+      let x = blocks-few (s .query .block) (s .depth .field .0) block (omega (arith, fits .field .few, fits .field .within)) in
+      let y = blocks-few (s .query .block) (s .depth .trim .0) block (omega (arith, fits .trim .few, fits .trim .within)) in
+      omega (arith, fits .joined, mul-le-mul x y)
+
+  unread : (b : Bool) → fieldNext f t s ≡ b → cond b (fieldReadOut s) (trimReadOut s) ≡ false
+  unread b e =
+      ap (λ (c : Bool). cond c (fieldReadOut s) (trimReadOut s)) (sym e)
+      ∙ chosen-unread f t s (unsettled f t s h .no-table-empty) (unsettled f t s h .not-both-out)
+
+  pub due-field : fieldNext f t s ≡ true → Due true f t s
+  due-field e =
+      let d : s .depth .field .0 ≡ s .rows .field .0 → ⊥ = eqb-false (s .depth .field .0) (s .rows .field .0) (unread true e) in
+      record {
+        ready = ready;
+        left = omega (arith, l .fits .field .within);
+        few = l .fits .field .few;
+        rows = omega (arith, l .field .size .whole, l .field .count);
+        other-few = omega (arith, l .fits .trim .few, l .fits .trim .within);
+        other-rows = omega (arith, l .trim .size .whole, l .trim .count, l .fits .trim .within);
+        joined = joined-few;
+      }
+
+  pub due-trim : fieldNext f t s ≡ false → Due false t f s
+  due-trim e =
+      let d : s .depth .trim .0 ≡ s .rows .trim .0 → ⊥ = eqb-false (s .depth .trim .0) (s .rows .trim .0) (unread false e) in
+      record {
+        ready = ready;
+        left = omega (arith, l .fits .trim .within);
+        few = l .fits .trim .few;
+        rows = omega (arith, l .trim .size .whole, l .trim .count);
+        other-few = omega (arith, l .fits .field .few, l .fits .field .within);
+        other-rows = omega (arith, l .field .size .whole, l .field .count, l .fits .field .within);
+        joined = joined-few;
+      }
+
+-- ---- The rule's read, by the table that is next
+
+-- what an unsettled read gives, by the rule
+abbrev pub ruleStep : List ℤ → List ℤ → Session → Step
+ruleStep f t s =
+    cond (eqb (newBlockCode f t s) 0) (step Read (readBlock f t s)) (step (Refused (newBlockCode f t s)) s)
+
+pub rule-field : (f t : List ℤ) (s : Session) → fieldNext f t s ≡ true → ruleStep f t s ≡ sideStep true f t s
+unfolding newBlockCode readTable readSide sideStep sideCode
+rule-field f t s e = rw e
+
+pub rule-trim : (f t : List ℤ) (s : Session) → fieldNext f t s ≡ false → ruleStep f t s ≡ sideStep false t f s
+unfolding newBlockCode readTable readSide sideStep sideCode
+rule-trim f t s e = rw e
