@@ -9,7 +9,7 @@ use lib.ListN.{length, take}
 use Rattle.lists.specs.Lists.{ins, sort, ranked}
 use Rattle.lists.specs.Bools.{clash, both-true}
 use Rattle.lists.specs.Words.{All, Strict, Ordered, Distinct}
-use Rattle.lists.specs.Sorts.{all-at, all-map, sort-ordered}
+use Rattle.lists.specs.Sorts.{all-at, all-map, sort-ordered, take-ordered, ranked-ordered}
 
 module _ {A : Type 0} (ahead : A → A → Bool) where
   mem-ins : (x z : A) (l : List A) → List·Memᴰ z (ins ahead x l) → List·Memᴰ z (x ∷ l)
@@ -134,7 +134,7 @@ module _ {A : Type 0} (ahead : A → A → Bool) (order : Strict ahead) where
   pub left-out : (n : ℕ) (x : A) (l : List A) → List·Memᴰ x l → (List·Memᴰ x (take n (sort ahead l)) → ⊥) → (length (take n (sort ahead l)) ≡ n) × ((y : A) → List·Memᴰ y (take n (sort ahead l)) → ahead y x ≡ true)
   left-out n x l m out = ordered-out n x (sort ahead l) (sort-ordered ahead order l) (mem-sort ahead x l .1 m) out
 
--- How many
+-- Fronts
 
 module _ {A : Type 0} where
   pub mem-take : (n : ℕ) (x : A) (l : List A) → List·Memᴰ x (take n l) → List·Memᴰ x l
@@ -147,6 +147,14 @@ module _ {A : Type 0} where
   take-distinct (suc n) [] d = tt
   take-distinct (suc n) (x ∷ l) d = (λ m. d .0 (mem-take n x l m), take-distinct n l (d .1))
 
+module _ {A : Type 0} (ahead : A → A → Bool) (order : Strict ahead) where
+  -- the front of a ranked list is ranked
+  pub ranked-take : (n : ℕ) (l : List A) → ranked ahead l ≡ true → ranked ahead (take n l) ≡ true
+  ranked-take n l h = ordered-ranked ahead order (take n l) (take-ordered ahead n l (ranked-ordered ahead order l h)) (take-distinct n l (ranked-distinct ahead order l h))
+
+-- How many
+
+module _ {A : Type 0} where
   -- m without one x has one element fewer, and all others
   without : (x : A) {m : List A} → List·Memᴰ x m → (m′ : List A) × (length m ≡ suc (length m′)) × ((y : A) → List·Memᴰ y m → (y ≡ x) ⊎ List·Memᴰ y m′)
   without x (List·Memᴰ·head {xs = l} e) = (l, refl, λ y k. ⊎-elim (λ f. inl (f ∙ sym e)) inr (List·Memᴰ·cases-cons k))
