@@ -1,3 +1,5 @@
 pub mod Rows
 pub mod RowsLaws
 pub mod SureRows
+pub mod Pairs
+pub mod PairsLaws

@@ -5,7 +5,7 @@ use mathlib.Core.Bool.{Bool, true, false, cond, _&&_, _||_}
 use mathlib.Core.List.{List, [], _∷_, map}
 use Prim.Native.Nat.{ℕ, zero, suc, _+_, _*_, _-_, _/_, _%_, _≤_, _<_, min}
 use native.Mathlib.Omega.{arith}
-use native.Mathlib.Nat.{div-add-mod}
+use native.Mathlib.Decide.{le-ind}
 use lib.Dec.{leb, ltb, eqb, lit≤}
 use lib.IntN.{ℤ, pos, negsuc, natAbs, subℕ, _-ℤ_}
 use lib.Signed.{leZ}
@@ -95,6 +95,9 @@ score-falls t g i h =
     let b : suc i - 1 ≡ i = omega arith in
     let c : leZ (num t (suc i) 1) (num t i 1) ≡ true = subst (λ j. leZ (num t (suc i) 1) (num t j 1) ≡ true) b a in
     leb-true (row t (suc i) .score) (row t i .score) (subst₂ (λ x y. leZ x y ≡ true) (sym (score-kept t (suc i) (legal-range t g (suc i) h))) (sym (score-kept t i (legal-range t g i (omega arith)))) c)
+
+pub scores-fall : (t : List ℤ) → legal t ≡ true → (i j : ℕ) → i ≤ j → j < rowCount t → row t j .score ≤ row t i .score
+scores-fall t g i j h = le-ind (λ j. j < rowCount t → row t j .score ≤ row t i .score) (λ k. omega arith) (λ j m ih k. omega (arith, ih (omega arith), score-falls t g j k)) j h
 
 pub legal-rows : (t : List ℤ) → legal t ≡ true → PlainLegal rows (rowsOf t)
 legal-rows t g = record {
