@@ -49,6 +49,10 @@ module _ {P : Type 0} (ahead : P → P → Bool) (sum : P → ℕ) (rank : Rank 
   unfolding ranked
   holds-none k R h = record { in-rank = refl; front = sym (take-nil (k - 0)); room = omega arith; once = tt; apart = λ p m. absurd (List·Memᴰ·not-nil m); inside = λ p m. absurd (⊎-elim List·Memᴰ·not-nil List·Memᴰ·not-nil m); known = λ p r. absurd (h p r) }
 
+  -- the region may be put in other words
+  pub holds-same : (k : ℕ) (R R′ : P → Type 0) (out rest held : List P) → ((p : P) → R p ↔ R′ p) → Holds ahead k R out rest held → Holds ahead k R′ out rest held
+  holds-same k R R′ out rest held e h = record { in-rank = h .in-rank; front = h .front; room = h .room; once = h .once; apart = h .apart; inside = λ p m. e p .0 (h .inside p m); known = λ p r. h .known p (e p .1 r) }
+
   -- the pairs of more rows join
   pub holds-join : (k : ℕ) (R R′ : P → Type 0) (out rest held met : List P) → Holds ahead k R out rest held → Distinct met → ((p : P) → List·Memᴰ p met → R p → ⊥) → ((p : P) → R′ p ↔ (R p ⊎ List·Memᴰ p met)) → Holds ahead k R′ out (sort ahead (rest ++ met)) (take (k - length out) (sort ahead (held ++ met)))
   holds-join k R R′ out rest held met h d new more = record {
