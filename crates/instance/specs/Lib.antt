@@ -6,3 +6,4 @@ pub mod PairsLaws
 pub mod Keeping
 pub mod Meeting
 pub mod Blocks
+pub mod Reading
