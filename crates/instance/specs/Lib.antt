@@ -7,3 +7,5 @@ pub mod Keeping
 pub mod Meeting
 pub mod Blocks
 pub mod Reading
+pub mod Taking
+pub mod Securing
