@@ -9,3 +9,4 @@ pub mod Blocks
 pub mod Reading
 pub mod Taking
 pub mod Securing
+pub mod Choosing

@@ -82,23 +82,23 @@ module _ (q : Query) (f t : List ℤ) (out : List Pair) (s : Session) (a : Reach
   abbrev T : List Row
   T = rowsOf t
 
-  field-ended : side .ended F d ≡ fieldReadOut s
+  pub field-ended : side .ended F d ≡ fieldReadOut s
   field-ended = ended-is (length F) (s .rows .field .0) d (length-rows f ∙ sym (a .field-rows)) (omega (arith, length-rows f, a .field-depth))
 
-  trim-ended : side .ended T e ≡ trimReadOut s
+  pub trim-ended : side .ended T e ≡ trimReadOut s
   trim-ended = ended-is (length T) (s .rows .trim .0) e (length-rows t ∙ sym (a .trim-rows)) (omega (arith, length-rows t, a .trim-depth))
 
   module _ (hd : 1 ≤ d) (he : 1 ≤ e) where
-    first-field : weightAt side F 0 ≡ firstScore f
+    pub first-field : weightAt side F 0 ≡ firstScore f
     first-field = weight-is f 0 (omega (arith, a .field-depth))
 
-    last-field : weightAt side F (d - 1) ≡ lastScore f d
+    pub last-field : weightAt side F (d - 1) ≡ lastScore f d
     last-field = weight-is f (d - 1) (omega (arith, a .field-depth))
 
-    first-trim : weightAt side T 0 ≡ firstScore t
+    pub first-trim : weightAt side T 0 ≡ firstScore t
     first-trim = weight-is t 0 (omega (arith, a .trim-depth))
 
-    last-trim : weightAt side T (e - 1) ≡ lastScore t e
+    pub last-trim : weightAt side T (e - 1) ≡ lastScore t e
     last-trim = weight-is t (e - 1) (omega (arith, a .trim-depth))
 
     pub ceiling-rows : Join.ceiling side side F d T e ≡ ceiling f t s
