@@ -98,8 +98,8 @@ module _ (q : Query) (f t : List ℤ) (g : legal f ≡ true) (h : legal t ≡ tr
   unended : (side .ended (rowsOf f) (s .depth .field .0) && side .ended (rowsOf t) (s .depth .trim .0)) ≡ false
   unended = rw (field-ended q f t out s a, trim-ended q f t out s a) (unsettled f t s u .1)
 
-  field-limit : fieldNext f t s ≡ true → s .depth .field .0 < max (m .0) (n .0)
+  pub field-limit : fieldNext f t s ≡ true → s .depth .field .0 < max (m .0) (n .0)
   field-limit c = row-limit side side (near (q .radius)) (laws (q .radius)) (rowsOf f) (rowsOf t) (legal-rows f g) (legal-rows t h) (q .k) (m .0) (n .0) (s .depth .field .0) (s .depth .trim .0) wanted live live-trim unended (λ hd he. unsettled-short q f t out s a g h hd he u) (chosen-field q f t out s a (unsettled f t s u .1) c) (sure-rows (q .k) (q .radius) f t m n g h .0 sure)
 
-  trim-limit : fieldNext f t s ≡ false → s .depth .trim .0 < max (m .0) (n .0)
+  pub trim-limit : fieldNext f t s ≡ false → s .depth .trim .0 < max (m .0) (n .0)
   trim-limit c = row-limit-trim side side (near (q .radius)) (laws (q .radius)) (rowsOf f) (rowsOf t) (legal-rows f g) (legal-rows t h) (q .k) (m .0) (n .0) (s .depth .field .0) (s .depth .trim .0) wanted live live-trim unended (λ hd he. unsettled-short q f t out s a g h hd he u) (chosen-trim q f t out s a (unsettled f t s u .1) c) (sure-rows (q .k) (q .radius) f t m n g h .0 sure)

@@ -10,3 +10,5 @@ pub mod Reading
 pub mod Taking
 pub mod Securing
 pub mod Choosing
+pub mod Depths
+pub mod Accepting

@@ -1,0 +1,75 @@
+-- Over legal tables the checks of rows and sizes pass, so only the record could be refused. Assumes nothing.
+use mathlib.Core.Path.{_≡_, refl, sym, ap, subst, _∙_}
+use mathlib.Core.Bool.{Bool, true, false, cond, _&&_}
+use mathlib.Core.List.{List}
+use Prim.Native.Nat.{ℕ, zero, suc, _+_, _-_, _≤_, _<_, min}
+use native.Mathlib.Omega.{arith}
+use lib.Dec.{eqb}
+use lib.IntN.{ℤ}
+use borrow.Author.Tests.{eqb-true, eqb-false, eq-eqb}
+use Rattle.rules.specs.declared.Pair.{Pair}
+use Rattle.rules.specs.declared.Query.{Query}
+use Rattle.rules.specs.declared.Session.{Session}
+use Rattle.rules.specs.Tables.{rowCount, rowInRange, rowInOrder, sizeFits, legal}
+use Rattle.rules.specs.Read.{fieldNext, oldDepth, newDepth}
+use Rattle.rules.specs.Numbers.{unless, first, badRecord}
+use Rattle.rules.specs.Calls.{rowCode, rowsCode, sameSizeCode, recordFits, recordCode, lentCode, callCode, newBlockCode}
+use Rattle.instance.specs.RowsLaws.{legal-size, legal-range, legal-order}
+use Rattle.instance.specs.Keeping.{Reached}
+
+-- two checks in order
+
+pub first-none : (c d : ℕ) → c ≡ 0 → d ≡ 0 → first c d ≡ 0
+first-none c d e h = rw (eq-eqb c 0 e) h
+
+pub first-passed : (c d : ℕ) → first c d ≡ 0 → (c ≡ 0) × (d ≡ 0)
+first-passed c d e = go (eqb c 0) refl e
+  where
+    go : (b : Bool) → eqb c 0 ≡ b → cond b d c ≡ 0 → (c ≡ 0) × (d ≡ 0)
+    go true z e = (eqb-true c 0 z, e)
+    go false z e = absurd (eqb-false c 0 z e)
+
+pub unless-passed : (b : Bool) (n : ℕ) → 1 ≤ n → unless b n ≡ 0 → b ≡ true
+unless-passed true n h e = refl
+unless-passed false n h e = absurd (omega arith)
+
+-- rows of a legal table are not refused
+pub rows-accepted : (t : List ℤ) → legal t ≡ true → (a n : ℕ) → a + n ≤ rowCount t → rowsCode t a n ≡ 0
+unfolding rowsCode rowCode
+rows-accepted t g a zero h = refl
+rows-accepted t g a (suc n) h = first-none (rowsCode t a n) (first (unless (rowInRange t (a + n)) 6) (unless (rowInOrder t (a + n)) 7)) (rows-accepted t g a n (omega arith)) (rw (legal-range t g (a + n) (omega arith), legal-order t g (a + n) (omega arith)))
+
+size-accepted : (t : List ℤ) (n : ℕ) → legal t ≡ true → n ≡ rowCount t → sameSizeCode n t ≡ 0
+unfolding sameSizeCode
+size-accepted t n g e = rw (legal-size t g, eq-eqb (rowCount t) n (sym e))
+
+-- a record that fits is accepted with legal tables of its row counts
+pub call-accepted : (f t : List ℤ) (s : Session) → legal f ≡ true → legal t ≡ true → s .rows .field .0 ≡ rowCount f → s .rows .trim .0 ≡ rowCount t → s .depth .field .0 ≤ rowCount f → s .depth .trim .0 ≤ rowCount t → recordFits s ≡ true → callCode f t s ≡ 0
+unfolding callCode lentCode recordCode
+call-accepted f t s g h a b c d r =
+    let sizes : first (sameSizeCode (s .rows .field .0) f) (sameSizeCode (s .rows .trim .0) t) ≡ 0 = first-none (sameSizeCode (s .rows .field .0) f) (sameSizeCode (s .rows .trim .0) t) (size-accepted f (s .rows .field .0) g a) (size-accepted t (s .rows .trim .0) h b) in
+    let rows : first (rowsCode f 0 (s .depth .field .0)) (rowsCode t 0 (s .depth .trim .0)) ≡ 0 = first-none (rowsCode f 0 (s .depth .field .0)) (rowsCode t 0 (s .depth .trim .0)) (rows-accepted f g 0 (s .depth .field .0) (omega arith)) (rows-accepted t h 0 (s .depth .trim .0) (omega arith)) in
+    rw (r, sizes, rows)
+
+pub accepted-fits : (f t : List ℤ) (s : Session) → callCode f t s ≡ 0 → recordFits s ≡ true
+unfolding callCode lentCode recordCode
+accepted-fits f t s e =
+    let sizes : ℕ = first (sameSizeCode (s .rows .field .0) f) (sameSizeCode (s .rows .trim .0) t) in
+    let rows : ℕ = first (rowsCode f 0 (s .depth .field .0)) (rowsCode t 0 (s .depth .trim .0)) in
+    unless-passed (recordFits s) badRecord (omega arith) (first-passed (unless (recordFits s) badRecord) sizes (first-passed (first (unless (recordFits s) badRecord) sizes) rows e .0) .0)
+
+-- nor is a new block
+own-new : (field : Bool) (f t : List ℤ) (d e size m n : ℕ) → d ≤ rowCount f → e ≤ rowCount t → m ≡ rowCount f → n ≡ rowCount t → cond field d e + (min (cond field d e + size) (cond field m n) - cond field d e) ≤ rowCount (cond field f t)
+own-new true f t d e size m n h k x y = omega arith
+own-new false f t d e size m n h k x y = omega arith
+
+own-legal : (field : Bool) (f t : List ℤ) → legal f ≡ true → legal t ≡ true → legal (cond field f t) ≡ true
+own-legal true f t g h = g
+own-legal false f t g h = h
+
+pub new-block-accepted : (q : Query) (f t : List ℤ) (out : List Pair) (s : Session) → legal f ≡ true → legal t ≡ true → Reached q f t out s → newBlockCode f t s ≡ 0
+unfolding newBlockCode
+new-block-accepted q f t out s g h a = rows-accepted (cond field f t) (own-legal field f t g h) (oldDepth field s) (newDepth field s - oldDepth field s) (own-new field f t (s .depth .field .0) (s .depth .trim .0) (s .query .block) (s .rows .field .0) (s .rows .trim .0) (a .field-depth) (a .trim-depth) (a .field-rows) (a .trim-rows))
+  where
+    field : Bool
+    field = fieldNext f t s
