@@ -12,3 +12,4 @@ pub mod Securing
 pub mod Choosing
 pub mod Depths
 pub mod Accepting
+pub mod SameRows
