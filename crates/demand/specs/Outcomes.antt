@@ -22,9 +22,9 @@ use Rattle.rules.specs.Calls.{callCode, newBlockCode, step, readCall, takeCall}
 use Rattle.instance.specs.Pairs.{Fits}
 use Rattle.instance.specs.Keeping.{Reached}
 use Rattle.instance.specs.Taking.{first-inside, empty-none}
-use Rattle.instance.specs.Depths.{read-field, read-trim}
+use Rattle.instance.specs.Depths.{read-field, read-trim, read-grows}
 use Rattle.instance.specs.Accepting.{call-accepted, accepted-fits, new-block-accepted}
-use Rattle.instance.specs.SameRows.{SameRows, same-secured, same-settled, same-next, same-read}
+use Rattle.instance.specs.SameRows.{SameRows, same-less, same-secured, same-settled, same-next, same-read}
 use Rattle.demand.specs.Demand.{Call, reading, taking, promised}
 use Rattle.demand.specs.Steps.{Happened, refused, settling, going, giving, finishing, waiting}
 
@@ -65,3 +65,64 @@ lent f t f₁ t₁ s c g same (waiting a b d h e) = let z = same (ap (λ g. eqb 
 
 pub happened : (f t f₁ t₁ : List ℤ) (s : Session) (c : Call) (g : Step) → g ≡ promised c f₁ t₁ s → (eqb (number (g .answer)) 0 ≡ true → (f₁ ≡ f) × (t₁ ≡ t)) → Happened f t s c g
 happened f t f₁ t₁ s c g e same = lent f t f₁ t₁ s c g same (subst (Happened f₁ t₁ s c) (sym e) (outcome f₁ t₁ s c))
+
+-- Over tables alike in the rows read
+
+module _ (q : Query) (f t f′ t′ : List ℤ) (g : legal f′ ≡ true) (h : legal t′ ≡ true) (m : rowCount f′ ≡ rowCount f) (n : rowCount t′ ≡ rowCount t) (out : List Pair) (s : Session) (a : Reached q f t out s) where
+  -- a held pair needs rows of both tables
+  held-live : 1 ≤ s .held → aTableIsEmpty s ≡ false
+  held-live some = fails (aTableIsEmpty s) (λ e. empty-none q f t out s a e (firstHeld s) (first-inside q f t out s a some .fits))
+
+  same-gives : SameRows (s .depth .field .0) f f′ → SameRows (s .depth .trim .0) t t′ → givesPair f′ t′ s ≡ givesPair f t s
+  unfolding givesPair
+  same-gives ef et = go (ltb 0 (s .held)) refl
+    where
+      go : (b : Bool) → ltb 0 (s .held) ≡ b → (b && secured f′ t′ s (firstHeld s)) ≡ (b && secured f t s (firstHeld s))
+      go true z = same-secured f t f′ t′ s ef et (held-live (ltb-true 0 (s .held) z)) (firstHeld s)
+      go false z = refl
+
+  same-accepted : callCode f t s ≡ 0 → callCode f′ t′ s ≡ 0
+  same-accepted e = call-accepted f′ t′ s g h (a .field-rows ∙ sym m) (a .trim-rows ∙ sym n) (omega (arith, a .field-depth)) (omega (arith, a .trim-depth)) (accepted-fits f t s e)
+
+  same-new : newBlockCode f′ t′ s ≡ 0
+  same-new = new-block-accepted f′ t′ s g h (a .field-rows ∙ sym m) (a .trim-rows ∙ sym n) (omega (arith, a .field-depth)) (omega (arith, a .trim-depth))
+
+  module _ (b : callCode f t s ≡ 0) where
+    read-settled : SameRows (s .depth .field .0) f f′ → SameRows (s .depth .trim .0) t t′ → settled f t s ≡ true → readCall f′ t′ s ≡ step Settled s
+    unfolding readCall
+    read-settled ef et d = rw (eq-eqb (callCode f′ t′ s) 0 (same-accepted b), same-settled f t f′ t′ s ef et, d)
+
+    read-going : SameRows (readBlock f t s .depth .field .0) f f′ → SameRows (readBlock f t s .depth .trim .0) t t′ → settled f t s ≡ false → readCall f′ t′ s ≡ step Read (readBlock f t s)
+    unfolding readCall
+    read-going ef et d = rw (eq-eqb (callCode f′ t′ s) 0 (same-accepted b), same-settled f t f′ t′ s df dt, d, eq-eqb (newBlockCode f′ t′ s) 0 same-new) (ap (step Read) (ap (λ b. readTable b f′ t′ s) (same-next f t f′ t′ s df dt) ∙ same-read (fieldNext f t s) f t f′ t′ s (subst (λ d. SameRows d f f′) (read-field (fieldNext f t s) f t s) ef) (subst (λ d. SameRows d t t′) (read-trim (fieldNext f t s) f t s) et)))
+      where
+        grows : (s .depth .field .0 ≤ readBlock f t s .depth .field .0) × (s .depth .trim .0 ≤ readBlock f t s .depth .trim .0)
+        grows = read-grows (fieldNext f t s) f t s (omega (arith, a .field-depth, a .field-rows)) (omega (arith, a .trim-depth, a .trim-rows))
+
+        df : SameRows (s .depth .field .0) f f′
+        df = same-less (s .depth .field .0) (readBlock f t s .depth .field .0) f f′ (grows .0) ef
+
+        dt : SameRows (s .depth .trim .0) t t′
+        dt = same-less (s .depth .trim .0) (readBlock f t s .depth .trim .0) t t′ (grows .1) et
+
+    module _ (ef : SameRows (s .depth .field .0) f f′) (et : SameRows (s .depth .trim .0) t t′) where
+      take-giving : givesPair f t s ≡ true → takeCall f′ t′ s ≡ step (Given (firstHeld s)) (movedOut s)
+      unfolding takeCall
+      take-giving d = rw (eq-eqb (callCode f′ t′ s) 0 (same-accepted b), same-gives ef et, d)
+
+      take-finishing : givesPair f t s ≡ false → finished s ≡ true → takeCall f′ t′ s ≡ step Finished s
+      unfolding takeCall
+      take-finishing d w = rw (eq-eqb (callCode f′ t′ s) 0 (same-accepted b), same-gives ef et, d, w)
+
+      take-waiting : givesPair f t s ≡ false → finished s ≡ false → takeCall f′ t′ s ≡ step NotYet s
+      unfolding takeCall
+      take-waiting d w = rw (eq-eqb (callCode f′ t′ s) 0 (same-accepted b), same-gives ef et, d, w)
+
+  pub same-call : (c : Call) (x : Step) → eqb (number (x .answer)) 0 ≡ true → SameRows (x .session .depth .field .0) f f′ → SameRows (x .session .depth .trim .0) t t′ → Happened f t s c x → promised c f′ t′ s ≡ x
+  unfolding movedOut
+  same-call c x w ef et (refused k z e) = absurd (z (eqb-true k 0 (ap (λ x. eqb (number (x .answer)) 0) (sym e) ∙ w)))
+  same-call c x w ef et (settling i b d e) = ap (λ c. promised c f′ t′ s) i ∙ read-settled b (subst (λ x. SameRows (x .session .depth .field .0) f f′) e ef) (subst (λ x. SameRows (x .session .depth .trim .0) t t′) e et) d ∙ sym e
+  same-call c x w ef et (going i b d k e) = ap (λ c. promised c f′ t′ s) i ∙ read-going b (subst (λ x. SameRows (x .session .depth .field .0) f f′) e ef) (subst (λ x. SameRows (x .session .depth .trim .0) t t′) e et) d ∙ sym e
+  same-call c x w ef et (giving i b d e) = ap (λ c. promised c f′ t′ s) i ∙ take-giving b (subst (λ x. SameRows (x .session .depth .field .0) f f′) e ef) (subst (λ x. SameRows (x .session .depth .trim .0) t t′) e et) d ∙ sym e
+  same-call c x w ef et (finishing i b d k e) = ap (λ c. promised c f′ t′ s) i ∙ take-finishing b (subst (λ x. SameRows (x .session .depth .field .0) f f′) e ef) (subst (λ x. SameRows (x .session .depth .trim .0) t t′) e et) d k ∙ sym e
+  same-call c x w ef et (waiting i b d k e) = ap (λ c. promised c f′ t′ s) i ∙ take-waiting b (subst (λ x. SameRows (x .session .depth .field .0) f f′) e ef) (subst (λ x. SameRows (x .session .depth .trim .0) t t′) e et) d k ∙ sym e

@@ -7,15 +7,12 @@ use native.Mathlib.Omega.{arith}
 use lib.Dec.{eqb}
 use lib.IntN.{ℤ}
 use borrow.Author.Tests.{eqb-true, eqb-false, eq-eqb}
-use Rattle.rules.specs.declared.Pair.{Pair}
-use Rattle.rules.specs.declared.Query.{Query}
 use Rattle.rules.specs.declared.Session.{Session}
 use Rattle.rules.specs.Tables.{rowCount, rowInRange, rowInOrder, sizeFits, legal}
 use Rattle.rules.specs.Read.{fieldNext, oldDepth, newDepth}
 use Rattle.rules.specs.Numbers.{unless, first, badRecord}
 use Rattle.rules.specs.Calls.{rowCode, rowsCode, sameSizeCode, recordFits, recordCode, lentCode, callCode, newBlockCode}
 use Rattle.instance.specs.RowsLaws.{legal-size, legal-range, legal-order}
-use Rattle.instance.specs.Keeping.{Reached}
 
 -- two checks in order
 
@@ -67,9 +64,9 @@ own-legal : (field : Bool) (f t : List ℤ) → legal f ≡ true → legal t ≡
 own-legal true f t g h = g
 own-legal false f t g h = h
 
-pub new-block-accepted : (q : Query) (f t : List ℤ) (out : List Pair) (s : Session) → legal f ≡ true → legal t ≡ true → Reached q f t out s → newBlockCode f t s ≡ 0
+pub new-block-accepted : (f t : List ℤ) (s : Session) → legal f ≡ true → legal t ≡ true → s .rows .field .0 ≡ rowCount f → s .rows .trim .0 ≡ rowCount t → s .depth .field .0 ≤ rowCount f → s .depth .trim .0 ≤ rowCount t → newBlockCode f t s ≡ 0
 unfolding newBlockCode
-new-block-accepted q f t out s g h a = rows-accepted (cond field f t) (own-legal field f t g h) (oldDepth field s) (newDepth field s - oldDepth field s) (own-new field f t (s .depth .field .0) (s .depth .trim .0) (s .query .block) (s .rows .field .0) (s .rows .trim .0) (a .field-depth) (a .trim-depth) (a .field-rows) (a .trim-rows))
+new-block-accepted f t s g h a b c d = rows-accepted (cond field f t) (own-legal field f t g h) (oldDepth field s) (newDepth field s - oldDepth field s) (own-new field f t (s .depth .field .0) (s .depth .trim .0) (s .query .block) (s .rows .field .0) (s .rows .trim .0) c d a b)
   where
     field : Bool
     field = fieldNext f t s
