@@ -1,3 +1,4 @@
 pub mod Demand
 pub mod Steps
 pub mod Outcomes
+pub mod Sequences

@@ -7,7 +7,7 @@ use native.Mathlib.Omega.{arith}
 use lib.Dec.{eqb, ltb}
 use lib.IntN.{ℤ}
 use borrow.Author.Tests.{eqb-true, eqb-false, eq-eqb, ltb-true}
-use Rattle.lists.specs.Bools.{clash, fails}
+use Rattle.lists.specs.Bools.{clash, fails, both-true}
 use Rattle.rules.specs.declared.Session.{Session}
 use Rattle.rules.specs.declared.Step.{Step}
 use Rattle.rules.specs.declared.Pair.{Pair}
@@ -65,6 +65,15 @@ lent f t f₁ t₁ s c g same (waiting a b d h e) = let z = same (ap (λ g. eqb 
 
 pub happened : (f t f₁ t₁ : List ℤ) (s : Session) (c : Call) (g : Step) → g ≡ promised c f₁ t₁ s → (eqb (number (g .answer)) 0 ≡ true → (f₁ ≡ f) × (t₁ ≡ t)) → Happened f t s c g
 happened f t f₁ t₁ s c g e same = lent f t f₁ t₁ s c g same (subst (Happened f₁ t₁ s c) (sym e) (outcome f₁ t₁ s c))
+
+-- a pair is given while one is held
+pub gives-some : (f t : List ℤ) (s : Session) → givesPair f t s ≡ true → 1 ≤ s .held
+unfolding givesPair
+gives-some f t s e = ltb-true 0 (s .held) (both-true (ltb 0 (s .held)) (secured f t s (firstHeld s)) e .0)
+
+pub gives-secured : (f t : List ℤ) (s : Session) → givesPair f t s ≡ true → secured f t s (firstHeld s) ≡ true
+unfolding givesPair
+gives-secured f t s e = both-true (ltb 0 (s .held)) (secured f t s (firstHeld s)) e .1
 
 -- Over tables alike in the rows read
 

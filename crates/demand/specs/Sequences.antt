@@ -1,0 +1,82 @@
+-- Sequences of calls: what holds of each record holds of the last. Assumes legal tables.
+use mathlib.Core.Path.{_≡_, refl, sym, ap, ap₂, subst, subst₂, _∙_}
+use mathlib.Core.Bool.{Bool, true, false, cond}
+use mathlib.Core.List.{List, [], _∷_, _++_, map, append-assoc, append-nil}
+use Prim.Native.Nat.{ℕ, _+_, _-_, _≤_, max}
+use native.Mathlib.Omega.{arith}
+use lib.Dec.{eqb}
+use lib.IntN.{ℤ}
+use Rattle.lists.specs.Bools.{clash}
+use Rattle.rules.specs.declared.FieldRows.{FieldRows}
+use Rattle.rules.specs.declared.TrimRows.{TrimRows}
+use Rattle.rules.specs.declared.Session.{Session}
+use Rattle.rules.specs.declared.Step.{Step}
+use Rattle.rules.specs.declared.Pair.{Pair}
+use Rattle.rules.specs.declared.Query.{Query}
+use Rattle.rules.specs.declared.Answer.{Answer}
+use Rattle.rules.specs.declared.Answer.the-variants.{Refused, Opened, Read, Settled, Given, NotYet, Finished}
+use Rattle.rules.specs.Tables.{rowCount, legal}
+use Rattle.rules.specs.Session.{secured}
+use Rattle.rules.specs.Read.{fieldNext, readBlock}
+use Rattle.rules.specs.Take.{firstHeld, givesPair, movedOut}
+use Rattle.rules.specs.Sure.{Sure}
+use Rattle.rules.specs.Numbers.{number}
+use Rattle.instance.specs.Keeping.{Reached}
+use Rattle.instance.specs.Reading.{read-reached}
+use Rattle.instance.specs.Taking.{take-reached}
+use Rattle.instance.specs.Depths.{read-grows, read-limit}
+use Rattle.instance.specs.SameRows.{SameRows, same-less}
+use Rattle.demand.specs.Demand.{Call, Line, promised, isAccepted, Follows, broughtBy, outs, lastRecord, byRules, over}
+use Rattle.demand.specs.Steps.{Happened, refused, settling, going, giving, finishing, waiting}
+use Rattle.demand.specs.Outcomes.{gives-some, happened, same-call}
+
+-- Transcripts in parts
+
+pub follows-before : (f t : List ℤ) (before rest : List Line) (s : Session) → Follows f t s (before ++ rest) → Follows f t s before × Follows f t (lastRecord s before) rest
+follows-before f t [] rest s h = (tt, h)
+follows-before f t (l ∷ before) rest s h = let r = follows-before f t before rest (l .gave .session) (h .2) in ((h .0, h .1, r .0), r .1)
+
+brought-front : (a : Answer) (l : List Pair) → broughtBy a l ≡ broughtBy a [] ++ l
+brought-front (Refused n) l = refl
+brought-front Opened l = refl
+brought-front Read l = refl
+brought-front Settled l = refl
+brought-front (Given p) l = refl
+brought-front NotYet l = refl
+brought-front Finished l = refl
+
+-- "Each answer and record .. is the one that document 01 gives"
+pub follows-rules : (f t : List ℤ) (s : Session) (lines : List Line) → Follows f t s lines → map (λ l. l .gave) lines ≡ byRules s lines
+follows-rules f t s [] h = refl
+follows-rules f t s (l ∷ lines) h = ap₂ (λ a b. a ∷ b) (h .0) (follows-rules f t (l .gave .session) lines (h .2) ∙ ap (λ g. byRules (g .session) lines) (h .0))
+
+module _ (q : Query) (f t : List ℤ) (g : legal f ≡ true) (h : legal t ≡ true) (size : 1 ≤ q .block) where
+  -- one call
+  line-reached : (out : List Pair) (s : Session) (c : Call) (x : Step) → Reached q f t out s → Happened f t s c x → Reached q f t (out ++ broughtBy (x .answer) []) (x .session)
+  line-reached out s c x a o = go o
+    where
+      same : Reached q f t (out ++ []) s
+      same = subst (λ out. Reached q f t out s) (sym (append-nil out)) a
+
+      to : (y : Step) → x ≡ y → Reached q f t (out ++ broughtBy (y .answer) []) (y .session) → Reached q f t (out ++ broughtBy (x .answer) []) (x .session)
+      to y e r = subst (λ y. Reached q f t (out ++ broughtBy (y .answer) []) (y .session)) (sym e) r
+
+      go : Happened f t s c x → Reached q f t (out ++ broughtBy (x .answer) []) (x .session)
+      go (refused n z e) = to _ e same
+      go (settling i b d e) = to _ e same
+      go (going i b d k e) = to _ e (read-reached (fieldNext f t s) q f t g h size (out ++ []) s same)
+      go (giving i b d e) = to _ e (take-reached q f t out s a (gives-some f t s d))
+      go (finishing i b d k e) = to _ e same
+      go (waiting i b d k e) = to _ e same
+
+  module _ (out : List Pair) (s : Session) (l : Line) (lines : List Line) (a : Reached q f t out s) (w : Follows f t s (l ∷ lines)) where
+    line-happened : Happened f t s (l .call) (l .gave)
+    line-happened = happened f t (l .field) (l .trim) s (l .call) (l .gave) (w .0) (w .1)
+
+    next-reached : Reached q f t (out ++ broughtBy (l .gave .answer) []) (l .gave .session)
+    next-reached = line-reached out s (l .call) (l .gave) a line-happened
+
+  -- all calls
+  pub lines-reached : (lines : List Line) (out : List Pair) (s : Session) → Reached q f t out s → Follows f t s lines → Reached q f t (out ++ outs lines) (lastRecord s lines)
+  lines-reached [] out s a w = subst (λ out. Reached q f t out s) (sym (append-nil out)) a
+  lines-reached (l ∷ lines) out s a w = subst (λ o. Reached q f t o (lastRecord (l .gave .session) lines)) (append-assoc out (broughtBy (l .gave .answer) []) (outs lines) ∙ ap (λ o. out ++ o) (sym (brought-front (l .gave .answer) (outs lines)))) (lines-reached lines (out ++ broughtBy (l .gave .answer) []) (l .gave .session) (next-reached out s l lines a w) (w .2))
