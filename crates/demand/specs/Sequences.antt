@@ -80,3 +80,62 @@ module _ (q : Query) (f t : List ℤ) (g : legal f ≡ true) (h : legal t ≡ tr
   pub lines-reached : (lines : List Line) (out : List Pair) (s : Session) → Reached q f t out s → Follows f t s lines → Reached q f t (out ++ outs lines) (lastRecord s lines)
   lines-reached [] out s a w = subst (λ out. Reached q f t out s) (sym (append-nil out)) a
   lines-reached (l ∷ lines) out s a w = subst (λ o. Reached q f t o (lastRecord (l .gave .session) lines)) (append-assoc out (broughtBy (l .gave .answer) []) (outs lines) ∙ ap (λ o. out ++ o) (sym (brought-front (l .gave .answer) (outs lines)))) (lines-reached lines (out ++ broughtBy (l .gave .answer) []) (l .gave .session) (next-reached out s l lines a w) (w .2))
+
+  -- neither depth falls
+  line-grows : (out : List Pair) (s : Session) (c : Call) (x : Step) → Reached q f t out s → Happened f t s c x → (s .depth .field .0 ≤ x .session .depth .field .0) × (s .depth .trim .0 ≤ x .session .depth .trim .0)
+  unfolding movedOut
+  line-grows out s c x a o = go o
+    where
+      to : (y : Step) → x ≡ y → (s .depth .field .0 ≤ y .session .depth .field .0) × (s .depth .trim .0 ≤ y .session .depth .trim .0) → (s .depth .field .0 ≤ x .session .depth .field .0) × (s .depth .trim .0 ≤ x .session .depth .trim .0)
+      to y e r = subst (λ y. (s .depth .field .0 ≤ y .session .depth .field .0) × (s .depth .trim .0 ≤ y .session .depth .trim .0)) (sym e) r
+
+      go : Happened f t s c x → (s .depth .field .0 ≤ x .session .depth .field .0) × (s .depth .trim .0 ≤ x .session .depth .trim .0)
+      go (refused n z e) = to _ e (omega arith)
+      go (settling i b d e) = to _ e (omega arith)
+      go (going i b d k e) = to _ e (read-grows (fieldNext f t s) f t s (omega (arith, a .field-depth, a .field-rows)) (omega (arith, a .trim-depth, a .trim-rows)))
+      go (giving i b d e) = to _ e (omega arith)
+      go (finishing i b d k e) = to _ e (omega arith)
+      go (waiting i b d k e) = to _ e (omega arith)
+
+  lines-grow : (lines : List Line) (out : List Pair) (s : Session) → Reached q f t out s → Follows f t s lines → (s .depth .field .0 ≤ lastRecord s lines .depth .field .0) × (s .depth .trim .0 ≤ lastRecord s lines .depth .trim .0)
+  lines-grow [] out s a w = omega arith
+  lines-grow (l ∷ lines) out s a w =
+      let x = line-grows out s (l .call) (l .gave) a (line-happened out s l lines a w) in
+      let y = lines-grow lines (out ++ broughtBy (l .gave .answer) []) (l .gave .session) (next-reached out s l lines a w) (w .2) in
+      omega arith
+
+  -- the row limit
+  module _ (wanted : 1 ≤ q .k) (m : FieldRows) (n : TrimRows) (sure : Sure (q .k) (q .radius) f t m n) where
+    abbrev Within : Session → Type 0
+    Within s = (s .depth .field .0 ≤ max (m .0) (n .0) + q .block - 1) × (s .depth .trim .0 ≤ max (m .0) (n .0) + q .block - 1)
+
+    line-within : (out : List Pair) (s : Session) (c : Call) (x : Step) → Reached q f t out s → Within s → Happened f t s c x → Within (x .session)
+    unfolding movedOut
+    line-within out s c x a v (refused k z e) = subst (λ y. Within (y .session)) (sym e) v
+    line-within out s c x a v (settling i b d e) = subst (λ y. Within (y .session)) (sym e) v
+    line-within out s c x a v (going i b d k e) = subst (λ y. Within (y .session)) (sym e) (read-limit q f t g h wanted out s a d m n sure v)
+    line-within out s c x a v (giving i b d e) = subst (λ y. Within (y .session)) (sym e) v
+    line-within out s c x a v (finishing i b d k e) = subst (λ y. Within (y .session)) (sym e) v
+    line-within out s c x a v (waiting i b d k e) = subst (λ y. Within (y .session)) (sym e) v
+
+    pub lines-within : (lines : List Line) (out : List Pair) (s : Session) → Reached q f t out s → Within s → Follows f t s lines → Within (lastRecord s lines)
+    lines-within [] out s a v w = v
+    lines-within (l ∷ lines) out s a v w = lines-within lines (out ++ broughtBy (l .gave .answer) []) (l .gave .session) (next-reached out s l lines a w) (line-within out s (l .call) (l .gave) a v (line-happened out s l lines a w)) (w .2)
+
+  -- the same answers
+  module _ (f′ t′ : List ℤ) (g′ : legal f′ ≡ true) (h′ : legal t′ ≡ true) (m : rowCount f′ ≡ rowCount f) (n : rowCount t′ ≡ rowCount t) where
+    same-line : (out : List Pair) (s : Session) (l : Line) (lines : List Line) → Reached q f t out s → Follows f t s (l ∷ lines) → SameRows (l .gave .session .depth .field .0) f f′ → SameRows (l .gave .session .depth .trim .0) t t′ → promised (l .call) (over f′ t′ l .field) (over f′ t′ l .trim) s ≡ l .gave
+    same-line out s l lines a w ef et = go (isAccepted l) refl
+      where
+        go : (b : Bool) → isAccepted l ≡ b → promised (l .call) (cond b f′ (l .field)) (cond b t′ (l .trim)) s ≡ l .gave
+        go true z = same-call q f t f′ t′ g′ h′ m n out s a (l .call) (l .gave) z ef et (line-happened out s l lines a w)
+        go false z = sym (w .0)
+
+    pub lines-same : (lines : List Line) (out : List Pair) (s : Session) → Reached q f t out s → Follows f t s lines → SameRows (lastRecord s lines .depth .field .0) f f′ → SameRows (lastRecord s lines .depth .trim .0) t t′ → map (λ x. x .answer) (byRules s (map (over f′ t′) lines)) ≡ map (λ l. l .gave .answer) lines
+    lines-same [] out s a w ef et = refl
+    lines-same (l ∷ lines) out s a w ef et =
+        let b = next-reached out s l lines a w in
+        let o : List Pair = out ++ broughtBy (l .gave .answer) [] in
+        let y = lines-grow lines o (l .gave .session) b (w .2) in
+        let e = same-line out s l lines a w (same-less (l .gave .session .depth .field .0) (lastRecord (l .gave .session) lines .depth .field .0) f f′ (y .0) ef) (same-less (l .gave .session .depth .trim .0) (lastRecord (l .gave .session) lines .depth .trim .0) t t′ (y .1) et) in
+        ap (λ x. x .answer ∷ map (λ x. x .answer) (byRules (x .session) (map (over f′ t′) lines))) e ∙ ap (λ r. l .gave .answer ∷ r) (lines-same lines o (l .gave .session) b (w .2) ef et)
