@@ -13,3 +13,5 @@ pub mod Choosing
 pub mod Depths
 pub mod Accepting
 pub mod SameRows
+pub mod SureTest
+pub mod SureTestLaws

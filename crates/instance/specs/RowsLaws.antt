@@ -162,6 +162,10 @@ flat-rows t g = ext-getD (pos 0) (flat (rowsOf t)) t (omega (arith, length-flat 
         let j : m % 4 < 4 = omega arith in
         ap (λ n. getD (flat (rowsOf t)) n (pos 0)) e ∙ num-flat (rowsOf t) (m / 4) (m % 4) j ∙ ap (λ x. cell x (m % 4)) (rows-at t (m / 4) k) ∙ cell-row t (m / 4) (legal-range t g (m / 4) k) (m % 4) j ∙ ap (λ n. getD t n (pos 0)) (sym e)
 
+-- past the end too
+pub row-at : (t : List ℤ) → legal t ≡ true → (i : ℕ) → getD (rowsOf t) i blankRow ≡ row t i
+row-at t g i = sym (row-flat (rowsOf t) i) ∙ ap (λ u. row u i) (flat-rows t g)
+
 pub flat-take : (n : ℕ) (l : List Row) → take (4 * n) (flat l) ≡ flat (take n l)
 unfolding flat
 flat-take zero l = refl
@@ -169,6 +173,10 @@ flat-take (suc n) [] = take-nil (4 * suc n)
 flat-take (suc n) (x ∷ l) =
     let on : 4 * suc n ≡ suc (suc (suc (suc (4 * n)))) = omega arith in
     ap (λ m. take m (flat (x ∷ l))) on ∙ ap (λ r. pos (x .pattern) ∷ pos (x .score) ∷ x .shade .a ∷ x .shade .b ∷ r) (flat-take n l)
+
+-- the first n rows, cut from the table or from the rows
+pub rows-take : (n : ℕ) (t : List ℤ) → legal t ≡ true → rowsOf (take (4 * n) t) ≡ take n (rowsOf t)
+rows-take n t g = ap (λ u. rowsOf (take (4 * n) u)) (sym (flat-rows t g)) ∙ ap rowsOf (flat-take n (rowsOf t)) ∙ rows-flat (take n (rowsOf t))
 
 flat-order : (l : List Row) → PlainLegal rows l → (i : ℕ) → i < length l → rowInOrder (flat l) i ≡ true
 unfolding rowInOrder cell

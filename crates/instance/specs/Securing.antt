@@ -31,8 +31,8 @@ use Rattle.rules.specs.Session.{heldPairs, firstScore, lastScore, fieldReadOut,
 use Rattle.rules.specs.Read.{rowsBetween, scoreDrop, fieldNext}
 use Rattle.rules.specs.Take.{firstHeld}
 use Rattle.rules.specs.Sure.{Sure}
-use Rattle.instance.specs.Rows.{rowsOf, blankRow, side, near, flat}
-use Rattle.instance.specs.RowsLaws.{length-rows, rows-at, legal-rows, rows-flat, flat-rows, flat-take, laws}
+use Rattle.instance.specs.Rows.{rowsOf, side, near}
+use Rattle.instance.specs.RowsLaws.{length-rows, rows-at, legal-rows, rows-take, laws}
 use Rattle.instance.specs.SureRows.{sums-rows, sure-rows}
 use Rattle.instance.specs.Pairs.{Fits, Region}
 use Rattle.instance.specs.PairsLaws.{pair-rank, qualifying-distinct, mem-qualifying}
@@ -141,9 +141,7 @@ module _ (q : Query) (f t : List ℤ) (out : List Pair) (s : Session) (a : Reach
     -- An unsettled session has fewer than k sums at its ceiling
 
     part-rows : (n : ℕ) (u : List ℤ) → legal u ≡ true → rowsOf (part u 0 (n - 0)) ≡ take n (rowsOf u)
-    part-rows n u l =
-        let z : n - 0 ≡ n = omega arith in
-        ap (λ m. rowsOf (part u 0 m)) z ∙ ap (λ w. rowsOf (take (4 * n) w)) (sym (flat-rows u l)) ∙ ap rowsOf (flat-take n (rowsOf u)) ∙ rows-flat (take n (rowsOf u))
+    part-rows n u l = let z : n - 0 ≡ n = omega arith in ap (λ m. rowsOf (part u 0 m)) z ∙ rows-take n u l
 
     region-sums : map (λ p. p .sum) (qualifying (q .radius) (rowsBetween f 0 d) (rowsBetween t 0 e)) ≡ sumsOf side side (near (q .radius)) (take d F) (take e T)
     region-sums = sums-rows (q .radius) (rowsBetween f 0 d) (rowsBetween t 0 e) ∙ ap₂ (sumsOf side side (near (q .radius))) (part-rows d f g) (part-rows e t h)
