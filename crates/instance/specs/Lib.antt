@@ -15,3 +15,5 @@ pub mod Accepting
 pub mod SameRows
 pub mod SureTest
 pub mod SureTestLaws
+pub mod Sound
+pub mod Unrefused
