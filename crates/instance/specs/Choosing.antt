@@ -2,7 +2,7 @@
 use mathlib.Core.Path.{_≡_, refl, sym, ap, subst, _∙_}
 use mathlib.Core.Bool.{Bool, true, false, cond, _&&_, _||_}
 use mathlib.Core.List.{List}
-use mathlib.Core.Logic.{_⊎_, inl, inr}
+use mathlib.Core.Logic.{_⊎_, inl, inr, ⊎-elim}
 use Prim.Native.Nat.{ℕ, _+_, _-_, _≤_, _<_, max, min}
 use native.Mathlib.Omega.{arith}
 use lib.Dec.{leb, ltb, eqb}
@@ -87,8 +87,9 @@ module _ (q : Query) (f t : List ℤ) (out : List Pair) (s : Session) (a : Reach
       go false false false false false true ez ew ex ey el em n = inr (field-some ez ew, trim-ended q f t out s a ∙ ex, inr (inl (omega (arith, ltb-true (scoreDrop t e) (scoreDrop f d) em, field-drop ez ew, trim-drop ez ew))))
       go false false false false false false ez ew ex ey el em n = inr (field-some ez ew, trim-ended q f t out s a ∙ ex, inr (inr (omega (arith, ltb-false (scoreDrop f d) (scoreDrop t e) el, field-drop ez ew, trim-drop ez ew), omega (arith, leb-false d e n))))
 
--- fact 5 of a session: an unsettled read goes on from a depth below every sure reading's
-module _ (q : Query) (f t : List ℤ) (g : legal f ≡ true) (h : legal t ≡ true) (wanted : 1 ≤ q .k) (out : List Pair) (s : Session) (a : Reached q f t out s) (u : settled f t s ≡ false) (m : FieldRows) (n : TrimRows) (sure : Sure (q .k) (q .radius) f t m n) where
+-- An unsettled session
+
+module _ (q : Query) (f t : List ℤ) (out : List Pair) (s : Session) (a : Reached q f t out s) (u : settled f t s ≡ false) where
   live : leb (length (rowsOf f)) 0 ≡ false
   live = lt-leb (length (rowsOf f)) 0 (let z = eqb-false (s .rows .field .0) 0 (none-true (eqb (s .rows .field .0) 0) (eqb (s .rows .trim .0) 0) (unsettled f t s u .0) .0) in omega (arith, length-rows f, a .field-rows))
 
@@ -98,8 +99,19 @@ module _ (q : Query) (f t : List ℤ) (g : legal f ≡ true) (h : legal t ≡ tr
   unended : (side .ended (rowsOf f) (s .depth .field .0) && side .ended (rowsOf t) (s .depth .trim .0)) ≡ false
   unended = rw (field-ended q f t out s a, trim-ended q f t out s a) (unsettled f t s u .1)
 
+  -- the table that is read next has unread rows
+  next-unread : (field : Bool) → fieldNext f t s ≡ field → oldDepth field s < cond field (s .rows .field .0) (s .rows .trim .0)
+  next-unread true e = ⊎-elim (λ z. omega (arith, leb-false (length (rowsOf f)) 0 live, length-rows f, a .field-rows)) (λ z. omega (arith, leb-false (length (rowsOf f)) (s .depth .field .0) (z .1), length-rows f, a .field-rows)) (chosen-field q f t out s a (unsettled f t s u .1) e)
+  next-unread false e = ⊎-elim (λ z. omega (arith, leb-false (length (rowsOf t)) 0 live-trim, length-rows t, a .trim-rows)) (λ z. omega (arith, leb-false (length (rowsOf t)) (s .depth .trim .0) (z .1), length-rows t, a .trim-rows)) (chosen-trim q f t out s a (unsettled f t s u .1) e)
+
+  -- so the read raises its depth
+  pub read-raises : 1 ≤ q .block → oldDepth (fieldNext f t s) s < newDepth (fieldNext f t s) s
+  read-raises size = omega (arith, next-unread (fieldNext f t s) refl, ap (λ q. q .block) (a .query))
+
+-- fact 5 of a session: an unsettled read goes on from a depth below every sure reading's
+module _ (q : Query) (f t : List ℤ) (g : legal f ≡ true) (h : legal t ≡ true) (wanted : 1 ≤ q .k) (out : List Pair) (s : Session) (a : Reached q f t out s) (u : settled f t s ≡ false) (m : FieldRows) (n : TrimRows) (sure : Sure (q .k) (q .radius) f t m n) where
   pub field-limit : fieldNext f t s ≡ true → s .depth .field .0 < max (m .0) (n .0)
-  field-limit c = row-limit side side (near (q .radius)) (laws (q .radius)) (rowsOf f) (rowsOf t) (legal-rows f g) (legal-rows t h) (q .k) (m .0) (n .0) (s .depth .field .0) (s .depth .trim .0) wanted live live-trim unended (λ hd he. unsettled-short q f t out s a g h hd he u) (chosen-field q f t out s a (unsettled f t s u .1) c) (sure-rows (q .k) (q .radius) f t m n g h .0 sure)
+  field-limit c = row-limit side side (near (q .radius)) (laws (q .radius)) (rowsOf f) (rowsOf t) (legal-rows f g) (legal-rows t h) (q .k) (m .0) (n .0) (s .depth .field .0) (s .depth .trim .0) wanted (live q f t out s a u) (live-trim q f t out s a u) (unended q f t out s a u) (λ hd he. unsettled-short q f t out s a g h hd he u) (chosen-field q f t out s a (unsettled f t s u .1) c) (sure-rows (q .k) (q .radius) f t m n g h .0 sure)
 
   pub trim-limit : fieldNext f t s ≡ false → s .depth .trim .0 < max (m .0) (n .0)
-  trim-limit c = row-limit-trim side side (near (q .radius)) (laws (q .radius)) (rowsOf f) (rowsOf t) (legal-rows f g) (legal-rows t h) (q .k) (m .0) (n .0) (s .depth .field .0) (s .depth .trim .0) wanted live live-trim unended (λ hd he. unsettled-short q f t out s a g h hd he u) (chosen-trim q f t out s a (unsettled f t s u .1) c) (sure-rows (q .k) (q .radius) f t m n g h .0 sure)
+  trim-limit c = row-limit-trim side side (near (q .radius)) (laws (q .radius)) (rowsOf f) (rowsOf t) (legal-rows f g) (legal-rows t h) (q .k) (m .0) (n .0) (s .depth .field .0) (s .depth .trim .0) wanted (live q f t out s a u) (live-trim q f t out s a u) (unended q f t out s a u) (λ hd he. unsettled-short q f t out s a g h hd he u) (chosen-trim q f t out s a (unsettled f t s u .1) c) (sure-rows (q .k) (q .radius) f t m n g h .0 sure)
