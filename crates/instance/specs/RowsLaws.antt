@@ -87,6 +87,13 @@ module _ (t : List ℤ) (i : ℕ) (h : rowInRange t i ≡ true) where
   unfolding rowInRange row
   row-good = subst (λ p. inRange p (pos (natOf (num t i 1))) (num t i 2) (num t i 3) ≡ true) (sym pattern-kept) (subst (λ s. inRange (num t i 0) s (num t i 2) (num t i 3) ≡ true) (sym score-kept) h)
 
+pub score-most : (t : List ℤ) → legal t ≡ true → (i : ℕ) → i < rowCount t → row t i .score ≤ 9999
+unfolding rowInRange within
+score-most t g i h =
+    let a : (leZ (pos 0) (num t i 1) && leZ (num t i 1) (pos 9999)) ≡ true = range-parts (num t i 0) (num t i 1) (num t i 2) (num t i 3) (legal-range t g i h) .1 in
+    let b : leZ (num t i 1) (pos 9999) ≡ true = both-true (leZ (pos 0) (num t i 1)) (leZ (num t i 1) (pos 9999)) a .1 in
+    leb-true (row t i .score) 9999 (subst (λ x. leZ x (pos 9999) ≡ true) (sym (score-kept t i (legal-range t g i h))) b)
+
 -- scores fall down a legal table
 score-falls : (t : List ℤ) → legal t ≡ true → (i : ℕ) → suc i < rowCount t → row t (suc i) .score ≤ row t i .score
 unfolding rowInOrder

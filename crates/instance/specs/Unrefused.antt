@@ -4,22 +4,34 @@ use mathlib.Core.Bool.{Bool, true, false, cond, _&&_, _||_}
 use mathlib.Core.List.{List, [], _∷_, _++_, List·Memᴰ}
 use mathlib.Core.Logic.{_⊎_, inl, inr, ⊎-elim}
 use Prim.Native.Nat.{ℕ, zero, suc, _+_, _*_, _-_, _/_, _%_, _≤_, _<_, min}
-use native.Mathlib.Nat.{suc-mul, mul-comm, mul-le-mul-right, div-add-mod', div-lt-iff-lt-mul, le-div-iff-mul-le, add-mod-right}
+use native.Mathlib.Nat.{suc-mul, mul-comm, mul-le-mul-right, div-add-mod', div-lt-iff-lt-mul, le-div-iff-mul-le, add-mod-right, zero-mod}
 use native.Mathlib.Omega.{arith}
 use native.Mathlib.Decide.{decLe}
 use lib.Dec.{leb, ltb, eqb}
 use lib.IntN.{ℤ, pos}
-use lib.ListN.{length, take, drop, replicate}
+use lib.ListN.{length, take, drop, replicate, length-take}
 use lib.Seq.{drop-append-seam, drop-append-le}
 use borrow.Author.Tests.{eqb-true, eqb-false, eq-eqb, le-leb, lt-ltb, leb-true}
 use Rattle.lists.specs.Lists.{every, ranked}
 use Rattle.lists.specs.Bools.{both-true}
+use Rattle.lists.specs.Parts.{every-of}
+use Rattle.join.specs.HeldLaws.{held-inside, held-ranked, held-room}
+use Rattle.rules.specs.declared.FieldRows.{FieldRows}
+use Rattle.rules.specs.declared.TrimRows.{TrimRows}
+use Rattle.rules.specs.declared.Query.{Query}
 use Rattle.rules.specs.declared.Pair.{Pair}
 use Rattle.rules.specs.declared.Session.{Session}
-use Rattle.rules.specs.Tables.{Block, qualifying}
-use Rattle.rules.specs.Session.{noPair, places, heldPairs}
-use Rattle.rules.specs.Read.{blockCount, blockAt, skipped, bestHeld, holding, meet, meetBlocks}
-use Rattle.rules.specs.Calls.{isZeros}
+use Rattle.rules.specs.Tables.{rowCount, legal, pairSum, ahead, Block, qualifying}
+use Rattle.rules.specs.Session.{noPair, places, opened, heldPairs, settled}
+use Rattle.rules.specs.Read.{fieldNext, rowsBetween, blockCount, blockAt, skipped, bestHeld, holding, meet, meetBlocks, readTo, oldDepth, newDepth, readTable, readBlock}
+use Rattle.rules.specs.Take.{movedOut}
+use Rattle.rules.specs.Calls.{queryCode, countsFit, pairFits, markFits, isZeros, recordFits}
+use Rattle.instance.specs.RowsLaws.{legal-most, score-most}
+use Rattle.instance.specs.Pairs.{Region}
+use Rattle.instance.specs.PairsLaws.{pair-rank}
+use Rattle.instance.specs.Keeping.{Reached, SameButHeld}
+use Rattle.instance.specs.Blocks.{blocks-same}
+use Rattle.instance.specs.Choosing.{read-raises}
 use Rattle.instance.specs.Sound.{Whole, Sound}
 
 -- Counting blocks
@@ -106,3 +118,88 @@ module _ (field : Bool) (s : Session) (new : Block) (t : List ℤ) (depth : ℕ)
   blocks-cleared (suc n) h =
       let old : Block = blockAt t (s .query .block) depth n in
       meet-cleared (meetBlocks field s new t depth n) (cond field new old) (cond field old new) (blocks-cleared n h)
+
+-- Sound records
+
+pub sound-open : (q : Query) (m : FieldRows) (n : TrimRows) → Sound (opened q m n)
+unfolding opened markFits
+sound-open q m n = record { field-whole = inl (zero-mod (q .block)); trim-whole = inl (zero-mod (q .block)); mark = refl; cleared = places-cleared []; joined = omega arith }
+
+-- s with the pairs held and the block pairs joined of r
+abbrev heldOf : Session → Session → Session
+heldOf s r = record { query = s .query; rows = s .rows; depth = s .depth; last = r .last; out = s .out; held = r .held; pairs = r .pairs; joined = r .joined }
+
+same-held : (s r : Session) → SameButHeld s r → r ≡ heldOf s r
+same-held s r e = λ i. record { query = e .query i; rows = e .rows i; depth = e .depth i; last = r .last; out = e .out i; held = r .held; pairs = r .pairs; joined = r .joined }
+
+-- unread rows begin after whole blocks
+whole-unread : (size rows d : ℕ) → d < rows → Whole size rows d → d % size ≡ 0
+whole-unread size rows d h (inl z) = z
+whole-unread size rows d h (inr z) = absurd (omega arith)
+
+module _ (s r : Session) (h : Sound s) (size : 1 ≤ s .query .block) (cleared : every isZeros (drop (r .held) (r .pairs)) ≡ true) where
+  abbrev counted : ℕ → ℕ
+  counted depth = blockCount (s .query .block) depth
+
+  sound-raised : (field : Bool) → oldDepth field s < newDepth field s → r .joined ≤ s .joined + counted (cond field (s .depth .trim .0) (s .depth .field .0)) → Sound (readTo field (newDepth field s) (heldOf s r))
+  unfolding readTo markFits
+  sound-raised true k j = record {
+    field-whole = whole-next (s .query .block) size (s .rows .field .0) (s .depth .field .0) (h .field-whole);
+    trim-whole = h .trim-whole;
+    mark = lt-ltb 0 (newDepth true s) (omega arith);
+    cleared = cleared;
+    joined = product-next (counted (s .depth .field .0)) (counted (newDepth true s)) (counted (s .depth .trim .0)) (s .joined) (r .joined) (h .joined) (count-next (s .query .block) size (s .depth .field .0) (newDepth true s) (whole-unread (s .query .block) (s .rows .field .0) (s .depth .field .0) (omega arith) (h .field-whole)) k) j;
+  }
+  sound-raised false k j = record {
+    field-whole = h .field-whole;
+    trim-whole = whole-next (s .query .block) size (s .rows .trim .0) (s .depth .trim .0) (h .trim-whole);
+    mark = lt-ltb 0 (newDepth false s) (omega arith);
+    cleared = cleared;
+    joined = subst (λ n. r .joined ≤ n) (mul-comm (counted (newDepth false s)) (counted (s .depth .field .0))) (product-next (counted (s .depth .trim .0)) (counted (newDepth false s)) (counted (s .depth .field .0)) (s .joined) (r .joined) (subst (λ n. s .joined ≤ n) (mul-comm (counted (s .depth .field .0)) (counted (s .depth .trim .0))) (h .joined)) (count-next (s .query .block) size (s .depth .trim .0) (newDepth false s) (whole-unread (s .query .block) (s .rows .trim .0) (s .depth .trim .0) (omega arith) (h .trim-whole)) k) j);
+  }
+
+module _ (q : Query) (f t : List ℤ) (out : List Pair) (s : Session) (a : Reached q f t out s) (h : Sound s) where
+  pub sound-read : 1 ≤ q .block → settled f t s ≡ false → Sound (readBlock f t s)
+  unfolding readTable
+  sound-read size u = subst (λ r. Sound (readTo field (newDepth field s) r)) (sym (same-held s r (blocks-same field s new (cond field t f) depth n))) (sound-raised s r h (subst (λ q. 1 ≤ q .block) (sym (a .query)) size) (blocks-cleared field s new (cond field t f) depth n (h .cleared)) field (read-raises q f t out s a u size) (blocks-joined field s new (cond field t f) depth n))
+    where
+      field : Bool
+      field = fieldNext f t s
+
+      new : Block
+      new = rowsBetween (cond field f t) (oldDepth field s) (newDepth field s)
+
+      depth : ℕ
+      depth = cond field (s .depth .trim .0) (s .depth .field .0)
+
+      n : ℕ
+      n = blockCount (s .query .block) depth
+
+      r : Session
+      r = meetBlocks field s new (cond field t f) depth n
+
+  pub sound-take : 1 ≤ s .held → Sound (movedOut s)
+  unfolding movedOut markFits
+  sound-take some = record { field-whole = h .field-whole; trim-whole = h .trim-whole; mark = h .mark; cleared = moved-cleared (s .held) (s .pairs) some (omega (arith, length-take (s .held) (s .pairs), a .keeping .stored)) (h .cleared); joined = h .joined }
+
+  -- Every ground of 5
+
+  counts-fit : (size rows d : ℕ) → rows ≤ 65535 → d ≤ rows → Whole size rows d → countsFit size rows d ≡ true
+  unfolding countsFit
+  counts-fit size rows d m k (inl z) = rw (le-leb rows 65535 m, le-leb d rows k, eq-eqb (d % size) 0 z)
+  counts-fit size rows d m k (inr z) = rw (le-leb rows 65535 m, le-leb d rows k, eq-eqb d rows z) (go (eqb (d % size) 0))
+    where
+      go : (b : Bool) → (b || true) ≡ true
+      go true = refl
+      go false = refl
+
+  pair-fits : legal f ≡ true → legal t ≡ true → (p : Pair) → Region (q .radius) f t (s .depth .field .0) (s .depth .trim .0) p → pairFits s p ≡ true
+  unfolding pairFits pairSum
+  pair-fits x y p m = rw (le-leb 1 (p .field) (m .fits .field-row .0), le-leb (p .field) (s .depth .field .0) (m .field-part .1), le-leb 1 (p .trim) (m .fits .trim-row .0), le-leb (p .trim) (s .depth .trim .0) (m .trim-part .1)) (le-leb (p .sum) 19998 (omega (arith, m .fits .own-sum, score-most f x (p .field - 1) (omega (arith, m .fits .field-row)), score-most t y (p .trim - 1) (omega (arith, m .fits .trim-row)))))
+
+  pub reached-fits : legal f ≡ true → legal t ≡ true → queryCode q ≡ 0 → recordFits s ≡ true
+  unfolding recordFits
+  reached-fits x y c = rw (eq-eqb (queryCode (s .query)) 0 (ap queryCode (a .query) ∙ c), counts-fit (s .query .block) (s .rows .field .0) (s .depth .field .0) (omega (arith, legal-most f x, a .field-rows)) (omega (arith, a .field-depth, a .field-rows)) (h .field-whole), counts-fit (s .query .block) (s .rows .trim .0) (s .depth .trim .0) (omega (arith, legal-most t y, a .trim-rows)) (omega (arith, a .trim-depth, a .trim-rows)) (h .trim-whole), le-leb (s .out + s .held) (s .query .k) (omega (arith, held-room ahead (λ p. p .sum) pair-rank (s .query .k) R out (a .keeping .rest) (heldPairs s) (a .keeping .holds), a .keeping .counted, a .keeping .stored)), every-of (pairFits s) (heldPairs s) (λ p m. pair-fits x y p (held-inside ahead (λ p. p .sum) pair-rank (s .query .k) R out (a .keeping .rest) (heldPairs s) (a .keeping .holds) p m)), held-ranked ahead (λ p. p .sum) pair-rank (s .query .k) R out (a .keeping .rest) (heldPairs s) (a .keeping .holds), h .mark, h .cleared) (le-leb (s .joined) (blockCount (s .query .block) (s .depth .field .0) * blockCount (s .query .block) (s .depth .trim .0)) (h .joined))
+    where
+      R : Pair → Type 0
+      R = Region (q .radius) f t (s .depth .field .0) (s .depth .trim .0)
