@@ -8,6 +8,8 @@ use lib.Dec.{eqb, leb}
 use lib.IntN.{ℤ}
 use borrow.Author.Tests.{eqb-true, eqb-false, eq-eqb, leb-true}
 use Rattle.lists.specs.Bools.{both-true}
+use Rattle.rules.specs.declared.FieldRows.{FieldRows}
+use Rattle.rules.specs.declared.TrimRows.{TrimRows}
 use Rattle.rules.specs.declared.Query.{Query}
 use Rattle.rules.specs.declared.Step.{Step}
 use Rattle.rules.specs.declared.Answer.the-variants.{Refused, Opened}
@@ -16,7 +18,8 @@ use Rattle.rules.specs.Session.{opened, zeros}
 use Rattle.rules.specs.Numbers.{unless, first, number}
 use Rattle.rules.specs.Calls.{between, queryCode, sizeCode, step, openCode, openCall}
 use Rattle.instance.specs.RowsLaws.{legal-size}
-use Rattle.instance.specs.Accepting.{first-none, first-passed, unless-passed}
+use Rattle.instance.specs.Accepting.{first-passed, unless-passed}
+use Rattle.demand.specs.Demand.{Line, Sequence}
 
 module _ (q : Query) (f t : List ℤ) where
   opened-code : openCall q f t .answer ≡ Opened → openCode q f t ≡ 0
@@ -44,3 +47,16 @@ query-wanted q e =
     let a = first-passed (unless (between 1 64 (q .k)) 1) (first block radius) e in
     let b = first-passed block radius (a .1) in
     (leb-true 1 (q .k) (both-true (leb 1 (q .k)) (leb (q .k) 64) (unless-passed (between 1 64 (q .k)) 1 (omega arith) (a .0)) .0), leb-true 1 (q .block) (both-true (leb 1 (q .block)) (leb (q .block) 1024) (unless-passed (between 1 1024 (q .block)) 2 (omega arith) (b .0)) .0))
+
+-- The opening of a sequence
+
+module _ (q : Query) (f t : List ℤ) (opening : Step) (lines : List Line) (w : Sequence q f t opening lines) where
+  pub opening-query : queryCode q ≡ 0
+  opening-query = opened-query q f t (ap (λ x. x .answer) (sym (w .opening-promised)) ∙ w .opening-accepted)
+
+  pub opening-is : opening ≡ step Opened (opened q (record { 0 = rowCount f }) (record { 0 = rowCount t }))
+  opening-is = w .opening-promised ∙ legal-opened q f t opening-query (w .field-legal) (w .trim-legal)
+
+  -- tables of the same row counts are opened alike
+  pub opens-alike : (f′ t′ : List ℤ) → legal f′ ≡ true → legal t′ ≡ true → rowCount f′ ≡ rowCount f → rowCount t′ ≡ rowCount t → openCall q f′ t′ ≡ opening
+  opens-alike f′ t′ g h m n = legal-opened q f′ t′ opening-query g h ∙ ap₂ (λ m n. step Opened (opened q (record { 0 = m }) (record { 0 = n }))) m n ∙ sym opening-is

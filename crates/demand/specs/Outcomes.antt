@@ -28,6 +28,10 @@ use Rattle.instance.specs.SameRows.{SameRows, same-less, same-secured, same-set
 use Rattle.demand.specs.Demand.{Call, reading, taking, promised}
 use Rattle.demand.specs.Steps.{Happened, refused, settling, going, giving, finishing, waiting}
 
+-- answers of two kinds are never the same: `differ cc`
+pub differ {ℓ} : {C : Type ℓ} → _≡_ {A = ℕ} 0 1 → C
+differ e = absurd (omega arith)
+
 -- From the promise to what happened
 
 read-outcome : (f t : List ℤ) (s : Session) → Happened f t s reading (readCall f t s)

@@ -1,5 +1,5 @@
 -- Demand 3, proved. Assumes nothing.
-use mathlib.Core.Path.{_≡_, refl, sym, ap, ap₂, subst, _∙_}
+use mathlib.Core.Path.{_≡_, refl, sym, ap, subst, _∙_}
 use mathlib.Core.Bool.{true}
 use mathlib.Core.List.{List, [], _∷_, _++_, map, List·Memᴰ, List·Memᴰ·head, List·Memᴰ·tail, Memᴰ·cast}
 use mathlib.Core.Logic.{_⊎_, inl, inr, ⊎-elim}
@@ -12,22 +12,21 @@ use Rattle.rules.specs.declared.Session.{Session}
 use Rattle.rules.specs.declared.Step.{Step}
 use Rattle.rules.specs.declared.Pair.{Pair}
 use Rattle.rules.specs.declared.Query.{Query}
-use Rattle.rules.specs.declared.Answer.the-variants.{Refused, Opened, Read, Settled, Given, NotYet, Finished}
+use Rattle.rules.specs.declared.Answer.the-variants.{Given, Finished}
 use Rattle.rules.specs.Tables.{rowCount, legal, row, pairSum}
 use Rattle.rules.specs.Session.{opened}
 use Rattle.rules.specs.Take.{firstHeld, givesPair}
 use Rattle.rules.specs.Sure.{Sure}
-use Rattle.rules.specs.Calls.{queryCode, openCall, step}
+use Rattle.rules.specs.Calls.{queryCode}
 use Rattle.instance.specs.Pairs.{Fits}
 use Rattle.instance.specs.Keeping.{Reached}
-use Rattle.instance.specs.Reading.{open-reached}
 use Rattle.instance.specs.Taking.{first-inside, first-new, finished-complete}
 use Rattle.instance.specs.Securing.{secured-best}
-use Rattle.demand.specs.Demand.{Call, Line, Sequence, Follows, Qualifying, sumOf, outs, IsIn, Out, lastRecord, byRules, over, Alike, Brought, Complete, Demand3, Statement}
+use Rattle.demand.specs.Demand.{Call, Line, Qualifying, sumOf, outs, IsIn, lastRecord, byRules, over, Brought, Complete, Statement}
 use Rattle.demand.specs.Steps.{Happened, refused, settling, going, giving, finishing, waiting}
-use Rattle.demand.specs.Outcomes.{gives-some, gives-secured, happened}
-use Rattle.demand.specs.Openings.{opened-query, legal-opened, query-wanted}
-use Rattle.demand.specs.Sequences.{follows-before, follows-rules, lines-reached, lines-within, lines-same}
+use Rattle.demand.specs.Outcomes.{differ, gives-some, gives-secured}
+use Rattle.demand.specs.Openings.{query-wanted, opening-query, opening-is, opens-alike}
+use Rattle.demand.specs.Sequences.{follows-rules, lines-within, lines-same, reached, reached-before}
 
 -- Pairs by their rows
 
@@ -52,9 +51,6 @@ mem-in p (x ∷ l) (List·Memᴰ·tail m) = inr (mem-in p l m)
 in-mem : (q : Query) (f t : List ℤ) (i j : ℕ) (l : List Pair) → ((p : Pair) → List·Memᴰ p l → Fits (q .radius) f t p) → IsIn l i j → List·Memᴰ (named f t i j) l
 in-mem q f t i j (x ∷ l) h (inl e) = List·Memᴰ·head (sym (fits-named q f t x (h x (List·Memᴰ·head refl)) ∙ λ z. named f t (e .0 z) (e .1 z)))
 in-mem q f t i j (x ∷ l) h (inr m) = List·Memᴰ·tail (in-mem q f t i j l (λ p k. h p (List·Memᴰ·tail k)) m)
-
-differ {ℓ} : {C : Type ℓ} → _≡_ {A = ℕ} 0 1 → C
-differ e = absurd (omega arith)
 
 -- One call, the record reached before it
 
@@ -94,42 +90,32 @@ module _ (q : Query) (f t : List ℤ) (g : legal f ≡ true) (h : legal t ≡ tr
 
 -- The sequence
 
-module _ (q : Query) (f t : List ℤ) (opening : Step) (lines : List Line) (w : Sequence q f t opening lines) where
-  start : Session
-  start = opened q (record { 0 = rowCount f }) (record { 0 = rowCount t })
-
-  query : queryCode q ≡ 0
-  query = opened-query q f t (ap (λ x. x .answer) (sym (w .opening-promised)) ∙ w .opening-accepted)
-
-  opening-is : opening ≡ step Opened start
-  unfolding start
-  opening-is = w .opening-promised ∙ legal-opened q f t query (w .field-legal) (w .trim-legal)
-
-  reached : Reached q f t [] (opening .session)
-  unfolding start
-  reached = subst (λ x. Reached q f t [] (x .session)) (sym opening-is) (open-reached q f t)
-
-  -- tables of the same row counts are opened alike
-  opens-alike : (f′ t′ : List ℤ) → legal f′ ≡ true → legal t′ ≡ true → rowCount f′ ≡ rowCount f → rowCount t′ ≡ rowCount t → openCall q f′ t′ ≡ opening
-  unfolding start
-  opens-alike f′ t′ g h m n = legal-opened q f′ t′ query g h ∙ ap₂ (λ m n. step Opened (opened q (record { 0 = m }) (record { 0 = n }))) m n ∙ sym opening-is
-
-  reached-before : (before after : List Line) (l : Line) → lines ≡ before ++ l ∷ after → Reached q f t (outs before) (lastRecord (opening .session) before) × Happened f t (lastRecord (opening .session) before) (l .call) (l .gave)
-  reached-before before after l e =
-      let c = follows-before f t before (l ∷ after) (opening .session) (subst (Follows f t (opening .session)) e (w .calls)) in
-      (lines-reached q f t (w .field-legal) (w .trim-legal) (query-wanted q query .1) before [] (opening .session) reached (c .0), happened f t (l .field) (l .trim) (lastRecord (opening .session) before) (l .call) (l .gave) (c .1 .0) (c .1 .1))
-
-  kept : Demand3 q f t opening lines
-  kept = record {
-    brought = λ before after l p e y. let r = reached-before before after l e in call-brought q f t (w .field-legal) (w .trim-legal) before (lastRecord (opening .session) before) (r .0) (l .call) (l .gave) p y (r .1);
-    finished = λ before after l e y. let r = reached-before before after l e in call-complete q f t (w .field-legal) (w .trim-legal) before (lastRecord (opening .session) before) (r .0) (l .call) (l .gave) y (r .1);
-    row-limit = λ m n sure. lines-within q f t (w .field-legal) (w .trim-legal) (query-wanted q query .1) (query-wanted q query .0) m n sure lines [] (opening .session) reached (subst (λ x. (x .session .depth .field .0 ≤ max (m .0) (n .0) + q .block - 1) × (x .session .depth .trim .0 ≤ max (m .0) (n .0) + q .block - 1)) (sym opening-is) nothing-read) (w .calls);
-    same-answers = λ f′ t′ u v. let e = opens-alike f′ t′ (u .lawful) (v .lawful) (u .count) (v .count) in (ap (λ x. x .answer) e, ap (λ x. map (λ y. y .answer) (byRules (x .session) (map (over f′ t′) lines))) e ∙ lines-same q f t (w .field-legal) (w .trim-legal) (query-wanted q query .1) f′ t′ (u .lawful) (v .lawful) (u .count) (v .count) lines [] (opening .session) reached (w .calls) (u .rows) (v .rows));
-    by-rules = (w .opening-promised, follows-rules f t (opening .session) lines (w .calls) ∙ ap (λ x. byRules (x .session) lines) (w .opening-promised));
-  }
-    where
-      nothing-read : {m : ℕ} → (start .depth .field .0 ≤ m) × (start .depth .trim .0 ≤ m)
-      nothing-read {m} = unfold start opened in omega arith
-
 pub demand3 : Statement
-demand3 q f t opening lines w = kept q f t opening lines w
+unfolding opened
+demand3 q f t opening lines w = record {
+  brought = λ before after l p e y. let r = reached-before q f t opening lines w before after l e in call-brought q f t g h before (lastRecord (opening .session) before) (r .0) (l .call) (l .gave) p y (r .1);
+  finished = λ before after l e y. let r = reached-before q f t opening lines w before after l e in call-complete q f t g h before (lastRecord (opening .session) before) (r .0) (l .call) (l .gave) y (r .1);
+  row-limit = λ m n sure. lines-within q f t g h size (query-wanted q query .0) m n sure lines [] (opening .session) start (nothing-read (max (m .0) (n .0) + q .block - 1)) (w .calls);
+  same-answers = λ f′ t′ u v.
+      let e = opens-alike q f t opening lines w f′ t′ (u .lawful) (v .lawful) (u .count) (v .count) in
+      (ap (λ x. x .answer) e, ap (λ x. map (λ y. y .answer) (byRules (x .session) (map (over f′ t′) lines))) e ∙ lines-same q f t g h size f′ t′ (u .lawful) (v .lawful) (u .count) (v .count) lines [] (opening .session) start (w .calls) (u .rows) (v .rows));
+  by-rules = (w .opening-promised, follows-rules f t (opening .session) lines (w .calls) ∙ ap (λ x. byRules (x .session) lines) (w .opening-promised));
+}
+  where
+    g : legal f ≡ true
+    g = w .field-legal
+
+    h : legal t ≡ true
+    h = w .trim-legal
+
+    query : queryCode q ≡ 0
+    query = opening-query q f t opening lines w
+
+    size : 1 ≤ q .block
+    size = query-wanted q query .1
+
+    start : Reached q f t [] (opening .session)
+    start = reached q f t opening lines w
+
+    nothing-read : (n : ℕ) → (opening .session .depth .field .0 ≤ n) × (opening .session .depth .trim .0 ≤ n)
+    nothing-read n = subst (λ x. (x .session .depth .field .0 ≤ n) × (x .session .depth .trim .0 ≤ n)) (sym (opening-is q f t opening lines w)) (omega arith)

@@ -22,12 +22,13 @@ use Rattle.rules.specs.Take.{firstHeld, givesPair, movedOut}
 use Rattle.rules.specs.Sure.{Sure}
 use Rattle.rules.specs.Numbers.{number}
 use Rattle.instance.specs.Keeping.{Reached}
-use Rattle.instance.specs.Reading.{read-reached}
+use Rattle.instance.specs.Reading.{open-reached, read-reached}
 use Rattle.instance.specs.Taking.{take-reached}
 use Rattle.instance.specs.Depths.{read-grows, read-limit}
 use Rattle.instance.specs.SameRows.{SameRows, same-less}
-use Rattle.demand.specs.Demand.{Call, Line, promised, isAccepted, Follows, broughtBy, outs, lastRecord, byRules, over}
+use Rattle.demand.specs.Demand.{Call, Line, Sequence, promised, isAccepted, Follows, broughtBy, outs, lastRecord, byRules, over}
 use Rattle.demand.specs.Steps.{Happened, refused, settling, going, giving, finishing, waiting}
+use Rattle.demand.specs.Openings.{query-wanted, opening-query, opening-is}
 use Rattle.demand.specs.Outcomes.{gives-some, happened, same-call}
 
 -- Transcripts in parts
@@ -70,10 +71,10 @@ module _ (q : Query) (f t : List ℤ) (g : legal f ≡ true) (h : legal t ≡ tr
       go (waiting i b d k e) = to _ e same
 
   module _ (out : List Pair) (s : Session) (l : Line) (lines : List Line) (a : Reached q f t out s) (w : Follows f t s (l ∷ lines)) where
-    line-happened : Happened f t s (l .call) (l .gave)
+    pub line-happened : Happened f t s (l .call) (l .gave)
     line-happened = happened f t (l .field) (l .trim) s (l .call) (l .gave) (w .0) (w .1)
 
-    next-reached : Reached q f t (out ++ broughtBy (l .gave .answer) []) (l .gave .session)
+    pub next-reached : Reached q f t (out ++ broughtBy (l .gave .answer) []) (l .gave .session)
     next-reached = line-reached out s (l .call) (l .gave) a line-happened
 
   -- all calls
@@ -139,3 +140,15 @@ module _ (q : Query) (f t : List ℤ) (g : legal f ≡ true) (h : legal t ≡ tr
         let y = lines-grow lines o (l .gave .session) b (w .2) in
         let e = same-line out s l lines a w (same-less (l .gave .session .depth .field .0) (lastRecord (l .gave .session) lines .depth .field .0) f f′ (y .0) ef) (same-less (l .gave .session .depth .trim .0) (lastRecord (l .gave .session) lines .depth .trim .0) t t′ (y .1) et) in
         ap (λ x. x .answer ∷ map (λ x. x .answer) (byRules (x .session) (map (over f′ t′) lines))) e ∙ ap (λ r. l .gave .answer ∷ r) (lines-same lines o (l .gave .session) b (w .2) ef et)
+
+-- From the opening on
+
+module _ (q : Query) (f t : List ℤ) (opening : Step) (lines : List Line) (w : Sequence q f t opening lines) where
+  pub reached : Reached q f t [] (opening .session)
+  reached = subst (λ x. Reached q f t [] (x .session)) (sym (opening-is q f t opening lines w)) (open-reached q f t)
+
+  -- the record that a call was given, and what the call did
+  pub reached-before : (before after : List Line) (l : Line) → lines ≡ before ++ l ∷ after → Reached q f t (outs before) (lastRecord (opening .session) before) × Happened f t (lastRecord (opening .session) before) (l .call) (l .gave)
+  reached-before before after l e =
+      let c = follows-before f t before (l ∷ after) (opening .session) (subst (Follows f t (opening .session)) e (w .calls)) in
+      (lines-reached q f t (w .field-legal) (w .trim-legal) (query-wanted q (opening-query q f t opening lines w) .1) before [] (opening .session) reached (c .0), happened f t (l .field) (l .trim) (lastRecord (opening .session) before) (l .call) (l .gave) (c .1 .0) (c .1 .1))

@@ -43,6 +43,9 @@ module _ (q : Query) (f t : List ℤ) (out : List Pair) (s : Session) (a : Reach
     first-holds : Holds ahead (s .query .k) R out (a .keeping .rest) (firstHeld s ∷ first-held .0)
     first-holds = subst (Holds ahead (s .query .k) R out (a .keeping .rest)) (first-held .1) (a .keeping .holds)
 
+    pub first-mem : List·Memᴰ (firstHeld s) (heldPairs s)
+    first-mem = subst (List·Memᴰ (firstHeld s)) (sym (first-held .1)) (List·Memᴰ·head refl)
+
     -- it is a pair of the region
     pub first-inside : R (firstHeld s)
     first-inside = held-inside ahead (λ p. p .sum) pair-rank (s .query .k) R out (a .keeping .rest) (firstHeld s ∷ first-held .0) first-holds (firstHeld s) (List·Memᴰ·head refl)

@@ -1,0 +1,32 @@
+-- Fact 6, said of a whole sequence: it is never refused, and it gets to its end. Definitions only; the proof is in Ends.antt. Assumes nothing.
+use Prim.Native.Nat.{ℕ, _+_, _≤_}
+use mathlib.Core.Path.{_≡_}
+use mathlib.Core.Bool.{true}
+use mathlib.Core.List.{List, _∷_, _++_}
+use lib.IntN.{ℤ}
+use Rattle.lists.specs.Words.{total}
+use Rattle.rules.specs.declared.Query.{Query}
+use Rattle.rules.specs.declared.Step.{Step}
+use Rattle.rules.specs.declared.Answer.{Answer}
+use Rattle.rules.specs.declared.Answer.the-variants.{Refused, Opened, Read, Settled, Given, NotYet, Finished}
+use Rattle.rules.specs.Tables.{rowCount}
+use Rattle.rules.specs.Session.{settled}
+use Rattle.demand.specs.Demand.{Line, isAccepted, lastRecord}
+
+-- 1 for a call that read a block
+abbrev pub readsOf : Answer → ℕ
+readsOf (Refused n) = 0
+readsOf Opened = 0
+readsOf Read = 1
+readsOf Settled = 0
+readsOf (Given p) = 0
+readsOf NotYet = 0
+readsOf Finished = 0
+
+pub record GetsThere (q : Query) (f t : List ℤ) (opening : Step) (lines : List Line) : Type 0 where
+  -- a call that is lent the two tables is not refused
+  pub unrefused : (before after : List Line) (l : Line) → lines ≡ before ++ l ∷ after → l .field ≡ f → l .trim ≡ t → isAccepted l ≡ true
+  -- no more blocks are read than there are rows
+  pub few-reads : total (λ l. readsOf (l .gave .answer)) lines ≤ rowCount f + rowCount t
+  -- in a settled session no take says "not yet"
+  pub never-waits : (before after : List Line) (l : Line) → lines ≡ before ++ l ∷ after → settled f t (lastRecord (opening .session) before) ≡ true → l .gave .answer ≡ NotYet → ⊥
