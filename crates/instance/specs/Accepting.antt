@@ -4,13 +4,14 @@ use mathlib.Core.Bool.{Bool, true, false, cond, _&&_}
 use mathlib.Core.List.{List}
 use Prim.Native.Nat.{ℕ, zero, suc, _+_, _-_, _≤_, _<_, min}
 use native.Mathlib.Omega.{arith}
+use native.Mathlib.Decide.{decLe}
 use lib.Dec.{eqb}
 use lib.IntN.{ℤ}
 use borrow.Author.Tests.{eqb-true, eqb-false, eq-eqb}
 use Rattle.rules.specs.declared.Session.{Session}
 use Rattle.rules.specs.Tables.{rowCount, rowInRange, rowInOrder, sizeFits, legal}
 use Rattle.rules.specs.Read.{fieldNext, oldDepth, newDepth}
-use Rattle.rules.specs.Numbers.{unless, first, badRecord}
+use Rattle.rules.specs.Numbers.{unless, first, badRecord, rowLimit, rowOrder}
 use Rattle.rules.specs.Calls.{rowCode, rowsCode, sameSizeCode, recordFits, recordCode, lentCode, callCode, newBlockCode}
 use Rattle.instance.specs.RowsLaws.{legal-size, legal-range, legal-order}
 
@@ -34,7 +35,20 @@ unless-passed false n h e = absurd (omega arith)
 pub rows-accepted : (t : List ℤ) → legal t ≡ true → (a n : ℕ) → a + n ≤ rowCount t → rowsCode t a n ≡ 0
 unfolding rowsCode rowCode
 rows-accepted t g a zero h = refl
-rows-accepted t g a (suc n) h = first-none (rowsCode t a n) (first (unless (rowInRange t (a + n)) 6) (unless (rowInOrder t (a + n)) 7)) (rows-accepted t g a n (omega arith)) (rw (legal-range t g (a + n) (omega arith), legal-order t g (a + n) (omega arith)))
+rows-accepted t g a (suc n) h = first-none (rowsCode t a n) (first (unless (rowInRange t (a + n)) rowLimit) (unless (rowInOrder t (a + n)) rowOrder)) (rows-accepted t g a n (omega arith)) (rw (legal-range t g (a + n) (omega arith), legal-order t g (a + n) (omega arith)))
+
+-- rows that are not refused keep ranges and order
+pub rows-passed : (t : List ℤ) (a n : ℕ) → rowsCode t a n ≡ 0 → (i : ℕ) → a ≤ i → i < a + n → (rowInRange t i ≡ true) × (rowInOrder t i ≡ true)
+unfolding rowsCode rowCode
+rows-passed t a zero e i h k = absurd (omega arith)
+rows-passed t a (suc n) e i h k = go (decLe (a + n) i) (first-passed (rowsCode t a n) (rowCode t (a + n)) e) (rows-passed t a n)
+  where
+    go : Dec (a + n ≤ i) → (rowsCode t a n ≡ 0) × (rowCode t (a + n) ≡ 0) → (rowsCode t a n ≡ 0 → (i : ℕ) → a ≤ i → i < a + n → (rowInRange t i ≡ true) × (rowInOrder t i ≡ true)) → (rowInRange t i ≡ true) × (rowInOrder t i ≡ true)
+    go (yes l) c before =
+        let same : a + n ≡ i = omega arith in
+        let d = first-passed (unless (rowInRange t (a + n)) rowLimit) (unless (rowInOrder t (a + n)) rowOrder) (c .1) in
+        subst (λ i. (rowInRange t i ≡ true) × (rowInOrder t i ≡ true)) same (unless-passed (rowInRange t (a + n)) rowLimit (omega arith) (d .0), unless-passed (rowInOrder t (a + n)) rowOrder (omega arith) (d .1))
+    go (no l) c before = before (c .0) i h (omega arith)
 
 size-accepted : (t : List ℤ) (n : ℕ) → legal t ≡ true → n ≡ rowCount t → sameSizeCode n t ≡ 0
 unfolding sameSizeCode

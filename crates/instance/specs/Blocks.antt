@@ -28,17 +28,17 @@ between-met-trim : (radius : ℕ) (f t : List ℤ) (a b c d : ℕ) (p : Pair) �
 between-met-trim radius f t a b c d p = (λ h. record { fits = h .fits; own-part = h .trim-part; other-part = h .field-part }, λ h. record { fits = h .fits; field-part = h .other-part; trim-part = h .own-part })
 
 -- rows a + 1 to b of the table that is read, and rows c + 1 to d of the other one
-abbrev ownPart : Bool → List ℤ → List ℤ → ℕ → ℕ → Block
+abbrev pub ownPart : Bool → List ℤ → List ℤ → ℕ → ℕ → Block
 ownPart field f t a b = rowsBetween (cond field f t) a b
 
-abbrev otherPart : Bool → List ℤ → List ℤ → ℕ → ℕ → Block
+abbrev pub otherPart : Bool → List ℤ → List ℤ → ℕ → ℕ → Block
 otherPart field f t c d = rowsBetween (cond field t f) c d
 
-mem-met : (field : Bool) (radius : ℕ) (f t : List ℤ) (a b c d : ℕ) → b ≤ rowCount (cond field f t) → d ≤ rowCount (cond field t f) → (p : Pair) → List·Memᴰ p (qualifying radius (cond field (ownPart field f t a b) (otherPart field f t c d)) (cond field (otherPart field f t c d) (ownPart field f t a b))) ↔ Met field radius f t a b c d p
+pub mem-met : (field : Bool) (radius : ℕ) (f t : List ℤ) (a b c d : ℕ) → b ≤ rowCount (cond field f t) → d ≤ rowCount (cond field t f) → (p : Pair) → List·Memᴰ p (qualifying radius (cond field (ownPart field f t a b) (otherPart field f t c d)) (cond field (otherPart field f t c d) (ownPart field f t a b))) ↔ Met field radius f t a b c d p
 mem-met true radius f t a b c d hb hd p = let m = mem-qualifying radius f t a b c d hb hd p in let e = between-met radius f t a b c d p in (λ i. e .0 (m .0 i), λ i. m .1 (e .1 i))
 mem-met false radius f t a b c d hb hd p = let m = mem-qualifying radius f t c d a b hd hb p in let e = between-met-trim radius f t a b c d p in (λ i. e .0 (m .0 i), λ i. m .1 (e .1 i))
 
-met-low : (field : Bool) (radius : ℕ) (f t : List ℤ) (a b c d : ℕ) → legal f ≡ true → legal t ≡ true → (p : Pair) → Met field radius f t a b c d p → p .sum ≤ firstScore (cond field (ownPart field f t a b) (otherPart field f t c d) .rows) + firstScore (cond field (otherPart field f t c d) (ownPart field f t a b) .rows)
+pub met-low : (field : Bool) (radius : ℕ) (f t : List ℤ) (a b c d : ℕ) → legal f ≡ true → legal t ≡ true → (p : Pair) → Met field radius f t a b c d p → p .sum ≤ firstScore (cond field (ownPart field f t a b) (otherPart field f t c d) .rows) + firstScore (cond field (otherPart field f t c d) (ownPart field f t a b) .rows)
 met-low true radius f t a b c d g h p m = between-low radius f t a b c d g h p (between-met radius f t a b c d p .1 m)
 met-low false radius f t a b c d g h p m = between-low radius f t c d a b g h p (between-met-trim radius f t a b c d p .1 m)
 

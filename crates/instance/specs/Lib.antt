@@ -17,3 +17,5 @@ pub mod SureTest
 pub mod SureTestLaws
 pub mod Sound
 pub mod Unrefused
+pub mod Unskipped
+pub mod UnskippedLaws

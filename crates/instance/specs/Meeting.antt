@@ -47,6 +47,27 @@ module _ (s : Session) (x y : Block) where
       let under : firstScore (x .rows) + firstScore (y .rows) < lowest (heldPairs s) = ltb-true (firstScore (x .rows) + firstScore (y .rows)) (lowest (heldPairs s)) (a .1) in
       skip-same ahead (λ p. p .sum) pair-rank (s .query .k - s .out) (heldPairs s) (qualifying (s .query .radius) x y) r (omega arith) (λ p q m n. omega (arith, lowest-least p (heldPairs s) m, low q n))
 
+  -- "Skipping never changes them": a block pair met holds the best of those held and its own, skipped or not
+  module _ (stored : length (heldPairs s) ≡ s .held) (r : ranked ahead (heldPairs s) ≡ true) (low : (p : Pair) → List·Memᴰ p (qualifying (s .query .radius) x y) → p .sum ≤ firstScore (x .rows) + firstScore (y .rows)) where
+    pub meet-held : heldPairs (meet s x y) ≡ bestHeld s (qualifying (s .query .radius) x y)
+    unfolding meet
+    meet-held = go (skipped s x y) refl
+      where
+        go : (b : Bool) → skipped s x y ≡ b → heldPairs (cond b s (holding s (bestHeld s (qualifying (s .query .radius) x y)))) ≡ bestHeld s (qualifying (s .query .radius) x y)
+        go true e = sym (skipped-same stored r low e)
+        go false e = held-holding s (bestHeld s (qualifying (s .query .radius) x y))
+
+    pub meet-stored : length (heldPairs (meet s x y)) ≡ meet s x y .held
+    unfolding meet holding
+    meet-stored = go (skipped s x y)
+      where
+        l : List Pair
+        l = bestHeld s (qualifying (s .query .radius) x y)
+
+        go : (b : Bool) → length (heldPairs (cond b s (holding s l))) ≡ cond b s (holding s l) .held
+        go true = stored
+        go false = ap length (held-holding s l)
+
   pub meet-same : SameButHeld s (meet s x y)
   unfolding meet holding
   meet-same = go (skipped s x y)
