@@ -17,5 +17,6 @@ pub mod SureTest
 pub mod SureTestLaws
 pub mod Sound
 pub mod Unrefused
+pub mod Cutting
 pub mod Unskipped
 pub mod UnskippedLaws

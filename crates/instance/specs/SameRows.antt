@@ -28,7 +28,7 @@ same-less m n t u h e = sym (take-take (4 * m) (4 * n) u (omega arith)) ∙ ap (
 
 -- Rows and parts
 
-same-num : (n : ℕ) (t u : List ℤ) → SameRows n t u → (i j : ℕ) → i < n → j < 4 → num u i j ≡ num t i j
+pub same-num : (n : ℕ) (t u : List ℤ) → SameRows n t u → (i j : ℕ) → i < n → j < 4 → num u i j ≡ num t i j
 same-num n t u e i j h k = sym (getD-take (4 * n) u (4 * i + j) (pos 0) (omega arith)) ∙ ap (λ l. getD l (4 * i + j) (pos 0)) e ∙ getD-take (4 * n) t (4 * i + j) (pos 0) (omega arith)
 
 pub same-row : (n : ℕ) (t u : List ℤ) → SameRows n t u → (i : ℕ) → i < n → row u i ≡ row t i
@@ -124,11 +124,11 @@ unfolding meetBlocks
 same-blocks field s new t u depth zero e = refl
 same-blocks field s new t u depth (suc n) e = ap₂ (λ r old. meet r (cond field new old) (cond field old new)) (same-blocks field s new t u depth n e) (same-part depth t u e (n * s .query .block) (min (n * s .query .block + s .query .block) depth) (omega arith))
 
-same-own : (field : Bool) (f t f′ t′ : List ℤ) (b d e : ℕ) → SameRows (cond field b d) f f′ → SameRows (cond field e b) t t′ → SameRows b (cond field f t) (cond field f′ t′)
+pub same-own : (field : Bool) (f t f′ t′ : List ℤ) (b d e : ℕ) → SameRows (cond field b d) f f′ → SameRows (cond field e b) t t′ → SameRows b (cond field f t) (cond field f′ t′)
 same-own true f t f′ t′ b d e h k = h
 same-own false f t f′ t′ b d e h k = k
 
-same-other : (field : Bool) (f t f′ t′ : List ℤ) (b d e : ℕ) → SameRows (cond field b d) f f′ → SameRows (cond field e b) t t′ → SameRows (cond field e d) (cond field t f) (cond field t′ f′)
+pub same-other : (field : Bool) (f t f′ t′ : List ℤ) (b d e : ℕ) → SameRows (cond field b d) f f′ → SameRows (cond field e b) t t′ → SameRows (cond field e d) (cond field t f) (cond field t′ f′)
 same-other true f t f′ t′ b d e h k = k
 same-other false f t f′ t′ b d e h k = h
 
