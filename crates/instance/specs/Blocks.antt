@@ -19,12 +19,16 @@ use Rattle.instance.specs.PairsLaws.{pair-rank, mem-qualifying, between-
 use Rattle.instance.specs.Keeping.{Keeping, SameButHeld, Met, ownRow, otherRow}
 use Rattle.instance.specs.Meeting.{meet-same, meet-keeps}
 
+-- the region may be put in other words
+pub keeping-same : (R R′ : Pair → Type 0) (out : List Pair) (s : Session) → ((p : Pair) → R p ↔ R′ p) → Keeping R out s → Keeping R′ out s
+keeping-same R R′ out s e k = record { counted = k .counted; stored = k .stored; rest = k .rest; holds = holds-same ahead (λ p. p .sum) pair-rank (s .query .k) R R′ out (k .rest) (heldPairs s) e (k .holds) }
+
 -- One block pair, whichever table is read
 
-between-met : (radius : ℕ) (f t : List ℤ) (a b c d : ℕ) (p : Pair) → Between radius f t a b c d p ↔ Met true radius f t a b c d p
+pub between-met : (radius : ℕ) (f t : List ℤ) (a b c d : ℕ) (p : Pair) → Between radius f t a b c d p ↔ Met true radius f t a b c d p
 between-met radius f t a b c d p = (λ h. record { fits = h .fits; own-part = h .field-part; other-part = h .trim-part }, λ h. record { fits = h .fits; field-part = h .own-part; trim-part = h .other-part })
 
-between-met-trim : (radius : ℕ) (f t : List ℤ) (a b c d : ℕ) (p : Pair) → Between radius f t c d a b p ↔ Met false radius f t a b c d p
+pub between-met-trim : (radius : ℕ) (f t : List ℤ) (a b c d : ℕ) (p : Pair) → Between radius f t c d a b p ↔ Met false radius f t a b c d p
 between-met-trim radius f t a b c d p = (λ h. record { fits = h .fits; own-part = h .trim-part; other-part = h .field-part }, λ h. record { fits = h .fits; field-part = h .other-part; trim-part = h .own-part })
 
 -- rows a + 1 to b of the table that is read, and rows c + 1 to d of the other one
@@ -105,7 +109,7 @@ module _ (field : Bool) (f t : List ℤ) (g : legal f ≡ true) (h : legal t ≡
 
   blocks-keep : (n : ℕ) → Keeping (Joined (min (n * s .query .block) c)) out (after n)
   unfolding meetBlocks
-  blocks-keep zero = record { counted = k .counted; stored = k .stored; rest = k .rest; holds = holds-same ahead (λ p. p .sum) pair-rank (s .query .k) R (Joined (min (0 * s .query .block) c)) out (k .rest) (heldPairs s) (λ p. (inl, ⊎-elim (λ r. r) (λ m. absurd (omega (arith, m .other-part))))) (k .holds) }
+  blocks-keep zero = keeping-same R (Joined (min (0 * s .query .block) c)) out s (λ p. (inl, ⊎-elim (λ r. r) (λ m. absurd (omega (arith, m .other-part))))) k
   blocks-keep (suc n) = block-keeps n (blocks-keep n)
 
   -- all blocks: rows 1 to c of the other table

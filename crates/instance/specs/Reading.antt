@@ -20,7 +20,7 @@ use Rattle.rules.specs.Read.{rowsBetween, blockCount, meetBlocks, readTo, oldDe
 use Rattle.instance.specs.Pairs.{Region}
 use Rattle.instance.specs.PairsLaws.{pair-rank}
 use Rattle.instance.specs.Keeping.{Keeping, Reached, SameButHeld, Met, ownRow}
-use Rattle.instance.specs.Blocks.{blocks-same, all-blocks-keep}
+use Rattle.instance.specs.Blocks.{keeping-same, between-met, between-met-trim, blocks-same, all-blocks-keep}
 
 pub open-reached : (q : Query) (f t : List ℤ) → Reached q f t [] (opened q (record { 0 = rowCount f }) (record { 0 = rowCount t }))
 unfolding opened
@@ -56,22 +56,28 @@ pub depth-grows : (field : Bool) (d e m n size : ℕ) → d ≤ m → e ≤ n �
 depth-grows true d e m n size h k = omega arith
 depth-grows false d e m n size h k = omega arith
 
-region-own : (field : Bool) (radius : ℕ) (f t : List ℤ) (d e : ℕ) (p : Pair) → Region radius f t d e p → ownRow field p ≤ cond field d e
-region-own true radius f t d e p h = h .field-part .1
-region-own false radius f t d e p h = h .trim-part .1
+-- The region down to new depths: the old one, and the new rows with the other table's
 
--- the region down to depth b of the table that is read: the old one, and the new rows with the other table's
-region-read : (field : Bool) (radius : ℕ) (f t : List ℤ) (d e b : ℕ) → cond field d e ≤ b → (p : Pair) → (Region radius f t d e p ⊎ Met field radius f t (cond field d e) b 0 (cond field e d) p) ↔ Region radius f t (cond field b d) (cond field e b) p
-region-read true radius f t d e b h p = (⊎-elim (λ r. record { fits = r .fits; field-part = omega (arith, r .field-part); trim-part = r .trim-part }) (λ r. record { fits = r .fits; field-part = omega (arith, r .own-part); trim-part = r .other-part }), λ r. go r (decLe (p .field) d))
-  where
-    go : Region radius f t b e p → Dec (p .field ≤ d) → Region radius f t d e p ⊎ Met true radius f t d b 0 e p
-    go r (yes k) = inl (record { fits = r .fits; field-part = (r .field-part .0, k); trim-part = r .trim-part })
-    go r (no k) = inr (record { fits = r .fits; own-part = omega (arith, r .field-part); other-part = r .trim-part })
-region-read false radius f t d e b h p = (⊎-elim (λ r. record { fits = r .fits; field-part = r .field-part; trim-part = omega (arith, r .trim-part) }) (λ r. record { fits = r .fits; field-part = r .other-part; trim-part = omega (arith, r .own-part) }), λ r. go r (decLe (p .trim) e))
-  where
-    go : Region radius f t d b p → Dec (p .trim ≤ e) → Region radius f t d e p ⊎ Met false radius f t e b 0 d p
-    go r (yes k) = inl (record { fits = r .fits; field-part = r .field-part; trim-part = (r .trim-part .0, k) })
-    go r (no k) = inr (record { fits = r .fits; own-part = omega (arith, r .trim-part); other-part = r .field-part })
+module _ (field : Bool) (radius : ℕ) (f t : List ℤ) (a b c : ℕ) (p : Pair) where
+  region-own : Met field radius f t 0 a 0 c p → ownRow field p ≤ a
+  region-own h = h .own-part .1
+
+  met-more : a ≤ b → (Met field radius f t 0 a 0 c p ⊎ Met field radius f t a b 0 c p) ↔ Met field radius f t 0 b 0 c p
+  met-more h = (⊎-elim (λ r. record { fits = r .fits; own-part = omega (arith, r .own-part); other-part = r .other-part }) (λ r. record { fits = r .fits; own-part = omega (arith, r .own-part); other-part = r .other-part }), λ r. go r (decLe (ownRow field p) a))
+    where
+      go : Met field radius f t 0 b 0 c p → Dec (ownRow field p ≤ a) → Met field radius f t 0 a 0 c p ⊎ Met field radius f t a b 0 c p
+      go r (yes k) = inl (record { fits = r .fits; own-part = (r .own-part .0, k); other-part = r .other-part })
+      go r (no k) = inr (record { fits = r .fits; own-part = omega (arith, r .own-part); other-part = r .other-part })
+
+-- a region, its table that is read first
+region-met : (field : Bool) (radius : ℕ) (f t : List ℤ) (d e : ℕ) (p : Pair) → Region radius f t d e p ↔ Met field radius f t 0 (cond field d e) 0 (cond field e d) p
+region-met true radius f t d e p = between-met radius f t 0 d 0 e p
+region-met false radius f t d e p = between-met-trim radius f t 0 e 0 d p
+
+-- the same, its depth in the table that is read being b
+region-read : (field : Bool) (radius : ℕ) (f t : List ℤ) (b d e : ℕ) (p : Pair) → Region radius f t (cond field b d) (cond field e b) p ↔ Met field radius f t 0 b 0 (cond field e d) p
+region-read true radius f t b d e p = between-met radius f t 0 b 0 e p
+region-read false radius f t b d e p = between-met-trim radius f t 0 b 0 d p
 
 -- The record after a read
 
@@ -98,10 +104,21 @@ module _ (field : Bool) (f t : List ℤ) (g : legal f ≡ true) (h : legal t ≡
   same : SameButHeld s met
   same = blocks-same field s (rowsBetween (cond field f t) (oldDepth field s) b) (cond field t f) (cond field e d) (blockCount (s .query .block) (cond field e d))
 
+  -- the old region, in the words of the blocks
+  abbrev Old : Pair → Type 0
+  Old = Met field (s .query .radius) f t 0 (cond field d e) 0 (cond field e d)
+
+  keeps-old : Keeping Old out s
+  keeps-old = keeping-same (Region (s .query .radius) f t d e) Old out s (region-met field (s .query .radius) f t d e) (a .keeping)
+
   met-keeps : Keeping (Region (s .query .radius) f t (cond field b d) (cond field e b)) out met
-  met-keeps =
-      let k = all-blocks-keep field f t g h s (cond field d e) b (cond field e d) b-within (other-within field f t d e (a .field-depth) (a .trim-depth)) (Region (s .query .radius) f t d e) (region-own field (s .query .radius) f t d e) out (a .keeping) size in
-      record { counted = k .counted; stored = k .stored; rest = k .rest; holds = holds-same ahead (λ p. p .sum) pair-rank (met .query .k) (λ p. Region (s .query .radius) f t d e p ⊎ Met field (s .query .radius) f t (cond field d e) b 0 (cond field e d) p) (Region (s .query .radius) f t (cond field b d) (cond field e b)) out (k .rest) (heldPairs met) (region-read field (s .query .radius) f t d e b b-grows) (k .holds) }
+  met-keeps = keeping-same (λ p. Old p ⊎ Met field (s .query .radius) f t (cond field d e) b 0 (cond field e d) p) (Region (s .query .radius) f t (cond field b d) (cond field e b)) out met same-region (all-blocks-keep field f t g h s (cond field d e) b (cond field e d) b-within (other-within field f t d e (a .field-depth) (a .trim-depth)) Old (region-own field (s .query .radius) f t (cond field d e) b (cond field e d)) out keeps-old size)
+    where
+      same-region : (p : Pair) → (Old p ⊎ Met field (s .query .radius) f t (cond field d e) b 0 (cond field e d) p) ↔ Region (s .query .radius) f t (cond field b d) (cond field e b) p
+      same-region p =
+          let more = met-more field (s .query .radius) f t (cond field d e) b (cond field e d) p b-grows in
+          let new = region-read field (s .query .radius) f t b d e p in
+          (λ r. new .1 (more .0 r), λ r. more .1 (new .0 r))
 
   read-same-query : Reached (s .query) f t out (readTable field f t s)
   unfolding readTable readTo
