@@ -33,11 +33,11 @@ use Rattle.instance.specs.Choosing.{read-raises}
 use Rattle.instance.specs.Depths.{read-field, read-trim}
 use Rattle.instance.specs.Accepting.{call-accepted, new-block-accepted}
 use Rattle.demand.specs.Demand.{Call, reading, taking, Line, promised, Sequence, Follows, broughtBy, outs, lastRecord}
-use Rattle.demand.specs.GetsThere.{readsOf, GetsThere}
-use Rattle.demand.specs.Steps.{Happened, refused, settling, going, giving, finishing, waiting}
+use Rattle.demand.specs.GetsThere.{GetsThere}
+use Rattle.demand.specs.Steps.{Happened, refused, settling, going, giving, finishing, waiting, readsOf, Changed, kept, deeper, fewer}
 use Rattle.demand.specs.Outcomes.{differ, gives-some}
 use Rattle.demand.specs.Openings.{query-wanted, opening-query, opening-is}
-use Rattle.demand.specs.Sequences.{follows-before, line-happened, next-reached, lines-reached, reached, reached-before}
+use Rattle.demand.specs.Sequences.{follows-before, line-changed, next-reached, lines-reached, reached, reached-before}
 
 -- No call is refused
 
@@ -64,17 +64,14 @@ module _ (q : Query) (f t : List ℤ) (g : legal f ≡ true) (h : legal t ≡ tr
   call-unrefused k out s a b reading = read-accepted f t s (call-accepted f t s g h (a .field-rows) (a .trim-rows) (a .field-depth) (a .trim-depth) (reached-fits q f t out s a b g h k)) (new-block-accepted f t s g h (a .field-rows) (a .trim-rows) (a .field-depth) (a .trim-depth))
   call-unrefused k out s a b taking = take-accepted f t s (call-accepted f t s g h (a .field-rows) (a .trim-rows) (a .field-depth) (a .trim-depth) (reached-fits q f t out s a b g h k))
 
-  line-sound : (out : List Pair) (s : Session) (c : Call) (x : Step) → Reached q f t out s → Sound s → Happened f t s c x → Sound (x .session)
-  line-sound out s c x a b (refused n z e) = subst (λ y. Sound (y .session)) (sym e) b
-  line-sound out s c x a b (settling i k d e) = subst (λ y. Sound (y .session)) (sym e) b
-  line-sound out s c x a b (going i k d n e) = subst (λ y. Sound (y .session)) (sym e) (sound-read q f t out s a b size d)
-  line-sound out s c x a b (giving i k d e) = subst (λ y. Sound (y .session)) (sym e) (sound-take q f t out s a b (gives-some f t s d))
-  line-sound out s c x a b (finishing i k d n e) = subst (λ y. Sound (y .session)) (sym e) b
-  line-sound out s c x a b (waiting i k d n e) = subst (λ y. Sound (y .session)) (sym e) b
+  line-sound : (out : List Pair) (s : Session) (x : Step) → Reached q f t out s → Sound s → Changed f t s x → Sound (x .session)
+  line-sound out s x a b (kept e o r) = subst Sound (sym e) b
+  line-sound out s x a b (deeper d e) = subst (λ y. Sound (y .session)) (sym e) (sound-read q f t out s a b size d)
+  line-sound out s x a b (fewer d e) = subst (λ y. Sound (y .session)) (sym e) (sound-take q f t out s a b (gives-some f t s d))
 
   pub lines-sound : (lines : List Line) (out : List Pair) (s : Session) → Reached q f t out s → Sound s → Follows f t s lines → Sound (lastRecord s lines)
   lines-sound [] out s a b w = b
-  lines-sound (l ∷ lines) out s a b w = lines-sound lines (out ++ broughtBy (l .gave .answer) []) (l .gave .session) (next-reached q f t g h size out s l lines a w) (line-sound out s (l .call) (l .gave) a b (line-happened q f t g h size out s l lines a w)) (w .2)
+  lines-sound (l ∷ lines) out s a b w = lines-sound lines (out ++ broughtBy (l .gave .answer) []) (l .gave .session) (next-reached q f t g h size out s l lines a w) (line-sound out s (l .gave) a b (line-changed q f t g h size out s l lines a w)) (w .2)
 
   -- Reads are few
 
@@ -89,20 +86,17 @@ module _ (q : Query) (f t : List ℤ) (g : legal f ≡ true) (h : legal t ≡ tr
       go true k = omega (arith, read-field true f t s, read-trim true f t s)
       go false k = omega (arith, read-field false f t s, read-trim false f t s)
 
-  line-reads : (out : List Pair) (s : Session) (c : Call) (x : Step) → Reached q f t out s → Happened f t s c x → depths s + readsOf (x .answer) ≤ depths (x .session)
+  line-reads : (out : List Pair) (s : Session) (x : Step) → Reached q f t out s → Changed f t s x → depths s + readsOf (x .answer) ≤ depths (x .session)
   unfolding movedOut
-  line-reads out s c x a (refused n z e) = subst (λ y. depths s + readsOf (y .answer) ≤ depths (y .session)) (sym e) (omega arith)
-  line-reads out s c x a (settling i k d e) = subst (λ y. depths s + readsOf (y .answer) ≤ depths (y .session)) (sym e) (omega arith)
-  line-reads out s c x a (going i k d n e) = subst (λ y. depths s + readsOf (y .answer) ≤ depths (y .session)) (sym e) (omega (arith, read-deeper out s a d))
-  line-reads out s c x a (giving i k d e) = subst (λ y. depths s + readsOf (y .answer) ≤ depths (y .session)) (sym e) (omega arith)
-  line-reads out s c x a (finishing i k d n e) = subst (λ y. depths s + readsOf (y .answer) ≤ depths (y .session)) (sym e) (omega arith)
-  line-reads out s c x a (waiting i k d n e) = subst (λ y. depths s + readsOf (y .answer) ≤ depths (y .session)) (sym e) (omega arith)
+  line-reads out s x a (kept e o r) = omega (arith, r, ap depths e)
+  line-reads out s x a (deeper d e) = subst (λ y. depths s + readsOf (y .answer) ≤ depths (y .session)) (sym e) (omega (arith, read-deeper out s a d))
+  line-reads out s x a (fewer d e) = subst (λ y. depths s + readsOf (y .answer) ≤ depths (y .session)) (sym e) (omega arith)
 
   lines-reads : (lines : List Line) (out : List Pair) (s : Session) → Reached q f t out s → Follows f t s lines → depths s + total (λ l. readsOf (l .gave .answer)) lines ≤ depths (lastRecord s lines)
   unfolding total
   lines-reads [] out s a w = omega arith
   lines-reads (l ∷ lines) out s a w =
-      let x = line-reads out s (l .call) (l .gave) a (line-happened q f t g h size out s l lines a w) in
+      let x = line-reads out s (l .gave) a (line-changed q f t g h size out s l lines a w) in
       let y = lines-reads lines (out ++ broughtBy (l .gave .answer) []) (l .gave .session) (next-reached q f t g h size out s l lines a w) (w .2) in
       omega arith
 

@@ -7,21 +7,11 @@ use lib.IntN.{ℤ}
 use Rattle.lists.specs.Words.{total}
 use Rattle.rules.specs.declared.Query.{Query}
 use Rattle.rules.specs.declared.Step.{Step}
-use Rattle.rules.specs.declared.Answer.{Answer}
-use Rattle.rules.specs.declared.Answer.the-variants.{Refused, Opened, Read, Settled, Given, NotYet, Finished}
+use Rattle.rules.specs.declared.Answer.the-variants.{NotYet}
 use Rattle.rules.specs.Tables.{rowCount}
 use Rattle.rules.specs.Session.{settled}
 use Rattle.demand.specs.Demand.{Line, isAccepted, lastRecord}
-
--- 1 for a call that read a block
-abbrev pub readsOf : Answer → ℕ
-readsOf (Refused n) = 0
-readsOf Opened = 0
-readsOf Read = 1
-readsOf Settled = 0
-readsOf (Given p) = 0
-readsOf NotYet = 0
-readsOf Finished = 0
+use Rattle.demand.specs.Steps.{readsOf}
 
 pub record GetsThere (q : Query) (f t : List ℤ) (opening : Step) (lines : List Line) : Type 0 where
   -- a call that is lent the two tables is not refused

@@ -1,7 +1,7 @@
 -- What a call of a sequence did, by what it was promised to give; and over tables alike in the rows read it gives the same. Assumes nothing.
 use mathlib.Core.Path.{_≡_, refl, sym, ap, ap₂, subst, subst₂, _∙_}
 use mathlib.Core.Bool.{Bool, true, false, cond, _&&_}
-use mathlib.Core.List.{List}
+use mathlib.Core.List.{List, []}
 use Prim.Native.Nat.{ℕ, _≤_, _<_}
 use native.Mathlib.Omega.{arith}
 use lib.Dec.{eqb, ltb}
@@ -25,8 +25,8 @@ use Rattle.instance.specs.Taking.{first-inside, empty-none}
 use Rattle.instance.specs.Depths.{read-field, read-trim, read-grows}
 use Rattle.instance.specs.Accepting.{call-accepted, accepted-fits, new-block-accepted}
 use Rattle.instance.specs.SameRows.{SameRows, same-less, same-secured, same-settled, same-next, same-read}
-use Rattle.demand.specs.Demand.{Call, reading, taking, promised}
-use Rattle.demand.specs.Steps.{Happened, refused, settling, going, giving, finishing, waiting}
+use Rattle.demand.specs.Demand.{Call, reading, taking, promised, broughtBy}
+use Rattle.demand.specs.Steps.{Happened, refused, settling, going, giving, finishing, waiting, readsOf, Changed, kept, deeper, fewer}
 
 -- answers of two kinds are never the same: `differ cc`
 pub differ {ℓ} : {C : Type ℓ} → _≡_ {A = ℕ} 0 1 → C
@@ -58,17 +58,29 @@ outcome : (f t : List ℤ) (s : Session) (c : Call) → Happened f t s c (promis
 outcome f t s reading = read-outcome f t s
 outcome f t s taking = take-outcome f t s
 
+tables : {f t f₁ t₁ : List ℤ} {s : Session} {c : Call} {g : Step} → (f₁ ≡ f) × (t₁ ≡ t) → Happened f₁ t₁ s c g → Happened f t s c g
+tables {s = s} {c = c} {g = g} e h = subst₂ (λ f t. Happened f t s c g) (e .0) (e .1) h
+
 -- a call that was refused may have been lent any slices
 lent : (f t f₁ t₁ : List ℤ) (s : Session) (c : Call) (g : Step) → (eqb (number (g .answer)) 0 ≡ true → (f₁ ≡ f) × (t₁ ≡ t)) → Happened f₁ t₁ s c g → Happened f t s c g
 lent f t f₁ t₁ s c g same (refused n h e) = refused n h e
-lent f t f₁ t₁ s c g same (settling a b d e) = let z = same (ap (λ g. eqb (number (g .answer)) 0) e) in subst₂ (λ f t. Happened f t s c g) (z .0) (z .1) (settling a b d e)
-lent f t f₁ t₁ s c g same (going a b d h e) = let z = same (ap (λ g. eqb (number (g .answer)) 0) e) in subst₂ (λ f t. Happened f t s c g) (z .0) (z .1) (going a b d h e)
-lent f t f₁ t₁ s c g same (giving a b d e) = let z = same (ap (λ g. eqb (number (g .answer)) 0) e) in subst₂ (λ f t. Happened f t s c g) (z .0) (z .1) (giving a b d e)
-lent f t f₁ t₁ s c g same (finishing a b d h e) = let z = same (ap (λ g. eqb (number (g .answer)) 0) e) in subst₂ (λ f t. Happened f t s c g) (z .0) (z .1) (finishing a b d h e)
-lent f t f₁ t₁ s c g same (waiting a b d h e) = let z = same (ap (λ g. eqb (number (g .answer)) 0) e) in subst₂ (λ f t. Happened f t s c g) (z .0) (z .1) (waiting a b d h e)
+lent f t f₁ t₁ s c g same (settling a b d e) = tables (same (ap (λ g. eqb (number (g .answer)) 0) e)) (settling a b d e)
+lent f t f₁ t₁ s c g same (going a b d h e) = tables (same (ap (λ g. eqb (number (g .answer)) 0) e)) (going a b d h e)
+lent f t f₁ t₁ s c g same (giving a b d e) = tables (same (ap (λ g. eqb (number (g .answer)) 0) e)) (giving a b d e)
+lent f t f₁ t₁ s c g same (finishing a b d h e) = tables (same (ap (λ g. eqb (number (g .answer)) 0) e)) (finishing a b d h e)
+lent f t f₁ t₁ s c g same (waiting a b d h e) = tables (same (ap (λ g. eqb (number (g .answer)) 0) e)) (waiting a b d h e)
 
 pub happened : (f t f₁ t₁ : List ℤ) (s : Session) (c : Call) (g : Step) → g ≡ promised c f₁ t₁ s → (eqb (number (g .answer)) 0 ≡ true → (f₁ ≡ f) × (t₁ ≡ t)) → Happened f t s c g
 happened f t f₁ t₁ s c g e same = lent f t f₁ t₁ s c g same (subst (Happened f₁ t₁ s c) (sym e) (outcome f₁ t₁ s c))
+
+-- what became of the record
+pub changed : (f t : List ℤ) (s : Session) (c : Call) (g : Step) → Happened f t s c g → Changed f t s g
+changed f t s c g (refused n h e) = kept (ap (λ g. g .session) e) (ap (λ g. broughtBy (g .answer) []) e) (ap (λ g. readsOf (g .answer)) e)
+changed f t s c g (settling a b d e) = kept (ap (λ g. g .session) e) (ap (λ g. broughtBy (g .answer) []) e) (ap (λ g. readsOf (g .answer)) e)
+changed f t s c g (going a b d h e) = deeper d e
+changed f t s c g (giving a b d e) = fewer d e
+changed f t s c g (finishing a b d h e) = kept (ap (λ g. g .session) e) (ap (λ g. broughtBy (g .answer) []) e) (ap (λ g. readsOf (g .answer)) e)
+changed f t s c g (waiting a b d h e) = kept (ap (λ g. g .session) e) (ap (λ g. broughtBy (g .answer) []) e) (ap (λ g. readsOf (g .answer)) e)
 
 -- a pair is given while one is held
 pub gives-some : (f t : List ℤ) (s : Session) → givesPair f t s ≡ true → 1 ≤ s .held

@@ -27,9 +27,9 @@ use Rattle.instance.specs.Taking.{take-reached}
 use Rattle.instance.specs.Depths.{read-grows, read-limit}
 use Rattle.instance.specs.SameRows.{SameRows, same-less}
 use Rattle.demand.specs.Demand.{Call, Line, Sequence, promised, isAccepted, Follows, broughtBy, outs, lastRecord, byRules, over}
-use Rattle.demand.specs.Steps.{Happened, refused, settling, going, giving, finishing, waiting}
+use Rattle.demand.specs.Steps.{Happened, Changed, kept, deeper, fewer}
 use Rattle.demand.specs.Openings.{query-wanted, opening-query, opening-is}
-use Rattle.demand.specs.Outcomes.{gives-some, happened, same-call}
+use Rattle.demand.specs.Outcomes.{gives-some, happened, changed, same-call}
 
 -- Transcripts in parts
 
@@ -53,29 +53,20 @@ follows-rules f t s (l ∷ lines) h = ap₂ (λ a b. a ∷ b) (h .0) (follows-ru
 
 module _ (q : Query) (f t : List ℤ) (g : legal f ≡ true) (h : legal t ≡ true) (size : 1 ≤ q .block) where
   -- one call
-  line-reached : (out : List Pair) (s : Session) (c : Call) (x : Step) → Reached q f t out s → Happened f t s c x → Reached q f t (out ++ broughtBy (x .answer) []) (x .session)
-  line-reached out s c x a o = go o
-    where
-      same : Reached q f t (out ++ []) s
-      same = subst (λ out. Reached q f t out s) (sym (append-nil out)) a
-
-      to : (y : Step) → x ≡ y → Reached q f t (out ++ broughtBy (y .answer) []) (y .session) → Reached q f t (out ++ broughtBy (x .answer) []) (x .session)
-      to y e r = subst (λ y. Reached q f t (out ++ broughtBy (y .answer) []) (y .session)) (sym e) r
-
-      go : Happened f t s c x → Reached q f t (out ++ broughtBy (x .answer) []) (x .session)
-      go (refused n z e) = to _ e same
-      go (settling i b d e) = to _ e same
-      go (going i b d k e) = to _ e (read-reached (fieldNext f t s) q f t g h size (out ++ []) s same)
-      go (giving i b d e) = to _ e (take-reached q f t out s a (gives-some f t s d))
-      go (finishing i b d k e) = to _ e same
-      go (waiting i b d k e) = to _ e same
+  line-reached : (out : List Pair) (s : Session) (x : Step) → Reached q f t out s → Changed f t s x → Reached q f t (out ++ broughtBy (x .answer) []) (x .session)
+  line-reached out s x a (kept e b r) = subst₂ (Reached q f t) (sym (append-nil out) ∙ ap (λ o. out ++ o) (sym b)) (sym e) a
+  line-reached out s x a (deeper d e) = subst (λ x. Reached q f t (out ++ broughtBy (x .answer) []) (x .session)) (sym e) (subst (λ o. Reached q f t o (readBlock f t s)) (sym (append-nil out)) (read-reached (fieldNext f t s) q f t g h size out s a))
+  line-reached out s x a (fewer d e) = subst (λ x. Reached q f t (out ++ broughtBy (x .answer) []) (x .session)) (sym e) (take-reached q f t out s a (gives-some f t s d))
 
   module _ (out : List Pair) (s : Session) (l : Line) (lines : List Line) (a : Reached q f t out s) (w : Follows f t s (l ∷ lines)) where
-    pub line-happened : Happened f t s (l .call) (l .gave)
+    line-happened : Happened f t s (l .call) (l .gave)
     line-happened = happened f t (l .field) (l .trim) s (l .call) (l .gave) (w .0) (w .1)
 
+    pub line-changed : Changed f t s (l .gave)
+    line-changed = changed f t s (l .call) (l .gave) line-happened
+
     pub next-reached : Reached q f t (out ++ broughtBy (l .gave .answer) []) (l .gave .session)
-    next-reached = line-reached out s (l .call) (l .gave) a line-happened
+    next-reached = line-reached out s (l .gave) a line-changed
 
   -- all calls
   pub lines-reached : (lines : List Line) (out : List Pair) (s : Session) → Reached q f t out s → Follows f t s lines → Reached q f t (out ++ outs lines) (lastRecord s lines)
@@ -83,25 +74,16 @@ module _ (q : Query) (f t : List ℤ) (g : legal f ≡ true) (h : legal t ≡ tr
   lines-reached (l ∷ lines) out s a w = subst (λ o. Reached q f t o (lastRecord (l .gave .session) lines)) (append-assoc out (broughtBy (l .gave .answer) []) (outs lines) ∙ ap (λ o. out ++ o) (sym (brought-front (l .gave .answer) (outs lines)))) (lines-reached lines (out ++ broughtBy (l .gave .answer) []) (l .gave .session) (next-reached out s l lines a w) (w .2))
 
   -- neither depth falls
-  line-grows : (out : List Pair) (s : Session) (c : Call) (x : Step) → Reached q f t out s → Happened f t s c x → (s .depth .field .0 ≤ x .session .depth .field .0) × (s .depth .trim .0 ≤ x .session .depth .trim .0)
+  line-grows : (out : List Pair) (s : Session) (x : Step) → Reached q f t out s → Changed f t s x → (s .depth .field .0 ≤ x .session .depth .field .0) × (s .depth .trim .0 ≤ x .session .depth .trim .0)
   unfolding movedOut
-  line-grows out s c x a o = go o
-    where
-      to : (y : Step) → x ≡ y → (s .depth .field .0 ≤ y .session .depth .field .0) × (s .depth .trim .0 ≤ y .session .depth .trim .0) → (s .depth .field .0 ≤ x .session .depth .field .0) × (s .depth .trim .0 ≤ x .session .depth .trim .0)
-      to y e r = subst (λ y. (s .depth .field .0 ≤ y .session .depth .field .0) × (s .depth .trim .0 ≤ y .session .depth .trim .0)) (sym e) r
-
-      go : Happened f t s c x → (s .depth .field .0 ≤ x .session .depth .field .0) × (s .depth .trim .0 ≤ x .session .depth .trim .0)
-      go (refused n z e) = to _ e (omega arith)
-      go (settling i b d e) = to _ e (omega arith)
-      go (going i b d k e) = to _ e (read-grows (fieldNext f t s) f t s (omega (arith, a .field-depth, a .field-rows)) (omega (arith, a .trim-depth, a .trim-rows)))
-      go (giving i b d e) = to _ e (omega arith)
-      go (finishing i b d k e) = to _ e (omega arith)
-      go (waiting i b d k e) = to _ e (omega arith)
+  line-grows out s x a (kept e b r) = omega (arith, ap (λ s. s .depth .field .0) e, ap (λ s. s .depth .trim .0) e)
+  line-grows out s x a (deeper d e) = subst (λ x. (s .depth .field .0 ≤ x .session .depth .field .0) × (s .depth .trim .0 ≤ x .session .depth .trim .0)) (sym e) (read-grows (fieldNext f t s) f t s (omega (arith, a .field-depth, a .field-rows)) (omega (arith, a .trim-depth, a .trim-rows)))
+  line-grows out s x a (fewer d e) = omega (arith, ap (λ x. x .session .depth .field .0) e, ap (λ x. x .session .depth .trim .0) e)
 
   lines-grow : (lines : List Line) (out : List Pair) (s : Session) → Reached q f t out s → Follows f t s lines → (s .depth .field .0 ≤ lastRecord s lines .depth .field .0) × (s .depth .trim .0 ≤ lastRecord s lines .depth .trim .0)
   lines-grow [] out s a w = omega arith
   lines-grow (l ∷ lines) out s a w =
-      let x = line-grows out s (l .call) (l .gave) a (line-happened out s l lines a w) in
+      let x = line-grows out s (l .gave) a (line-changed out s l lines a w) in
       let y = lines-grow lines (out ++ broughtBy (l .gave .answer) []) (l .gave .session) (next-reached out s l lines a w) (w .2) in
       omega arith
 
@@ -110,18 +92,15 @@ module _ (q : Query) (f t : List ℤ) (g : legal f ≡ true) (h : legal t ≡ tr
     abbrev Within : Session → Type 0
     Within s = (s .depth .field .0 ≤ max (m .0) (n .0) + q .block - 1) × (s .depth .trim .0 ≤ max (m .0) (n .0) + q .block - 1)
 
-    line-within : (out : List Pair) (s : Session) (c : Call) (x : Step) → Reached q f t out s → Within s → Happened f t s c x → Within (x .session)
+    line-within : (out : List Pair) (s : Session) (x : Step) → Reached q f t out s → Within s → Changed f t s x → Within (x .session)
     unfolding movedOut
-    line-within out s c x a v (refused k z e) = subst (λ y. Within (y .session)) (sym e) v
-    line-within out s c x a v (settling i b d e) = subst (λ y. Within (y .session)) (sym e) v
-    line-within out s c x a v (going i b d k e) = subst (λ y. Within (y .session)) (sym e) (read-limit q f t g h wanted out s a d m n sure v)
-    line-within out s c x a v (giving i b d e) = subst (λ y. Within (y .session)) (sym e) v
-    line-within out s c x a v (finishing i b d k e) = subst (λ y. Within (y .session)) (sym e) v
-    line-within out s c x a v (waiting i b d k e) = subst (λ y. Within (y .session)) (sym e) v
+    line-within out s x a v (kept e b r) = subst Within (sym e) v
+    line-within out s x a v (deeper d e) = subst (λ y. Within (y .session)) (sym e) (read-limit q f t g h wanted out s a d m n sure v)
+    line-within out s x a v (fewer d e) = subst (λ y. Within (y .session)) (sym e) v
 
     pub lines-within : (lines : List Line) (out : List Pair) (s : Session) → Reached q f t out s → Within s → Follows f t s lines → Within (lastRecord s lines)
     lines-within [] out s a v w = v
-    lines-within (l ∷ lines) out s a v w = lines-within lines (out ++ broughtBy (l .gave .answer) []) (l .gave .session) (next-reached out s l lines a w) (line-within out s (l .call) (l .gave) a v (line-happened out s l lines a w)) (w .2)
+    lines-within (l ∷ lines) out s a v w = lines-within lines (out ++ broughtBy (l .gave .answer) []) (l .gave .session) (next-reached out s l lines a w) (line-within out s (l .gave) a v (line-changed out s l lines a w)) (w .2)
 
   -- the same answers
   module _ (f′ t′ : List ℤ) (g′ : legal f′ ≡ true) (h′ : legal t′ ≡ true) (m : rowCount f′ ≡ rowCount f) (n : rowCount t′ ≡ rowCount t) where
