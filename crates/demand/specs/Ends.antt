@@ -1,26 +1,23 @@
 -- Fact 6, it gets there: over the two tables no call is refused, reads are few, and in a settled session a take answers a pair or finished. Assumes legal tables.
 use mathlib.Core.Path.{_≡_, refl, sym, ap, subst, subst₂, _∙_}
-use mathlib.Core.Bool.{Bool, true, false, cond, _&&_, _||_, not}
-use mathlib.Core.List.{List, [], _∷_, _++_, List·Memᴰ, List·Memᴰ·head}
-use mathlib.Core.Logic.{_⊎_, inl, inr, ⊎-elim}
-use Prim.Native.Nat.{ℕ, zero, suc, _+_, _-_, _≤_, _<_}
+use mathlib.Core.Bool.{Bool, true, false, cond, _&&_, _||_}
+use mathlib.Core.List.{List, [], _∷_, _++_}
+use Prim.Native.Nat.{ℕ, _+_, _≤_, _<_}
 use native.Mathlib.Omega.{arith}
 use lib.Dec.{eqb, ltb}
 use lib.IntN.{ℤ}
-use lib.ListN.{take, getD}
 use borrow.Author.Tests.{eqb-true, eqb-false, eq-eqb, ltb-true, ltb-false}
 use Rattle.lists.specs.Lists.{every}
 use Rattle.lists.specs.Words.{total}
-use Rattle.lists.specs.Bools.{clash, fails, both-true, one-true, none-true}
+use Rattle.lists.specs.Bools.{clash, both-true, none-true}
 use Rattle.lists.specs.Parts.{every-at}
 use Rattle.rules.specs.declared.Session.{Session}
 use Rattle.rules.specs.declared.Step.{Step}
 use Rattle.rules.specs.declared.Pair.{Pair}
 use Rattle.rules.specs.declared.Query.{Query}
-use Rattle.rules.specs.declared.Answer.{Answer}
-use Rattle.rules.specs.declared.Answer.the-variants.{Refused, Opened, Read, Settled, Given, NotYet, Finished}
+use Rattle.rules.specs.declared.Answer.the-variants.{Read, Settled, Given, NotYet, Finished}
 use Rattle.rules.specs.Tables.{rowCount, legal}
-use Rattle.rules.specs.Session.{heldPairs, aTableIsEmpty, aDepthIsZero, bothReadOut, ceiling, secured, settled}
+use Rattle.rules.specs.Session.{heldPairs, aTableIsEmpty, bothReadOut, secured, settled}
 use Rattle.rules.specs.Read.{fieldNext, newDepth, oldDepth, readTable, readBlock}
 use Rattle.rules.specs.Take.{firstHeld, givesPair, movedOut, finished}
 use Rattle.rules.specs.Numbers.{number}

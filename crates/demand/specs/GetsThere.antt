@@ -1,5 +1,5 @@
 -- Fact 6, said of a whole sequence: it is never refused, and it gets to its end. Definitions only; the proof is in Ends.antt. Assumes nothing.
-use Prim.Native.Nat.{ℕ, _+_, _≤_}
+use Prim.Native.Nat.{_+_, _≤_}
 use mathlib.Core.Path.{_≡_}
 use mathlib.Core.Bool.{true}
 use mathlib.Core.List.{List, _∷_, _++_}

@@ -1,19 +1,17 @@
 -- What an accepted opening says of its query, and that tables of the same row counts are opened alike. Assumes nothing.
 use mathlib.Core.Path.{_≡_, refl, sym, ap, ap₂, _∙_}
-use mathlib.Core.Bool.{Bool, true, false, cond, _&&_}
+use mathlib.Core.Bool.{Bool, true, false, cond}
 use mathlib.Core.List.{List}
 use Prim.Native.Nat.{ℕ, _≤_}
 use native.Mathlib.Omega.{arith}
 use lib.Dec.{eqb, leb}
 use lib.IntN.{ℤ}
-use borrow.Author.Tests.{eqb-true, eqb-false, eq-eqb, leb-true}
+use borrow.Author.Tests.{eqb-true, leb-true}
 use Rattle.lists.specs.Bools.{both-true}
-use Rattle.rules.specs.declared.FieldRows.{FieldRows}
-use Rattle.rules.specs.declared.TrimRows.{TrimRows}
 use Rattle.rules.specs.declared.Query.{Query}
 use Rattle.rules.specs.declared.Step.{Step}
 use Rattle.rules.specs.declared.Answer.the-variants.{Refused, Opened}
-use Rattle.rules.specs.Tables.{rowCount, sizeFits, legal}
+use Rattle.rules.specs.Tables.{rowCount, legal}
 use Rattle.rules.specs.Session.{opened, zeros}
 use Rattle.rules.specs.Numbers.{unless, first, number}
 use Rattle.rules.specs.Calls.{between, queryCode, sizeCode, step, openCode, openCall}

@@ -1,13 +1,13 @@
 -- What a call of a sequence did, by what it was promised to give; and over tables alike in the rows read it gives the same. Assumes nothing.
-use mathlib.Core.Path.{_≡_, refl, sym, ap, ap₂, subst, subst₂, _∙_}
+use mathlib.Core.Path.{_≡_, refl, sym, ap, subst, subst₂, _∙_}
 use mathlib.Core.Bool.{Bool, true, false, cond, _&&_}
 use mathlib.Core.List.{List, []}
-use Prim.Native.Nat.{ℕ, _≤_, _<_}
+use Prim.Native.Nat.{ℕ, _≤_}
 use native.Mathlib.Omega.{arith}
 use lib.Dec.{eqb, ltb}
 use lib.IntN.{ℤ}
 use borrow.Author.Tests.{eqb-true, eqb-false, eq-eqb, ltb-true}
-use Rattle.lists.specs.Bools.{clash, fails, both-true}
+use Rattle.lists.specs.Bools.{fails, both-true}
 use Rattle.rules.specs.declared.Session.{Session}
 use Rattle.rules.specs.declared.Step.{Step}
 use Rattle.rules.specs.declared.Pair.{Pair}
@@ -15,11 +15,10 @@ use Rattle.rules.specs.declared.Query.{Query}
 use Rattle.rules.specs.declared.Answer.the-variants.{Refused, Read, Settled, Given, NotYet, Finished}
 use Rattle.rules.specs.Tables.{rowCount, legal}
 use Rattle.rules.specs.Session.{settled, secured, aTableIsEmpty}
-use Rattle.rules.specs.Read.{fieldNext, newDepth, readTable, readBlock}
+use Rattle.rules.specs.Read.{fieldNext, readTable, readBlock}
 use Rattle.rules.specs.Take.{firstHeld, givesPair, movedOut, finished}
 use Rattle.rules.specs.Numbers.{number}
 use Rattle.rules.specs.Calls.{callCode, newBlockCode, step, readCall, takeCall}
-use Rattle.instance.specs.Pairs.{Fits}
 use Rattle.instance.specs.Keeping.{Reached}
 use Rattle.instance.specs.Taking.{first-inside, empty-none}
 use Rattle.instance.specs.Depths.{read-field, read-trim, read-grows}

@@ -1,22 +1,19 @@
 -- Demand 3, proved. Assumes nothing.
 use mathlib.Core.Path.{_≡_, refl, sym, ap, subst, _∙_}
 use mathlib.Core.Bool.{true}
-use mathlib.Core.List.{List, [], _∷_, _++_, map, List·Memᴰ, List·Memᴰ·head, List·Memᴰ·tail, Memᴰ·cast}
-use mathlib.Core.Logic.{_⊎_, inl, inr, ⊎-elim}
+use mathlib.Core.List.{List, [], _∷_, map, List·Memᴰ, List·Memᴰ·head, List·Memᴰ·tail, Memᴰ·cast}
+use mathlib.Core.Logic.{inl, inr, ⊎-elim}
 use Prim.Native.Nat.{ℕ, _+_, _-_, _≤_, max}
 use native.Mathlib.Omega.{arith}
 use lib.IntN.{ℤ}
-use Rattle.rules.specs.declared.FieldRows.{FieldRows}
-use Rattle.rules.specs.declared.TrimRows.{TrimRows}
 use Rattle.rules.specs.declared.Session.{Session}
 use Rattle.rules.specs.declared.Step.{Step}
 use Rattle.rules.specs.declared.Pair.{Pair}
 use Rattle.rules.specs.declared.Query.{Query}
 use Rattle.rules.specs.declared.Answer.the-variants.{Given, Finished}
-use Rattle.rules.specs.Tables.{rowCount, legal, row, pairSum}
+use Rattle.rules.specs.Tables.{legal}
 use Rattle.rules.specs.Session.{opened}
 use Rattle.rules.specs.Take.{firstHeld, givesPair}
-use Rattle.rules.specs.Sure.{Sure}
 use Rattle.rules.specs.Calls.{queryCode}
 use Rattle.instance.specs.Pairs.{Fits}
 use Rattle.instance.specs.Keeping.{Reached}

@@ -2,11 +2,9 @@
 use mathlib.Core.Path.{_≡_, refl, sym, ap, ap₂, subst, subst₂, _∙_}
 use mathlib.Core.Bool.{Bool, true, false, cond}
 use mathlib.Core.List.{List, [], _∷_, _++_, map, append-assoc, append-nil}
-use Prim.Native.Nat.{ℕ, _+_, _-_, _≤_, max}
+use Prim.Native.Nat.{_+_, _-_, _≤_, max}
 use native.Mathlib.Omega.{arith}
-use lib.Dec.{eqb}
 use lib.IntN.{ℤ}
-use Rattle.lists.specs.Bools.{clash}
 use Rattle.rules.specs.declared.FieldRows.{FieldRows}
 use Rattle.rules.specs.declared.TrimRows.{TrimRows}
 use Rattle.rules.specs.declared.Session.{Session}
@@ -16,17 +14,15 @@ use Rattle.rules.specs.declared.Query.{Query}
 use Rattle.rules.specs.declared.Answer.{Answer}
 use Rattle.rules.specs.declared.Answer.the-variants.{Refused, Opened, Read, Settled, Given, NotYet, Finished}
 use Rattle.rules.specs.Tables.{rowCount, legal}
-use Rattle.rules.specs.Session.{secured}
 use Rattle.rules.specs.Read.{fieldNext, readBlock}
-use Rattle.rules.specs.Take.{firstHeld, givesPair, movedOut}
+use Rattle.rules.specs.Take.{movedOut}
 use Rattle.rules.specs.Sure.{Sure}
-use Rattle.rules.specs.Numbers.{number}
 use Rattle.instance.specs.Keeping.{Reached}
 use Rattle.instance.specs.Reading.{open-reached, read-reached}
 use Rattle.instance.specs.Taking.{take-reached}
 use Rattle.instance.specs.Depths.{read-grows, read-limit}
 use Rattle.instance.specs.SameRows.{SameRows, same-less}
-use Rattle.demand.specs.Demand.{Call, Line, Sequence, promised, isAccepted, Follows, broughtBy, outs, lastRecord, byRules, over}
+use Rattle.demand.specs.Demand.{Line, Sequence, promised, isAccepted, Follows, broughtBy, outs, lastRecord, byRules, over}
 use Rattle.demand.specs.Steps.{Happened, Changed, kept, deeper, fewer}
 use Rattle.demand.specs.Openings.{query-wanted, opening-query, opening-is}
 use Rattle.demand.specs.Outcomes.{gives-some, happened, changed, same-call}

@@ -1,6 +1,6 @@
 -- Over legal tables the checks of rows and sizes pass, so only the record could be refused. Assumes nothing.
-use mathlib.Core.Path.{_≡_, refl, sym, ap, subst, _∙_}
-use mathlib.Core.Bool.{Bool, true, false, cond, _&&_}
+use mathlib.Core.Path.{_≡_, refl, sym, subst}
+use mathlib.Core.Bool.{Bool, true, false, cond}
 use mathlib.Core.List.{List}
 use Prim.Native.Nat.{ℕ, zero, suc, _+_, _-_, _≤_, _<_, min}
 use native.Mathlib.Omega.{arith}
@@ -9,7 +9,7 @@ use lib.Dec.{eqb}
 use lib.IntN.{ℤ}
 use borrow.Author.Tests.{eqb-true, eqb-false, eq-eqb}
 use Rattle.rules.specs.declared.Session.{Session}
-use Rattle.rules.specs.Tables.{rowCount, rowInRange, rowInOrder, sizeFits, legal}
+use Rattle.rules.specs.Tables.{rowCount, rowInRange, rowInOrder, legal}
 use Rattle.rules.specs.Read.{fieldNext, oldDepth, newDepth}
 use Rattle.rules.specs.Numbers.{unless, first, badRecord, rowLimit, rowOrder}
 use Rattle.rules.specs.Calls.{rowCode, rowsCode, sameSizeCode, recordFits, recordCode, lentCode, callCode, newBlockCode}

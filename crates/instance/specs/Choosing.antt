@@ -1,9 +1,9 @@
 -- The table that is read next is the join's choice, so no read goes past a sure reading by a block or more. Assumes legal tables.
-use mathlib.Core.Path.{_≡_, refl, sym, ap, subst, _∙_}
+use mathlib.Core.Path.{_≡_, refl, ap, _∙_}
 use mathlib.Core.Bool.{Bool, true, false, cond, _&&_, _||_}
 use mathlib.Core.List.{List}
-use mathlib.Core.Logic.{_⊎_, inl, inr, ⊎-elim}
-use Prim.Native.Nat.{ℕ, _+_, _-_, _≤_, _<_, max, min}
+use mathlib.Core.Logic.{inl, inr, ⊎-elim}
+use Prim.Native.Nat.{ℕ, _+_, _≤_, _<_, max}
 use native.Mathlib.Omega.{arith}
 use lib.Dec.{leb, ltb, eqb}
 use lib.IntN.{ℤ}
@@ -18,15 +18,14 @@ use Rattle.rules.specs.declared.TrimRows.{TrimRows}
 use Rattle.rules.specs.declared.Pair.{Pair}
 use Rattle.rules.specs.declared.Query.{Query}
 use Rattle.rules.specs.declared.Session.{Session}
-use Rattle.rules.specs.Tables.{rowCount, legal, Row}
+use Rattle.rules.specs.Tables.{legal}
 use Rattle.rules.specs.Session.{heldPairs, fieldReadOut, trimReadOut, bothReadOut, aTableIsEmpty, secured, settled}
-use Rattle.rules.specs.Read.{scoreDrop, fieldNext, rowsBetween, blockCount, meetBlocks, readTo, oldDepth, newDepth, readTable, readBlock}
+use Rattle.rules.specs.Read.{scoreDrop, fieldNext, oldDepth, newDepth}
 use Rattle.rules.specs.Sure.{Sure}
 use Rattle.instance.specs.Rows.{rowsOf, side, near}
 use Rattle.instance.specs.RowsLaws.{length-rows, legal-rows, laws}
 use Rattle.instance.specs.SureRows.{sure-rows}
-use Rattle.instance.specs.Keeping.{Reached, SameButHeld}
-use Rattle.instance.specs.Blocks.{blocks-same}
+use Rattle.instance.specs.Keeping.{Reached}
 use Rattle.instance.specs.Securing.{field-ended, trim-ended, first-field, last-field, first-trim, last-trim, unsettled-short}
 
 -- what an unsettled session is not

@@ -1,13 +1,12 @@
 -- The rows that an accepted call has looked at are legal tables by themselves. Assumes nothing.
-use mathlib.Core.Path.{_≡_, refl, sym, ap, ap₂, subst, _∙_}
+use mathlib.Core.Path.{_≡_, sym}
 use mathlib.Core.Bool.{Bool, true, false, cond, _&&_, _||_}
-use mathlib.Core.List.{List, List·Memᴰ}
-use Prim.Native.Nat.{ℕ, zero, suc, _+_, _*_, _-_, _/_, _%_, _≤_, _<_, min}
+use mathlib.Core.List.{List}
+use Prim.Native.Nat.{ℕ, _+_, _*_, _-_, _%_, _≤_, _<_}
 use native.Mathlib.Omega.{arith}
 use native.Mathlib.Decide.{decLe}
 use lib.Dec.{leb, eqb, lit≤}
 use lib.IntN.{ℤ}
-use lib.Signed.{leZ}
 use lib.ListN.{length, take, drop}
 use lib.Seq.{take-take, length-take-le}
 use borrow.Author.Tests.{leb-true, eqb-true}
@@ -15,11 +14,11 @@ use Rattle.lists.specs.Lists.{every, ranked}
 use Rattle.lists.specs.Bools.{both-true}
 use Rattle.rules.specs.declared.Query.{Query}
 use Rattle.rules.specs.declared.Session.{Session}
-use Rattle.rules.specs.Tables.{num, rowCount, inRange, rowInRange, rowInOrder, sizeFits, legal, ahead}
+use Rattle.rules.specs.Tables.{rowCount, rowInRange, rowInOrder, sizeFits, legal, ahead}
 use Rattle.rules.specs.Session.{heldPairs}
-use Rattle.rules.specs.Read.{blockCount, fieldNext, oldDepth, newDepth}
+use Rattle.rules.specs.Read.{blockCount}
 use Rattle.rules.specs.Numbers.{unless, first, tableSize}
-use Rattle.rules.specs.Calls.{between, queryCode, sameSizeCode, rowsCode, countsFit, pairFits, markFits, isZeros, recordFits, recordCode, lentCode, callCode, newBlockCode}
+use Rattle.rules.specs.Calls.{between, queryCode, sameSizeCode, rowsCode, countsFit, pairFits, markFits, isZeros, recordFits, recordCode, lentCode, callCode}
 use Rattle.instance.specs.RowsLaws.{legal-of}
 use Rattle.instance.specs.Accepting.{first-passed, unless-passed, rows-passed, accepted-fits}
 use Rattle.instance.specs.SameRows.{SameRows, same-num}

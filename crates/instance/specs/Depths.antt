@@ -1,8 +1,8 @@
 -- The depths after a read: they never fall, and stay within a block of every sure reading. Assumes legal tables where it says so.
-use mathlib.Core.Path.{_≡_, refl, sym, ap, subst, subst₂, _∙_}
+use mathlib.Core.Path.{_≡_, refl, ap}
 use mathlib.Core.Bool.{Bool, true, false, cond}
 use mathlib.Core.List.{List}
-use Prim.Native.Nat.{ℕ, _+_, _-_, _≤_, _<_, max, min}
+use Prim.Native.Nat.{_+_, _-_, _≤_, max}
 use native.Mathlib.Omega.{arith}
 use lib.IntN.{ℤ}
 use Rattle.rules.specs.declared.FieldRows.{FieldRows}
@@ -10,7 +10,7 @@ use Rattle.rules.specs.declared.TrimRows.{TrimRows}
 use Rattle.rules.specs.declared.Pair.{Pair}
 use Rattle.rules.specs.declared.Query.{Query}
 use Rattle.rules.specs.declared.Session.{Session}
-use Rattle.rules.specs.Tables.{rowCount, legal}
+use Rattle.rules.specs.Tables.{legal}
 use Rattle.rules.specs.Session.{settled}
 use Rattle.rules.specs.Read.{fieldNext, rowsBetween, blockCount, readTo, oldDepth, newDepth, readTable, readBlock}
 use Rattle.rules.specs.Sure.{Sure}

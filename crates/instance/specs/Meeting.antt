@@ -1,28 +1,25 @@
 -- Meeting blocks keeps what is held, skipped ones or not. Assumes legal tables.
-use mathlib.Core.Path.{_≡_, refl, sym, ap, ap₂, subst, subst₂, _∙_}
-use mathlib.Core.Bool.{Bool, true, false, cond, _&&_}
-use mathlib.Core.List.{List, [], _∷_, _++_, List·Memᴰ, List·Memᴰ·head, List·Memᴰ·tail, List·Memᴰ·cases-cons, List·Memᴰ·not-nil}
+use mathlib.Core.Path.{_≡_, refl, sym, ap, subst}
+use mathlib.Core.Bool.{Bool, true, false, cond}
+use mathlib.Core.List.{List, [], _∷_, _++_, List·Memᴰ, List·Memᴰ·cases-cons, List·Memᴰ·not-nil}
 use mathlib.Core.Logic.{_⊎_, inl, inr, ⊎-elim, _↔_}
-use Prim.Native.Nat.{ℕ, zero, suc, _+_, _*_, _-_, _/_, _≤_, _<_, min}
+use Prim.Native.Nat.{_+_, _-_, _≤_, _<_}
 use native.Mathlib.Omega.{arith}
 use lib.Dec.{eqb, ltb}
-use lib.IntN.{ℤ}
 use lib.ListN.{length, take, replicate}
 use lib.Seq.{take-append-seam}
 use borrow.Author.Tests.{eqb-true, ltb-true}
 use Rattle.lists.specs.Lists.{sort, ranked}
 use Rattle.lists.specs.Bools.{both-true}
-use Rattle.lists.specs.Words.{Distinct}
 use Rattle.join.specs.Held.{Holds}
-use Rattle.join.specs.HeldLaws.{skip-same, holds-same, holds-join, held-ranked}
+use Rattle.join.specs.HeldLaws.{skip-same, holds-join, held-ranked}
 use Rattle.rules.specs.declared.Pair.{Pair}
 use Rattle.rules.specs.declared.Session.{Session}
-use Rattle.rules.specs.Tables.{rowCount, legal, ahead, Block, qualifying}
+use Rattle.rules.specs.Tables.{ahead, Block, qualifying}
 use Rattle.rules.specs.Session.{noPair, places, heldPairs, firstScore}
-use Rattle.rules.specs.Read.{rowsBetween, blockAt, lowest, skipped, bestHeld, holding, meet, meetBlocks}
-use Rattle.instance.specs.Pairs.{Fits, Between, Region}
-use Rattle.instance.specs.PairsLaws.{pair-rank, qualifying-distinct, mem-qualifying, between-low}
-use Rattle.instance.specs.Keeping.{Keeping, SameButHeld, Met, ownRow, otherRow}
+use Rattle.rules.specs.Read.{lowest, skipped, bestHeld, holding, meet}
+use Rattle.instance.specs.PairsLaws.{pair-rank, qualifying-distinct}
+use Rattle.instance.specs.Keeping.{Keeping, SameButHeld}
 
 -- no held sum is below the lowest
 lowest-least : (p : Pair) (l : List Pair) → List·Memᴰ p l → lowest l ≤ p .sum

@@ -1,21 +1,20 @@
 -- The qualifying pairs of two blocks are those between their rows, each once, and none has a higher sum than the two first rows. Assumes nothing.
-use mathlib.Core.Path.{_≡_, refl, sym, ap, ap₂, subst, subst₂, _∙_}
-use mathlib.Core.Bool.{Bool, true, false}
-use mathlib.Core.List.{List, [], _∷_, map, List·Memᴰ, Memᴰ·cast, Memᴰ·map, Memᴰ·of-map}
+use mathlib.Core.Path.{_≡_, sym, ap, ap₂, subst, subst₂, _∙_}
+use mathlib.Core.Bool.{Bool, true}
+use mathlib.Core.List.{List, map, List·Memᴰ, Memᴰ·cast, Memᴰ·map, Memᴰ·of-map}
 use mathlib.Core.Logic.{_↔_, inl}
-use Prim.Native.Nat.{ℕ, zero, suc, _+_, _*_, _-_, _/_, _≤_, _<_, min}
+use Prim.Native.Nat.{ℕ, _+_, _*_, _-_, _≤_, _<_}
 use native.Mathlib.Omega.{arith}
-use lib.Dec.{lit≤, ltb}
+use lib.Dec.{lit≤}
 use lib.IntN.{ℤ, pos}
-use lib.ListN.{length, getD, take, drop, length-take, length-drop}
+use lib.ListN.{getD, drop, length-take, length-drop}
 use lib.Seq.{getD-take, getD-drop}
-use borrow.Author.Tests.{lt-ltb}
 use Rattle.lists.specs.Lists.{keep, range, each}
-use Rattle.lists.specs.Words.{Distinct, Strict}
+use Rattle.lists.specs.Words.{Distinct}
 use Rattle.lists.specs.Parts.{mem-range, range-distinct, mem-keep, keep-distinct, mem-each, each-distinct, map-distinct}
 use Rattle.join.specs.Held.{Rank}
 use Rattle.rules.specs.declared.Pair.{Pair}
-use Rattle.rules.specs.Tables.{num, rowCount, legal, natOf, Row, row, part, qualifies, pairSum, ahead, Block, pairAt, qualifying}
+use Rattle.rules.specs.Tables.{num, rowCount, legal, natOf, row, part, qualifies, pairSum, ahead, Block, pairAt, qualifying}
 use Rattle.rules.specs.Session.{firstScore}
 use Rattle.rules.specs.Read.{rowsBetween}
 use Rattle.rules.specs.Ranking.{Before, before-ahead, ahead-trans, ahead-asym, ahead-tri}

@@ -1,20 +1,18 @@
 -- Opening reaches a session's first record, and a read goes on from any. Assumes legal tables.
-use mathlib.Core.Path.{_≡_, refl, sym, ap, subst, subst₂, _∙_}
+use mathlib.Core.Path.{_≡_, refl, sym, ap, subst, _∙_}
 use mathlib.Core.Bool.{Bool, true, false, cond}
 use mathlib.Core.List.{List, []}
 use mathlib.Core.Logic.{_⊎_, inl, inr, ⊎-elim, _↔_}
-use Prim.Native.Nat.{ℕ, _+_, _-_, _≤_, _<_, min}
+use Prim.Native.Nat.{ℕ, _+_, _≤_, min}
 use native.Mathlib.Omega.{arith}
 use native.Mathlib.Decide.{decLe}
 use lib.IntN.{ℤ}
 use Rattle.join.specs.Held.{Holds}
-use Rattle.join.specs.HeldLaws.{holds-none, holds-same}
-use Rattle.rules.specs.declared.FieldRows.{FieldRows}
-use Rattle.rules.specs.declared.TrimRows.{TrimRows}
+use Rattle.join.specs.HeldLaws.{holds-none}
 use Rattle.rules.specs.declared.Pair.{Pair}
 use Rattle.rules.specs.declared.Query.{Query}
 use Rattle.rules.specs.declared.Session.{Session}
-use Rattle.rules.specs.Tables.{rowCount, legal, ahead, Block}
+use Rattle.rules.specs.Tables.{rowCount, legal, ahead}
 use Rattle.rules.specs.Session.{heldPairs, opened}
 use Rattle.rules.specs.Read.{rowsBetween, blockCount, meetBlocks, readTo, oldDepth, newDepth, readTable}
 use Rattle.instance.specs.Pairs.{Region}

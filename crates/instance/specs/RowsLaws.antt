@@ -1,22 +1,22 @@
 -- Legal tables and their lists of rows correspond one to one, and keep the laws of the join. Assumes nothing.
 use mathlib.Core.Path.{_≡_, refl, sym, ap, subst, subst₂, _∙_}
 use mathlib.Core.Logic.{⊎-elim}
-use mathlib.Core.Bool.{Bool, true, false, cond, _&&_, _||_}
-use mathlib.Core.List.{List, [], _∷_, map}
-use Prim.Native.Nat.{ℕ, zero, suc, _+_, _*_, _-_, _/_, _%_, _≤_, _<_, min}
+use mathlib.Core.Bool.{Bool, true, _&&_}
+use mathlib.Core.List.{List, [], _∷_}
+use Prim.Native.Nat.{ℕ, zero, suc, _+_, _*_, _-_, _/_, _%_, _≤_, _<_}
 use native.Mathlib.Omega.{arith}
 use native.Mathlib.Decide.{le-ind}
-use lib.Dec.{leb, ltb, eqb, lit≤}
-use lib.IntN.{ℤ, pos, negsuc, natAbs, subℕ, _-ℤ_}
+use lib.Dec.{leb, eqb, lit≤}
+use lib.IntN.{ℤ, pos, negsuc}
 use lib.Signed.{leZ}
-use lib.ListN.{length, getD, take, drop, length-take, List·getD-eq-default}
-use lib.Seq.{ext-getD, getD-take, length-take-le, take-nil}
+use lib.ListN.{length, getD, take}
+use lib.Seq.{ext-getD, take-nil}
 use borrow.Author.Tests.{leb-true, le-leb, eqb-true, eq-eqb, ne-eqb, le-ltb}
 use Rattle.lists.specs.Lists.{range, every}
 use Rattle.lists.specs.Bools.{clash, both-true, one-true}
 use Rattle.lists.specs.Parts.{mem-range, map-range-at, length-map-range, every-at, every-of}
 use Rattle.join.specs.Join.{Laws, flip}
-use Rattle.join.specs.Plain.{Rows, PlainLegal, plain, Matches}
+use Rattle.join.specs.Plain.{PlainLegal, Matches}
 use Rattle.join.specs.PlainLaws.{plain-laws}
 use Rattle.rules.specs.Tables.{num, rowCount, within, inRange, rowInRange, rowInOrder, sizeFits, legal, natOf, Row, row, gap, squaredDistance, qualifies}
 use Rattle.instance.specs.Rows.{rowsOf, blankRow, GoodRow, rows, side, near, flat}

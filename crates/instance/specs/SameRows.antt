@@ -1,23 +1,23 @@
 -- Every rule of read and take looks only at row counts and at the rows up to the depths that it leaves. Assumes nothing.
-use mathlib.Core.Path.{_≡_, refl, sym, ap, ap₂, subst, _∙_}
+use mathlib.Core.Path.{_≡_, refl, sym, ap, ap₂, _∙_}
 use mathlib.Core.Bool.{Bool, true, false, cond, _&&_, _||_, not}
-use mathlib.Core.List.{List, [], _∷_, _++_}
-use Prim.Native.Nat.{ℕ, zero, suc, _+_, _*_, _-_, _≤_, _<_, min, max}
+use mathlib.Core.List.{List, [], _∷_}
+use Prim.Native.Nat.{ℕ, zero, suc, _+_, _*_, _-_, _≤_, _<_, min}
 use native.Mathlib.Omega.{arith}
 use native.Mathlib.Decide.{decLe}
 use lib.Dec.{leb, ltb, eqb, lit≤}
 use lib.IntN.{ℤ, pos}
-use lib.ListN.{length, getD, take, drop}
-use lib.Seq.{getD-take, take-take, take-nil, drop-nil}
-use borrow.Author.Tests.{eqb-true, eqb-false}
+use lib.ListN.{getD, take, drop}
+use lib.Seq.{getD-take, take-take, take-nil}
+use borrow.Author.Tests.{eqb-false}
 use Rattle.lists.specs.Lists.{every}
-use Rattle.lists.specs.Bools.{clash, none-true}
+use Rattle.lists.specs.Bools.{none-true}
 use Rattle.lists.specs.Parts.{every-same}
 use Rattle.rules.specs.declared.Pair.{Pair}
 use Rattle.rules.specs.declared.Session.{Session}
-use Rattle.rules.specs.Tables.{num, natOf, Row, row, part, Block}
+use Rattle.rules.specs.Tables.{num, natOf, row, part, Block}
 use Rattle.rules.specs.Session.{heldPairs, firstScore, lastScore, fieldReadOut, trimReadOut, bothReadOut, aTableIsEmpty, aDepthIsZero, ceiling, secured, settled}
-use Rattle.rules.specs.Read.{scoreDrop, fieldNext, rowsBetween, blockCount, blockAt, meet, meetBlocks, readTo, oldDepth, newDepth, readTable}
+use Rattle.rules.specs.Read.{scoreDrop, fieldNext, rowsBetween, blockCount, meet, meetBlocks, readTo, oldDepth, newDepth, readTable}
 
 -- two tables with the same first n rows
 abbrev pub SameRows : ℕ → List ℤ → List ℤ → Type 0

@@ -1,42 +1,36 @@
 -- Document 01's ceiling and choice of table are the join's, and an unsettled session lacks k sums at its ceiling. Assumes legal tables.
 use mathlib.Core.Path.{_≡_, refl, sym, ap, ap₂, subst, subst₂, _∙_}
 use mathlib.Core.Bool.{Bool, true, false, cond, _&&_, _||_, not}
-use mathlib.Core.List.{List, [], _∷_, map, List·Memᴰ, Memᴰ·map}
+use mathlib.Core.List.{List, map, List·Memᴰ, Memᴰ·map}
 use mathlib.Core.Logic.{_⊎_, inl, inr, ⊎-elim}
-use Prim.Native.Nat.{ℕ, _+_, _*_, _-_, _≤_, _<_, max, min}
+use Prim.Native.Nat.{ℕ, _+_, _-_, _≤_, _<_}
 use native.Mathlib.Omega.{arith}
 use native.Mathlib.Decide.{decLe}
-use lib.Dec.{leb, ltb, eqb}
+use lib.Dec.{leb, eqb}
 use lib.IntN.{ℤ}
 use lib.ListN.{length, take}
-use borrow.Author.Tests.{leb-true, leb-false, le-leb, lt-leb, ltb-true, ltb-false, eqb-true, eqb-false, eq-eqb, ne-eqb}
+use borrow.Author.Tests.{leb-true, leb-false, le-leb, lt-leb, eqb-true, eqb-false, eq-eqb, ne-eqb}
 use Rattle.lists.specs.Lists.{atLeast, every}
-use Rattle.lists.specs.Bools.{clash, fails, both-true, none-true}
-use Rattle.lists.specs.Words.{All}
+use Rattle.lists.specs.Bools.{clash, none-true}
 use Rattle.lists.specs.Sorts.{all-at}
 use Rattle.lists.specs.Parts.{every-of}
 use Rattle.join.specs.Join as Join
 use Rattle.join.specs.Join.{sumsOf, weightAt, region}
 use Rattle.join.specs.Ceiling.{outside-low}
-use Rattle.join.specs.Limit.{row-limit, row-limit-trim}
-use Rattle.join.specs.Held.{Holds}
 use Rattle.join.specs.HeldLaws.{held-cover}
-use Rattle.rules.specs.declared.FieldRows.{FieldRows}
-use Rattle.rules.specs.declared.TrimRows.{TrimRows}
 use Rattle.rules.specs.declared.Pair.{Pair}
 use Rattle.rules.specs.declared.Query.{Query}
 use Rattle.rules.specs.declared.Session.{Session}
-use Rattle.rules.specs.Tables.{rowCount, legal, Row, row, part, ahead, qualifies, pairSum, qualifying}
+use Rattle.rules.specs.Tables.{rowCount, legal, Row, row, part, ahead, pairSum, qualifying}
 use Rattle.rules.specs.Session.{heldPairs, firstScore, lastScore, fieldReadOut, trimReadOut, bothReadOut, aTableIsEmpty, aDepthIsZero, ceiling, secured, settled}
-use Rattle.rules.specs.Read.{rowsBetween, scoreDrop, fieldNext}
+use Rattle.rules.specs.Read.{rowsBetween}
 use Rattle.rules.specs.Take.{firstHeld}
-use Rattle.rules.specs.Sure.{Sure}
 use Rattle.instance.specs.Rows.{rowsOf, side, near}
 use Rattle.instance.specs.RowsLaws.{length-rows, rows-at, legal-rows, rows-take, laws}
-use Rattle.instance.specs.SureRows.{sums-rows, sure-rows}
+use Rattle.instance.specs.SureRows.{sums-rows}
 use Rattle.instance.specs.Pairs.{Fits, Region}
 use Rattle.instance.specs.PairsLaws.{pair-rank, qualifying-distinct, mem-qualifying}
-use Rattle.instance.specs.Keeping.{Keeping, Reached}
+use Rattle.instance.specs.Keeping.{Reached}
 use Rattle.instance.specs.Taking.{read-out-region, first-inside, first-best}
 
 -- a reading within the table has ended it exactly if it has all rows

@@ -1,19 +1,19 @@
 -- Document 01's sure reading is the join's: of flat tables and of their rows. Assumes nothing.
-use mathlib.Core.Path.{_≡_, refl, sym, ap, ap₂, subst, _∙_}
+use mathlib.Core.Path.{_≡_, sym, ap, ap₂, _∙_}
 use mathlib.Core.Bool.{Bool, true}
 use mathlib.Core.List.{List, map, map-map}
 use mathlib.Core.Logic.{_↔_}
-use Prim.Native.Nat.{ℕ, _+_, _*_, _≤_}
+use Prim.Native.Nat.{ℕ, _+_, _*_}
 use native.Mathlib.Omega.{arith}
 use lib.IntN.{ℤ}
-use lib.ListN.{length, take}
+use lib.ListN.{take}
 use Rattle.lists.specs.Lists.{keep, range, each, best}
 use Rattle.lists.specs.Parts.{map-each, each-map, keep-map}
 use Rattle.join.specs.Join as Join
 use Rattle.join.specs.Join.{sumsOf}
 use Rattle.rules.specs.declared.FieldRows.{FieldRows}
 use Rattle.rules.specs.declared.TrimRows.{TrimRows}
-use Rattle.rules.specs.Tables.{rowCount, legal, Row, row, qualifies, pairSum, Block, pairAt, qualifying}
+use Rattle.rules.specs.Tables.{rowCount, legal, Row, row, pairSum, Block, pairAt, qualifying}
 use Rattle.rules.specs.Sure.{whole, qualifyingSums, Begins, Sure}
 use Rattle.instance.specs.Rows.{rowsOf, side, near, flat}
 use Rattle.instance.specs.RowsLaws.{length-rows, legal-rows, rows-flat, flat-rows, flat-take, flat-legal}

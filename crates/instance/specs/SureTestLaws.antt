@@ -1,24 +1,22 @@
 -- The test says what a sure reading is: fact 3 of document 01's tables. Assumes legal tables.
-use mathlib.Core.Path.{_≡_, refl, sym, ap, ap₂, subst, _∙_}
-use mathlib.Core.Bool.{Bool, true, false, cond, _&&_, _||_}
-use mathlib.Core.List.{List, map}
+use mathlib.Core.Path.{_≡_, refl, sym, ap, ap₂, _∙_}
+use mathlib.Core.Bool.{Bool, true, false}
+use mathlib.Core.List.{List}
 use mathlib.Core.Logic.{_↔_}
-use Prim.Native.Nat.{ℕ, _+_, _*_, _-_, _≤_, _<_, max}
+use Prim.Native.Nat.{ℕ, _*_, _-_, _≤_}
 use native.Mathlib.Omega.{arith}
 use lib.Dec.{leb, eqb}
 use lib.IntN.{ℤ}
-use lib.ListN.{length, take}
+use lib.ListN.{take}
 use borrow.Author.Tests.{le-leb, lt-leb, eqb-true, eqb-false}
-use Rattle.lists.specs.Lists.{atLeast}
 use Rattle.join.specs.Join as Join
 use Rattle.join.specs.Join.{sumsOf, weightAt, sureTest}
 use Rattle.join.specs.Sure.{sure-is}
 use Rattle.rules.specs.declared.FieldRows.{FieldRows}
 use Rattle.rules.specs.declared.TrimRows.{TrimRows}
 use Rattle.rules.specs.Tables.{rowCount, legal, row}
-use Rattle.rules.specs.Session.{firstScore, lastScore}
 use Rattle.rules.specs.Sure.{whole, qualifyingSums, Sure}
-use Rattle.instance.specs.Rows.{rowsOf, blankRow, side, near, flat}
+use Rattle.instance.specs.Rows.{rowsOf, side, near}
 use Rattle.instance.specs.RowsLaws.{length-rows, row-at, legal-rows, rows-take, laws}
 use Rattle.instance.specs.SureRows.{sums-rows, sure-rows}
 use Rattle.instance.specs.SureTest.{ceilingAt, isSure}

@@ -1,9 +1,9 @@
 -- A take moves the first held pair out, and finds the list complete. Assumes nothing.
 use mathlib.Core.Path.{_≡_, refl, sym, ap, subst, _∙_}
-use mathlib.Core.Bool.{Bool, true, false, _&&_, _||_}
+use mathlib.Core.Bool.{true, _&&_, _||_}
 use mathlib.Core.List.{List, [], _∷_, _++_, List·Memᴰ, List·Memᴰ·head}
 use mathlib.Core.Logic.{_⊎_, inl, inr, ⊎-elim}
-use Prim.Native.Nat.{ℕ, zero, suc, _+_, _-_, _≤_, _<_, min}
+use Prim.Native.Nat.{ℕ, zero, suc, _-_, _≤_}
 use native.Mathlib.Omega.{arith}
 use lib.Dec.{eqb}
 use lib.IntN.{ℤ}
@@ -21,7 +21,7 @@ use Rattle.rules.specs.Session.{noPair, heldPairs, bothReadOut, aTableIsEmpty, 
 use Rattle.rules.specs.Take.{firstHeld, movedOut, finished}
 use Rattle.instance.specs.Pairs.{Fits, Region}
 use Rattle.instance.specs.PairsLaws.{pair-rank}
-use Rattle.instance.specs.Keeping.{Keeping, Reached}
+use Rattle.instance.specs.Keeping.{Reached}
 
 -- the first of n places, and the n - 1 after it when they move up
 places-first : (n : ℕ) (l : List Pair) → length (take n l) ≡ n → 1 ≤ n → (m : List Pair) × (take n l ≡ getD l 0 noPair ∷ m) × (take (n - 1) (drop 1 l ++ (noPair ∷ [])) ≡ m) × (length m ≡ n - 1)

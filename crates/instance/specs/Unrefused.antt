@@ -1,18 +1,18 @@
 -- Records of a session over legal tables stay sound, and pass every ground of 5. Assumes legal tables.
 use mathlib.Core.Path.{_≡_, refl, sym, ap, subst, _∙_}
-use mathlib.Core.Bool.{Bool, true, false, cond, _&&_, _||_}
-use mathlib.Core.List.{List, [], _∷_, _++_, List·Memᴰ}
-use mathlib.Core.Logic.{_⊎_, inl, inr, ⊎-elim}
+use mathlib.Core.Bool.{Bool, true, false, cond, _||_}
+use mathlib.Core.List.{List, [], _∷_, _++_}
+use mathlib.Core.Logic.{inl, inr}
 use Prim.Native.Nat.{ℕ, zero, suc, _+_, _*_, _-_, _/_, _%_, _≤_, _<_, min}
 use native.Mathlib.Nat.{suc-mul, mul-comm, mul-le-mul-right, div-add-mod', div-lt-iff-lt-mul, le-div-iff-mul-le, add-mod-right, zero-mod}
 use native.Mathlib.Omega.{arith}
 use native.Mathlib.Decide.{decLe}
-use lib.Dec.{leb, ltb, eqb}
-use lib.IntN.{ℤ, pos}
-use lib.ListN.{length, take, drop, replicate, length-take}
+use lib.Dec.{eqb}
+use lib.IntN.{ℤ}
+use lib.ListN.{length, drop, replicate, length-take}
 use lib.Seq.{drop-append-seam, drop-append-le}
-use borrow.Author.Tests.{eqb-true, eqb-false, eq-eqb, le-leb, lt-ltb, leb-true}
-use Rattle.lists.specs.Lists.{every, ranked}
+use borrow.Author.Tests.{eq-eqb, le-leb, lt-ltb}
+use Rattle.lists.specs.Lists.{every}
 use Rattle.lists.specs.Bools.{both-true}
 use Rattle.lists.specs.Parts.{every-of}
 use Rattle.join.specs.HeldLaws.{held-inside, held-ranked, held-room}
@@ -21,7 +21,7 @@ use Rattle.rules.specs.declared.TrimRows.{TrimRows}
 use Rattle.rules.specs.declared.Query.{Query}
 use Rattle.rules.specs.declared.Pair.{Pair}
 use Rattle.rules.specs.declared.Session.{Session}
-use Rattle.rules.specs.Tables.{rowCount, legal, pairSum, ahead, Block, qualifying}
+use Rattle.rules.specs.Tables.{legal, pairSum, ahead, Block, qualifying}
 use Rattle.rules.specs.Session.{noPair, places, opened, heldPairs, settled}
 use Rattle.rules.specs.Read.{fieldNext, rowsBetween, blockCount, blockAt, skipped, bestHeld, holding, meet, meetBlocks, readTo, oldDepth, newDepth, readTable, readBlock}
 use Rattle.rules.specs.Take.{movedOut}

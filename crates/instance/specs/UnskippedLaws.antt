@@ -1,18 +1,17 @@
 -- "Skipping never changes them": every accepted read, of a forged record too, holds what it would hold had it skipped nothing. Assumes nothing.
 use mathlib.Core.Path.{_≡_, refl, sym, ap, ap₂, subst, _∙_}
-use mathlib.Core.Bool.{Bool, true, false, cond, _&&_, _||_}
+use mathlib.Core.Bool.{Bool, true, false, cond, _&&_}
 use mathlib.Core.List.{List, _++_, List·Memᴰ, List·Memᴰ·append-cases}
-use mathlib.Core.Logic.{_⊎_, inl, inr, ⊎-elim, _↔_}
+use mathlib.Core.Logic.{_⊎_, inl, inr, ⊎-elim}
 use Prim.Native.Nat.{ℕ, zero, suc, _+_, _*_, _-_, _≤_, _<_, min}
 use native.Mathlib.Nat.{suc-mul}
 use native.Mathlib.Omega.{arith}
 use borrow.Author.Tests.{leb-true}
-use lib.Dec.{leb, eqb}
+use lib.Dec.{leb}
 use lib.IntN.{ℤ}
 use lib.ListN.{length, take, length-take}
-use Rattle.lists.specs.Lists.{sort, ranked, every}
+use Rattle.lists.specs.Lists.{sort, ranked}
 use Rattle.lists.specs.Bools.{both-true}
-use Rattle.lists.specs.Words.{Distinct}
 use Rattle.lists.specs.Parts.{append-distinct, every-at}
 use Rattle.lists.specs.Members.{mem-take, mem-sort, sort-ranked, ranked-take, ranked-distinct}
 use Rattle.rules.specs.declared.Pair.{Pair}

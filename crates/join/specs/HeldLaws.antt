@@ -7,12 +7,12 @@ use Prim.Native.Nat.{ℕ, zero, suc, _+_, _-_, _≤_, _<_, min}
 use native.Mathlib.Omega.{arith}
 use lib.Dec.{leb, ltb}
 use lib.ListN.{length, take, length-append, length-take, length-map}
-use lib.Seq.{take-nil, take-all, take-at}
-use borrow.Author.Tests.{ltb-true, ltb-false, le-ltb}
+use lib.Seq.{take-nil, take-at}
+use borrow.Author.Tests.{ltb-true, ltb-false}
 use Rattle.lists.specs.Lists.{keep, sort, ranked, atLeast}
 use Rattle.lists.specs.Bools.{clash}
-use Rattle.lists.specs.Words.{All, Strict, Ordered, Distinct}
-use Rattle.lists.specs.Sorts.{all-map, all-at, length-sort, ranked-sort, ranked-ordered, sort-below, take-sort-append}
+use Rattle.lists.specs.Words.{All, Ordered, Distinct}
+use Rattle.lists.specs.Sorts.{all-at, ranked-sort, ranked-ordered, sort-below, take-sort-append}
 use Rattle.lists.specs.Members.{mem-sort, sort-ranked, ranked-first, ranked-rest, ranked-distinct, ranked-take, mem-take, pigeonhole}
 use Rattle.lists.specs.Parts.{append-distinct, keep-distinct, mem-keep, keep-map}
 use Rattle.lists.specs.Counts.{count-append, count-some, count-all, count-take}
