@@ -57,18 +57,27 @@ module _ (f t : List ℤ) (s : Session) (a : callCode f t s ≡ 0) where
       go false false = refl
 
 module _ (q : Query) (f t : List ℤ) (g : legal f ≡ true) (h : legal t ≡ true) (size : 1 ≤ q .block) where
-  pub call-unrefused : queryCode q ≡ 0 → (out : List Pair) (s : Session) → Reached q f t out s → Sound s → (c : Call) → eqb (number (promised c f t s .answer)) 0 ≡ true
-  call-unrefused k out s a b reading = read-accepted f t s (call-accepted f t s g h (a .field-rows) (a .trim-rows) (a .field-depth) (a .trim-depth) (reached-fits q f t out s a b g h k)) (new-block-accepted f t s g h (a .field-rows) (a .trim-rows) (a .field-depth) (a .trim-depth))
-  call-unrefused k out s a b taking = take-accepted f t s (call-accepted f t s g h (a .field-rows) (a .trim-rows) (a .field-depth) (a .trim-depth) (reached-fits q f t out s a b g h k))
+  pub call-unrefused : queryCode q ≡ 0 → (out : List Pair) (s : Session) → Reached q f t out s → Sound s → (c : Call)
+      → eqb (number (promised c f t s .answer)) 0 ≡ true
+  call-unrefused k out s a b reading =
+      read-accepted f t s
+      (call-accepted f t s g h (a .field-rows) (a .trim-rows) (a .field-depth) (a .trim-depth) (reached-fits q f t out s a b g h k))
+      (new-block-accepted f t s g h (a .field-rows) (a .trim-rows) (a .field-depth) (a .trim-depth))
+  call-unrefused k out s a b taking =
+      take-accepted f t s
+      (call-accepted f t s g h (a .field-rows) (a .trim-rows) (a .field-depth) (a .trim-depth) (reached-fits q f t out s a b g h k))
 
   line-sound : (out : List Pair) (s : Session) (x : Step) → Reached q f t out s → Sound s → Changed f t s x → Sound (x .session)
   line-sound out s x a b (kept e o r) = subst Sound (sym e) b
   line-sound out s x a b (deeper d e) = subst (λ y. Sound (y .session)) (sym e) (sound-read q f t out s a b size d)
   line-sound out s x a b (fewer d e) = subst (λ y. Sound (y .session)) (sym e) (sound-take q f t out s a b (gives-some f t s d))
 
-  pub lines-sound : (lines : List Line) (out : List Pair) (s : Session) → Reached q f t out s → Sound s → Follows f t s lines → Sound (lastRecord s lines)
+  pub lines-sound : (lines : List Line) (out : List Pair) (s : Session) → Reached q f t out s → Sound s → Follows f t s lines
+      → Sound (lastRecord s lines)
   lines-sound [] out s a b w = b
-  lines-sound (l ∷ lines) out s a b w = lines-sound lines (out ++ broughtBy (l .gave .answer) []) (l .gave .session) (next-reached q f t g h size out s l lines a w) (line-sound out s (l .gave) a b (line-changed q f t g h size out s l lines a w)) (w .2)
+  lines-sound (l ∷ lines) out s a b w =
+      lines-sound lines (out ++ broughtBy (l .gave .answer) []) (l .gave .session) (next-reached q f t g h size out s l lines a w)
+      (line-sound out s (l .gave) a b (line-changed q f t g h size out s l lines a w)) (w .2)
 
   -- Reads are few
 
@@ -83,13 +92,15 @@ module _ (q : Query) (f t : List ℤ) (g : legal f ≡ true) (h : legal t ≡ tr
       go true k = omega (arith, read-field true f t s, read-trim true f t s)
       go false k = omega (arith, read-field false f t s, read-trim false f t s)
 
-  line-reads : (out : List Pair) (s : Session) (x : Step) → Reached q f t out s → Changed f t s x → depths s + readsOf (x .answer) ≤ depths (x .session)
+  line-reads : (out : List Pair) (s : Session) (x : Step) → Reached q f t out s → Changed f t s x
+      → depths s + readsOf (x .answer) ≤ depths (x .session)
   unfolding movedOut
   line-reads out s x a (kept e o r) = omega (arith, r, ap depths e)
   line-reads out s x a (deeper d e) = subst (λ y. depths s + readsOf (y .answer) ≤ depths (y .session)) (sym e) (omega (arith, read-deeper out s a d))
   line-reads out s x a (fewer d e) = subst (λ y. depths s + readsOf (y .answer) ≤ depths (y .session)) (sym e) (omega arith)
 
-  lines-reads : (lines : List Line) (out : List Pair) (s : Session) → Reached q f t out s → Follows f t s lines → depths s + total (λ l. readsOf (l .gave .answer)) lines ≤ depths (lastRecord s lines)
+  lines-reads : (lines : List Line) (out : List Pair) (s : Session) → Reached q f t out s → Follows f t s lines
+      → depths s + total (λ l. readsOf (l .gave .answer)) lines ≤ depths (lastRecord s lines)
   unfolding total
   lines-reads [] out s a w = omega arith
   lines-reads (l ∷ lines) out s a w =
@@ -105,25 +116,34 @@ unfolding secured
 read-out-secured f t s p e b =
     let rows = none-true (eqb (s .rows .field .0) 0) (eqb (s .rows .trim .0) 0) e in
     let ends = both-true (eqb (s .depth .field .0) (s .rows .field .0)) (eqb (s .depth .trim .0) (s .rows .trim .0)) b in
-    rw (eqb-true (s .depth .field .0) (s .rows .field .0) (ends .0), eqb-true (s .depth .trim .0) (s .rows .trim .0) (ends .1), rows .0, rows .1, eq-eqb (s .rows .field .0) (s .rows .field .0) refl, eq-eqb (s .rows .trim .0) (s .rows .trim .0) refl)
+    rw
+    (eqb-true (s .depth .field .0) (s .rows .field .0) (ends .0), eqb-true (s .depth .trim .0) (s .rows .trim .0) (ends .1), rows .0, rows .1, eq-eqb (s .rows .field .0) (s .rows .field .0) refl, eq-eqb (s .rows .trim .0) (s .rows .trim .0) refl)
 
 -- the take has a secured pair to give, or the list is complete
-settled-take : (q : Query) (f t : List ℤ) (out : List Pair) (s : Session) → Reached q f t out s → settled f t s ≡ true → givesPair f t s ≡ false → finished s ≡ true
+settled-take : (q : Query) (f t : List ℤ) (out : List Pair) (s : Session) → Reached q f t out s → settled f t s ≡ true → givesPair f t s ≡ false
+    → finished s ≡ true
 unfolding settled givesPair finished
 settled-take q f t out s a e n = go (eqb (s .out) (s .query .k)) (aTableIsEmpty s) (bothReadOut s) (ltb 0 (s .held)) refl refl refl refl e n
   where
     full : Bool
     full = eqb (s .out + s .held) (s .query .k) && every (secured f t s) (heldPairs s)
 
-    go : (k e b h : Bool) → eqb (s .out) (s .query .k) ≡ k → aTableIsEmpty s ≡ e → bothReadOut s ≡ b → ltb 0 (s .held) ≡ h → (e || (b || (k || full))) ≡ true → (h && secured f t s (firstHeld s)) ≡ false → (k || (e || (b && eqb (s .held) 0))) ≡ true
+    go : (k e b h : Bool) → eqb (s .out) (s .query .k) ≡ k → aTableIsEmpty s ≡ e → bothReadOut s ≡ b → ltb 0 (s .held) ≡ h
+        → (e || (b || (k || full))) ≡ true → (h && secured f t s (firstHeld s)) ≡ false → (k || (e || (b && eqb (s .held) 0))) ≡ true
     go true e b h ek ee eb eh w n = refl
     go false true b h ek ee eb eh w n = refl
     go false false true true ek ee eb eh w n = clash (read-out-secured f t s (firstHeld s) ee eb) n
     go false false true false ek ee eb eh w n = eq-eqb (s .held) 0 (omega (arith, ltb-false 0 (s .held) eh))
-    go false false false true ek ee eb eh w n = clash (every-at (secured f t s) (firstHeld s) (both-true (eqb (s .out + s .held) (s .query .k)) (every (secured f t s) (heldPairs s)) w .1) (first-mem q f t out s a (ltb-true 0 (s .held) eh))) n
-    go false false false false ek ee eb eh w n = absurd (eqb-false (s .out) (s .query .k) ek (omega (arith, ltb-false 0 (s .held) eh, eqb-true (s .out + s .held) (s .query .k) (both-true (eqb (s .out + s .held) (s .query .k)) (every (secured f t s) (heldPairs s)) w .0))))
+    go false false false true ek ee eb eh w n =
+        clash
+        (every-at (secured f t s) (firstHeld s) (both-true (eqb (s .out + s .held) (s .query .k)) (every (secured f t s) (heldPairs s)) w .1) (first-mem q f t out s a (ltb-true 0 (s .held) eh)))
+        n
+    go false false false false ek ee eb eh w n =
+        absurd
+        (eqb-false (s .out) (s .query .k) ek (omega (arith, ltb-false 0 (s .held) eh, eqb-true (s .out + s .held) (s .query .k) (both-true (eqb (s .out + s .held) (s .query .k)) (every (secured f t s) (heldPairs s)) w .0))))
 
-call-waits : (q : Query) (f t : List ℤ) (out : List Pair) (s : Session) → Reached q f t out s → (c : Call) (x : Step) → settled f t s ≡ true → x .answer ≡ NotYet → Happened f t s c x → ⊥
+call-waits : (q : Query) (f t : List ℤ) (out : List Pair) (s : Session) → Reached q f t out s → (c : Call) (x : Step) → settled f t s ≡ true
+    → x .answer ≡ NotYet → Happened f t s c x → ⊥
 call-waits q f t out s a c x e w (refused n z i) = differ cc
 call-waits q f t out s a c x e w (settling i b d j) = differ cc
 call-waits q f t out s a c x e w (going i b d k j) = differ cc
@@ -135,12 +155,16 @@ call-waits q f t out s a c x e w (waiting i b d k j) = clash (settled-take q f t
 
 pub gets-there : (q : Query) (f t : List ℤ) (opening : Step) (lines : List Line) → Sequence q f t opening lines → GetsThere q f t opening lines
 gets-there q f t opening lines w = record {
-  unrefused = λ before after l e u v. let r = reached-before q f t opening lines w before after l e in let c = follows-before f t before (l ∷ after) (opening .session) (subst (Follows f t (opening .session)) e (w .calls)) in ap (λ x. eqb (number (x .answer)) 0) (c .1 .0 ∙ subst₂ (λ f′ t′. promised (l .call) (l .field) (l .trim) (lastRecord (opening .session) before) ≡ promised (l .call) f′ t′ (lastRecord (opening .session) before)) u v refl) ∙ call-unrefused q f t (w .field-legal) (w .trim-legal) size query (outs before) (lastRecord (opening .session) before) (r .0) (lines-sound q f t (w .field-legal) (w .trim-legal) size before [] (opening .session) start sound (c .0)) (l .call);
+  unrefused =
+      λ before after l e u v. let r = reached-before q f t opening lines w before after l e in let c = follows-before f t before (l ∷ after) (opening .session) (subst (Follows f t (opening .session)) e (w .calls)) in ap (λ x. eqb (number (x .answer)) 0) (c .1 .0 ∙ subst₂ (λ f′ t′. promised (l .call) (l .field) (l .trim) (lastRecord (opening .session) before) ≡ promised (l .call) f′ t′ (lastRecord (opening .session) before)) u v refl)
+      ∙ call-unrefused q f t (w .field-legal) (w .trim-legal) size query (outs before) (lastRecord (opening .session) before) (r .0)
+      (lines-sound q f t (w .field-legal) (w .trim-legal) size before [] (opening .session) start sound (c .0)) (l .call);
   few-reads =
       let x = lines-reads q f t (w .field-legal) (w .trim-legal) size lines [] (opening .session) start (w .calls) in
       let y = lines-reached q f t (w .field-legal) (w .trim-legal) size lines [] (opening .session) start (w .calls) in
       omega (arith, y .field-depth, y .trim-depth);
-  never-waits = λ before after l e s y. let r = reached-before q f t opening lines w before after l e in call-waits q f t (outs before) (lastRecord (opening .session) before) (r .0) (l .call) (l .gave) s y (r .1);
+  never-waits =
+      λ before after l e s y. let r = reached-before q f t opening lines w before after l e in call-waits q f t (outs before) (lastRecord (opening .session) before) (r .0) (l .call) (l .gave) s y (r .1);
 }
   where
     query : queryCode q ≡ 0
@@ -153,4 +177,6 @@ gets-there q f t opening lines w = record {
     start = reached q f t opening lines w
 
     sound : Sound (opening .session)
-    sound = subst (λ x. Sound (x .session)) (sym (opening-is q f t opening lines w)) (sound-open q (record { 0 = rowCount f }) (record { 0 = rowCount t }))
+    sound =
+        subst (λ x. Sound (x .session)) (sym (opening-is q f t opening lines w))
+        (sound-open q (record { 0 = rowCount f }) (record { 0 = rowCount t }))

@@ -19,4 +19,5 @@ pub record GetsThere (q : Query) (f t : List ℤ) (opening : Step) (lines : List
   -- no more blocks are read than there are rows
   pub few-reads : total (λ l. readsOf (l .gave .answer)) lines ≤ rowCount f + rowCount t
   -- in a settled session no take says "not yet"
-  pub never-waits : (before after : List Line) (l : Line) → lines ≡ before ++ l ∷ after → settled f t (lastRecord (opening .session) before) ≡ true → l .gave .answer ≡ NotYet → ⊥
+  pub never-waits : (before after : List Line) (l : Line) → lines ≡ before ++ l ∷ after → settled f t (lastRecord (opening .session) before) ≡ true
+      → l .gave .answer ≡ NotYet → ⊥

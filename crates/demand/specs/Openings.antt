@@ -24,7 +24,9 @@ module _ (q : Query) (f t : List ℤ) where
   unfolding openCall
   opened-code e = go (eqb (openCode q f t) 0) refl e
     where
-      go : (b : Bool) → eqb (openCode q f t) 0 ≡ b → cond b (step Opened (opened q (record { 0 = rowCount f }) (record { 0 = rowCount t }))) (step (Refused (openCode q f t)) zeros) .answer ≡ Opened → openCode q f t ≡ 0
+      go : (b : Bool) → eqb (openCode q f t) 0 ≡ b
+          → cond b (step Opened (opened q (record { 0 = rowCount f }) (record { 0 = rowCount t }))) (step (Refused (openCode q f t)) zeros) .answer ≡ Opened
+          → openCode q f t ≡ 0
       go true z e = eqb-true (openCode q f t) 0 z
       go false z e = ap number e
 
@@ -33,7 +35,8 @@ module _ (q : Query) (f t : List ℤ) where
   opened-query e = first-passed (queryCode q) (first (sizeCode f) (sizeCode t)) (opened-code e) .0
 
   -- a query that is accepted opens any two legal tables
-  pub legal-opened : queryCode q ≡ 0 → legal f ≡ true → legal t ≡ true → openCall q f t ≡ step Opened (opened q (record { 0 = rowCount f }) (record { 0 = rowCount t }))
+  pub legal-opened : queryCode q ≡ 0 → legal f ≡ true → legal t ≡ true
+      → openCall q f t ≡ step Opened (opened q (record { 0 = rowCount f }) (record { 0 = rowCount t }))
   unfolding openCall openCode sizeCode
   legal-opened e g h = rw (e, legal-size f g, legal-size t h)
 
@@ -56,5 +59,7 @@ module _ (q : Query) (f t : List ℤ) (opening : Step) (lines : List Line) (w : 
   opening-is = w .opening-promised ∙ legal-opened q f t opening-query (w .field-legal) (w .trim-legal)
 
   -- tables of the same row counts are opened alike
-  pub opens-alike : (f′ t′ : List ℤ) → legal f′ ≡ true → legal t′ ≡ true → rowCount f′ ≡ rowCount f → rowCount t′ ≡ rowCount t → openCall q f′ t′ ≡ opening
-  opens-alike f′ t′ g h m n = legal-opened q f′ t′ opening-query g h ∙ ap₂ (λ m n. step Opened (opened q (record { 0 = m }) (record { 0 = n }))) m n ∙ sym opening-is
+  pub opens-alike : (f′ t′ : List ℤ) → legal f′ ≡ true → legal t′ ≡ true → rowCount f′ ≡ rowCount f → rowCount t′ ≡ rowCount t
+      → openCall q f′ t′ ≡ opening
+  opens-alike f′ t′ g h m n =
+      legal-opened q f′ t′ opening-query g h ∙ ap₂ (λ m n. step Opened (opened q (record { 0 = m }) (record { 0 = n }))) m n ∙ sym opening-is

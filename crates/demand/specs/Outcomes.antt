@@ -37,7 +37,8 @@ read-outcome : (f t : List ℤ) (s : Session) → Happened f t s reading (readCa
 unfolding readCall
 read-outcome f t s = go (eqb (callCode f t s) 0) (settled f t s) (eqb (newBlockCode f t s) 0) refl refl refl
   where
-    go : (x y z : Bool) → eqb (callCode f t s) 0 ≡ x → settled f t s ≡ y → eqb (newBlockCode f t s) 0 ≡ z → Happened f t s reading (cond x (cond y (step Settled s) (cond z (step Read (readBlock f t s)) (step (Refused (newBlockCode f t s)) s))) (step (Refused (callCode f t s)) s))
+    go : (x y z : Bool) → eqb (callCode f t s) 0 ≡ x → settled f t s ≡ y → eqb (newBlockCode f t s) 0 ≡ z
+        → Happened f t s reading (cond x (cond y (step Settled s) (cond z (step Read (readBlock f t s)) (step (Refused (newBlockCode f t s)) s))) (step (Refused (callCode f t s)) s))
     go true true z a b c = settling refl (eqb-true (callCode f t s) 0 a) b refl
     go true false true a b c = going refl (eqb-true (callCode f t s) 0 a) b (eqb-true (newBlockCode f t s) 0 c) refl
     go true false false a b c = refused (newBlockCode f t s) (eqb-false (newBlockCode f t s) 0 c) refl
@@ -47,7 +48,8 @@ take-outcome : (f t : List ℤ) (s : Session) → Happened f t s taking (takeCal
 unfolding takeCall
 take-outcome f t s = go (eqb (callCode f t s) 0) (givesPair f t s) (finished s) refl refl refl
   where
-    go : (x y z : Bool) → eqb (callCode f t s) 0 ≡ x → givesPair f t s ≡ y → finished s ≡ z → Happened f t s taking (cond x (cond y (step (Given (firstHeld s)) (movedOut s)) (cond z (step Finished s) (step NotYet s))) (step (Refused (callCode f t s)) s))
+    go : (x y z : Bool) → eqb (callCode f t s) 0 ≡ x → givesPair f t s ≡ y → finished s ≡ z
+        → Happened f t s taking (cond x (cond y (step (Given (firstHeld s)) (movedOut s)) (cond z (step Finished s) (step NotYet s))) (step (Refused (callCode f t s)) s))
     go true true z a b c = giving refl (eqb-true (callCode f t s) 0 a) b refl
     go true false true a b c = finishing refl (eqb-true (callCode f t s) 0 a) b c refl
     go true false false a b c = waiting refl (eqb-true (callCode f t s) 0 a) b c refl
@@ -61,7 +63,8 @@ tables : {f t f₁ t₁ : List ℤ} {s : Session} {c : Call} {g : Step} → (f�
 tables {s = s} {c = c} {g = g} e h = subst₂ (λ f t. Happened f t s c g) (e .0) (e .1) h
 
 -- a call that was refused may have been lent any slices
-lent : (f t f₁ t₁ : List ℤ) (s : Session) (c : Call) (g : Step) → (eqb (number (g .answer)) 0 ≡ true → (f₁ ≡ f) × (t₁ ≡ t)) → Happened f₁ t₁ s c g → Happened f t s c g
+lent : (f t f₁ t₁ : List ℤ) (s : Session) (c : Call) (g : Step) → (eqb (number (g .answer)) 0 ≡ true → (f₁ ≡ f) × (t₁ ≡ t)) → Happened f₁ t₁ s c g
+    → Happened f t s c g
 lent f t f₁ t₁ s c g same (refused n h e) = refused n h e
 lent f t f₁ t₁ s c g same (settling a b d e) = tables (same (ap (λ g. eqb (number (g .answer)) 0) e)) (settling a b d e)
 lent f t f₁ t₁ s c g same (going a b d h e) = tables (same (ap (λ g. eqb (number (g .answer)) 0) e)) (going a b d h e)
@@ -69,7 +72,8 @@ lent f t f₁ t₁ s c g same (giving a b d e) = tables (same (ap (λ g. eqb (nu
 lent f t f₁ t₁ s c g same (finishing a b d h e) = tables (same (ap (λ g. eqb (number (g .answer)) 0) e)) (finishing a b d h e)
 lent f t f₁ t₁ s c g same (waiting a b d h e) = tables (same (ap (λ g. eqb (number (g .answer)) 0) e)) (waiting a b d h e)
 
-pub happened : (f t f₁ t₁ : List ℤ) (s : Session) (c : Call) (g : Step) → g ≡ promised c f₁ t₁ s → (eqb (number (g .answer)) 0 ≡ true → (f₁ ≡ f) × (t₁ ≡ t)) → Happened f t s c g
+pub happened : (f t f₁ t₁ : List ℤ) (s : Session) (c : Call) (g : Step) → g ≡ promised c f₁ t₁ s
+    → (eqb (number (g .answer)) 0 ≡ true → (f₁ ≡ f) × (t₁ ≡ t)) → Happened f t s c g
 happened f t f₁ t₁ s c g e same = lent f t f₁ t₁ s c g same (subst (Happened f₁ t₁ s c) (sym e) (outcome f₁ t₁ s c))
 
 -- what became of the record
@@ -106,19 +110,25 @@ module _ (q : Query) (f t f′ t′ : List ℤ) (g : legal f′ ≡ true) (h : l
       go false z = refl
 
   same-accepted : callCode f t s ≡ 0 → callCode f′ t′ s ≡ 0
-  same-accepted e = call-accepted f′ t′ s g h (a .field-rows ∙ sym m) (a .trim-rows ∙ sym n) (omega (arith, a .field-depth)) (omega (arith, a .trim-depth)) (accepted-fits f t s e)
+  same-accepted e =
+      call-accepted f′ t′ s g h (a .field-rows ∙ sym m) (a .trim-rows ∙ sym n) (omega (arith, a .field-depth)) (omega (arith, a .trim-depth))
+      (accepted-fits f t s e)
 
   same-new : newBlockCode f′ t′ s ≡ 0
-  same-new = new-block-accepted f′ t′ s g h (a .field-rows ∙ sym m) (a .trim-rows ∙ sym n) (omega (arith, a .field-depth)) (omega (arith, a .trim-depth))
+  same-new =
+      new-block-accepted f′ t′ s g h (a .field-rows ∙ sym m) (a .trim-rows ∙ sym n) (omega (arith, a .field-depth)) (omega (arith, a .trim-depth))
 
   module _ (b : callCode f t s ≡ 0) where
     read-settled : SameRows (s .depth .field .0) f f′ → SameRows (s .depth .trim .0) t t′ → settled f t s ≡ true → readCall f′ t′ s ≡ step Settled s
     unfolding readCall
     read-settled ef et d = rw (eq-eqb (callCode f′ t′ s) 0 (same-accepted b), same-settled f t f′ t′ s ef et, d)
 
-    read-going : SameRows (readBlock f t s .depth .field .0) f f′ → SameRows (readBlock f t s .depth .trim .0) t t′ → settled f t s ≡ false → readCall f′ t′ s ≡ step Read (readBlock f t s)
+    read-going : SameRows (readBlock f t s .depth .field .0) f f′ → SameRows (readBlock f t s .depth .trim .0) t t′ → settled f t s ≡ false
+        → readCall f′ t′ s ≡ step Read (readBlock f t s)
     unfolding readCall
-    read-going ef et d = rw (eq-eqb (callCode f′ t′ s) 0 (same-accepted b), same-settled f t f′ t′ s df dt, d, eq-eqb (newBlockCode f′ t′ s) 0 same-new) (ap (step Read) (ap (λ b. readTable b f′ t′ s) (same-next f t f′ t′ s df dt) ∙ same-read (fieldNext f t s) f t f′ t′ s (subst (λ d. SameRows d f f′) (read-field (fieldNext f t s) f t s) ef) (subst (λ d. SameRows d t t′) (read-trim (fieldNext f t s) f t s) et)))
+    read-going ef et d =
+        rw (eq-eqb (callCode f′ t′ s) 0 (same-accepted b), same-settled f t f′ t′ s df dt, d, eq-eqb (newBlockCode f′ t′ s) 0 same-new)
+        (ap (step Read) (ap (λ b. readTable b f′ t′ s) (same-next f t f′ t′ s df dt) ∙ same-read (fieldNext f t s) f t f′ t′ s (subst (λ d. SameRows d f f′) (read-field (fieldNext f t s) f t s) ef) (subst (λ d. SameRows d t t′) (read-trim (fieldNext f t s) f t s) et)))
       where
         grows : (s .depth .field .0 ≤ readBlock f t s .depth .field .0) × (s .depth .trim .0 ≤ readBlock f t s .depth .trim .0)
         grows = read-grows (fieldNext f t s) f t s (omega (arith, a .field-depth, a .field-rows)) (omega (arith, a .trim-depth, a .trim-rows))
@@ -142,11 +152,30 @@ module _ (q : Query) (f t f′ t′ : List ℤ) (g : legal f′ ≡ true) (h : l
       unfolding takeCall
       take-waiting d w = rw (eq-eqb (callCode f′ t′ s) 0 (same-accepted b), same-gives ef et, d, w)
 
-  pub same-call : (c : Call) (x : Step) → eqb (number (x .answer)) 0 ≡ true → SameRows (x .session .depth .field .0) f f′ → SameRows (x .session .depth .trim .0) t t′ → Happened f t s c x → promised c f′ t′ s ≡ x
+  pub same-call : (c : Call) (x : Step) → eqb (number (x .answer)) 0 ≡ true → SameRows (x .session .depth .field .0) f f′
+      → SameRows (x .session .depth .trim .0) t t′ → Happened f t s c x → promised c f′ t′ s ≡ x
   unfolding movedOut
   same-call c x w ef et (refused k z e) = absurd (z (eqb-true k 0 (ap (λ x. eqb (number (x .answer)) 0) (sym e) ∙ w)))
-  same-call c x w ef et (settling i b d e) = ap (λ c. promised c f′ t′ s) i ∙ read-settled b (subst (λ x. SameRows (x .session .depth .field .0) f f′) e ef) (subst (λ x. SameRows (x .session .depth .trim .0) t t′) e et) d ∙ sym e
-  same-call c x w ef et (going i b d k e) = ap (λ c. promised c f′ t′ s) i ∙ read-going b (subst (λ x. SameRows (x .session .depth .field .0) f f′) e ef) (subst (λ x. SameRows (x .session .depth .trim .0) t t′) e et) d ∙ sym e
-  same-call c x w ef et (giving i b d e) = ap (λ c. promised c f′ t′ s) i ∙ take-giving b (subst (λ x. SameRows (x .session .depth .field .0) f f′) e ef) (subst (λ x. SameRows (x .session .depth .trim .0) t t′) e et) d ∙ sym e
-  same-call c x w ef et (finishing i b d k e) = ap (λ c. promised c f′ t′ s) i ∙ take-finishing b (subst (λ x. SameRows (x .session .depth .field .0) f f′) e ef) (subst (λ x. SameRows (x .session .depth .trim .0) t t′) e et) d k ∙ sym e
-  same-call c x w ef et (waiting i b d k e) = ap (λ c. promised c f′ t′ s) i ∙ take-waiting b (subst (λ x. SameRows (x .session .depth .field .0) f f′) e ef) (subst (λ x. SameRows (x .session .depth .trim .0) t t′) e et) d k ∙ sym e
+  same-call c x w ef et (settling i b d e) =
+      ap (λ c. promised c f′ t′ s) i
+      ∙ read-settled b (subst (λ x. SameRows (x .session .depth .field .0) f f′) e ef) (subst (λ x. SameRows (x .session .depth .trim .0) t t′) e et)
+      d
+      ∙ sym e
+  same-call c x w ef et (going i b d k e) =
+      ap (λ c. promised c f′ t′ s) i
+      ∙ read-going b (subst (λ x. SameRows (x .session .depth .field .0) f f′) e ef) (subst (λ x. SameRows (x .session .depth .trim .0) t t′) e et) d
+      ∙ sym e
+  same-call c x w ef et (giving i b d e) =
+      ap (λ c. promised c f′ t′ s) i
+      ∙ take-giving b (subst (λ x. SameRows (x .session .depth .field .0) f f′) e ef) (subst (λ x. SameRows (x .session .depth .trim .0) t t′) e et) d
+      ∙ sym e
+  same-call c x w ef et (finishing i b d k e) =
+      ap (λ c. promised c f′ t′ s) i
+      ∙ take-finishing b (subst (λ x. SameRows (x .session .depth .field .0) f f′) e ef)
+      (subst (λ x. SameRows (x .session .depth .trim .0) t t′) e et) d k
+      ∙ sym e
+  same-call c x w ef et (waiting i b d k e) =
+      ap (λ c. promised c f′ t′ s) i
+      ∙ take-waiting b (subst (λ x. SameRows (x .session .depth .field .0) f f′) e ef) (subst (λ x. SameRows (x .session .depth .trim .0) t t′) e et)
+      d k
+      ∙ sym e

@@ -45,7 +45,8 @@ mem-in p (x ∷ l) (List·Memᴰ·head e) = inl (ap (λ p. p .field) (sym e), ap
 mem-in p (x ∷ l) (List·Memᴰ·tail m) = inr (mem-in p l m)
 
 -- of pairs that all fit the one with these rows
-in-mem : (q : Query) (f t : List ℤ) (i j : ℕ) (l : List Pair) → ((p : Pair) → List·Memᴰ p l → Fits (q .radius) f t p) → IsIn l i j → List·Memᴰ (named f t i j) l
+in-mem : (q : Query) (f t : List ℤ) (i j : ℕ) (l : List Pair) → ((p : Pair) → List·Memᴰ p l → Fits (q .radius) f t p) → IsIn l i j
+    → List·Memᴰ (named f t i j) l
 in-mem q f t i j (x ∷ l) h (inl e) = List·Memᴰ·head (sym (fits-named q f t x (h x (List·Memᴰ·head refl)) ∙ λ z. named f t (e .0 z) (e .1 z)))
 in-mem q f t i j (x ∷ l) h (inr m) = List·Memᴰ·tail (in-mem q f t i j l (λ p k. h p (List·Memᴰ·tail k)) m)
 
@@ -62,8 +63,12 @@ module _ (q : Query) (f t : List ℤ) (g : legal f ≡ true) (h : legal t ≡ tr
       record {
         qualifying = fits-qualifying q f t (firstHeld s) fits;
         own-sum = fits .own-sum;
-        new = λ o. first-new q f t (outs before) s a some (Memᴰ·cast (fits-named q f t (firstHeld s) fits) (in-mem q f t (firstHeld s .field) (firstHeld s .trim) (outs before) out-fits o));
-        highest = λ i j k new. secured-best q f t (outs before) s a g h some (gives-secured f t s gives) (named f t i j) (named-fits q f t i j k) (λ m. new (mem-in (named f t i j) (outs before) m));
+        new =
+            λ o. first-new q f t (outs before) s a some
+            (Memᴰ·cast (fits-named q f t (firstHeld s) fits) (in-mem q f t (firstHeld s .field) (firstHeld s .trim) (outs before) out-fits o));
+        highest =
+            λ i j k new. secured-best q f t (outs before) s a g h some (gives-secured f t s gives) (named f t i j) (named-fits q f t i j k)
+            (λ m. new (mem-in (named f t i j) (outs before) m));
       }
 
   call-brought : (c : Call) (x : Step) (p : Pair) → x .answer ≡ Given p → Happened f t s c x → Brought q f t before p
@@ -82,7 +87,9 @@ module _ (q : Query) (f t : List ℤ) (g : legal f ≡ true) (h : legal t ≡ tr
   call-complete c x w (settling i b d e) = differ cc
   call-complete c x w (going i b d k e) = differ cc
   call-complete c x w (giving i b d e) = differ cc
-  call-complete c x w (finishing i b d k e) = ⊎-elim inl (λ all. inr (λ i j k. mem-in (named f t i j) (outs before) (all (named f t i j) (named-fits q f t i j k)))) (finished-complete q f t (outs before) s a k)
+  call-complete c x w (finishing i b d k e) =
+      ⊎-elim inl (λ all. inr (λ i j k. mem-in (named f t i j) (outs before) (all (named f t i j) (named-fits q f t i j k))))
+      (finished-complete q f t (outs before) s a k)
   call-complete c x w (waiting i b d k e) = differ cc
 
 -- The sequence
@@ -90,13 +97,18 @@ module _ (q : Query) (f t : List ℤ) (g : legal f ≡ true) (h : legal t ≡ tr
 pub demand3 : Statement
 unfolding opened
 demand3 q f t opening lines w = record {
-  brought = λ before after l p e y. let r = reached-before q f t opening lines w before after l e in call-brought q f t g h before (lastRecord (opening .session) before) (r .0) (l .call) (l .gave) p y (r .1);
-  finished = λ before after l e y. let r = reached-before q f t opening lines w before after l e in call-complete q f t g h before (lastRecord (opening .session) before) (r .0) (l .call) (l .gave) y (r .1);
-  row-limit = λ m n sure. lines-within q f t g h size (query-wanted q query .0) m n sure lines [] (opening .session) start (nothing-read (max (m .0) (n .0) + q .block - 1)) (w .calls);
+  brought =
+      λ before after l p e y. let r = reached-before q f t opening lines w before after l e in call-brought q f t g h before (lastRecord (opening .session) before) (r .0) (l .call) (l .gave) p y (r .1);
+  finished =
+      λ before after l e y. let r = reached-before q f t opening lines w before after l e in call-complete q f t g h before (lastRecord (opening .session) before) (r .0) (l .call) (l .gave) y (r .1);
+  row-limit =
+      λ m n sure. lines-within q f t g h size (query-wanted q query .0) m n sure lines [] (opening .session) start
+      (nothing-read (max (m .0) (n .0) + q .block - 1)) (w .calls);
   same-answers = λ f′ t′ u v.
       let e = opens-alike q f t opening lines w f′ t′ (u .lawful) (v .lawful) (u .count) (v .count) in
       (ap (λ x. x .answer) e, ap (λ x. map (λ y. y .answer) (byRules (x .session) (map (over f′ t′) lines))) e ∙ lines-same q f t g h size f′ t′ (u .lawful) (v .lawful) (u .count) (v .count) lines [] (opening .session) start (w .calls) (u .rows) (v .rows));
-  by-rules = (w .opening-promised, follows-rules f t (opening .session) lines (w .calls) ∙ ap (λ x. byRules (x .session) lines) (w .opening-promised));
+  by-rules =
+      (w .opening-promised, follows-rules f t (opening .session) lines (w .calls) ∙ ap (λ x. byRules (x .session) lines) (w .opening-promised));
 }
   where
     g : legal f ≡ true
@@ -115,4 +127,5 @@ demand3 q f t opening lines w = record {
     start = reached q f t opening lines w
 
     nothing-read : (n : ℕ) → (opening .session .depth .field .0 ≤ n) × (opening .session .depth .trim .0 ≤ n)
-    nothing-read n = subst (λ x. (x .session .depth .field .0 ≤ n) × (x .session .depth .trim .0 ≤ n)) (sym (opening-is q f t opening lines w)) (omega arith)
+    nothing-read n =
+        subst (λ x. (x .session .depth .field .0 ≤ n) × (x .session .depth .trim .0 ≤ n)) (sym (opening-is q f t opening lines w)) (omega arith)

@@ -29,7 +29,8 @@ use Rattle.demand.specs.Outcomes.{gives-some, happened, changed, same-ca
 
 -- Transcripts in parts
 
-pub follows-before : (f t : List ℤ) (before rest : List Line) (s : Session) → Follows f t s (before ++ rest) → Follows f t s before × Follows f t (lastRecord s before) rest
+pub follows-before : (f t : List ℤ) (before rest : List Line) (s : Session) → Follows f t s (before ++ rest)
+    → Follows f t s before × Follows f t (lastRecord s before) rest
 follows-before f t [] rest s h = (tt, h)
 follows-before f t (l ∷ before) rest s h = let r = follows-before f t before rest (l .gave .session) (h .2) in ((h .0, h .1, r .0), r .1)
 
@@ -45,14 +46,19 @@ brought-front Finished l = refl
 -- "Each answer and record .. is the one that document 01 gives"
 pub follows-rules : (f t : List ℤ) (s : Session) (lines : List Line) → Follows f t s lines → map (λ l. l .gave) lines ≡ byRules s lines
 follows-rules f t s [] h = refl
-follows-rules f t s (l ∷ lines) h = ap₂ (λ a b. a ∷ b) (h .0) (follows-rules f t (l .gave .session) lines (h .2) ∙ ap (λ g. byRules (g .session) lines) (h .0))
+follows-rules f t s (l ∷ lines) h =
+    ap₂ (λ a b. a ∷ b) (h .0) (follows-rules f t (l .gave .session) lines (h .2) ∙ ap (λ g. byRules (g .session) lines) (h .0))
 
 module _ (q : Query) (f t : List ℤ) (g : legal f ≡ true) (h : legal t ≡ true) (size : 1 ≤ q .block) where
   -- one call
-  line-reached : (out : List Pair) (s : Session) (x : Step) → Reached q f t out s → Changed f t s x → Reached q f t (out ++ broughtBy (x .answer) []) (x .session)
+  line-reached : (out : List Pair) (s : Session) (x : Step) → Reached q f t out s → Changed f t s x
+      → Reached q f t (out ++ broughtBy (x .answer) []) (x .session)
   line-reached out s x a (kept e b r) = subst₂ (Reached q f t) (sym (append-nil out) ∙ ap (λ o. out ++ o) (sym b)) (sym e) a
-  line-reached out s x a (deeper d e) = subst (λ x. Reached q f t (out ++ broughtBy (x .answer) []) (x .session)) (sym e) (subst (λ o. Reached q f t o (readBlock f t s)) (sym (append-nil out)) (read-reached (fieldNext f t s) q f t g h size out s a))
-  line-reached out s x a (fewer d e) = subst (λ x. Reached q f t (out ++ broughtBy (x .answer) []) (x .session)) (sym e) (take-reached q f t out s a (gives-some f t s d))
+  line-reached out s x a (deeper d e) =
+      subst (λ x. Reached q f t (out ++ broughtBy (x .answer) []) (x .session)) (sym e)
+      (subst (λ o. Reached q f t o (readBlock f t s)) (sym (append-nil out)) (read-reached (fieldNext f t s) q f t g h size out s a))
+  line-reached out s x a (fewer d e) =
+      subst (λ x. Reached q f t (out ++ broughtBy (x .answer) []) (x .session)) (sym e) (take-reached q f t out s a (gives-some f t s d))
 
   module _ (out : List Pair) (s : Session) (l : Line) (lines : List Line) (a : Reached q f t out s) (w : Follows f t s (l ∷ lines)) where
     line-happened : Happened f t s (l .call) (l .gave)
@@ -65,18 +71,26 @@ module _ (q : Query) (f t : List ℤ) (g : legal f ≡ true) (h : legal t ≡ tr
     next-reached = line-reached out s (l .gave) a line-changed
 
   -- all calls
-  pub lines-reached : (lines : List Line) (out : List Pair) (s : Session) → Reached q f t out s → Follows f t s lines → Reached q f t (out ++ outs lines) (lastRecord s lines)
+  pub lines-reached : (lines : List Line) (out : List Pair) (s : Session) → Reached q f t out s → Follows f t s lines
+      → Reached q f t (out ++ outs lines) (lastRecord s lines)
   lines-reached [] out s a w = subst (λ out. Reached q f t out s) (sym (append-nil out)) a
-  lines-reached (l ∷ lines) out s a w = subst (λ o. Reached q f t o (lastRecord (l .gave .session) lines)) (append-assoc out (broughtBy (l .gave .answer) []) (outs lines) ∙ ap (λ o. out ++ o) (sym (brought-front (l .gave .answer) (outs lines)))) (lines-reached lines (out ++ broughtBy (l .gave .answer) []) (l .gave .session) (next-reached out s l lines a w) (w .2))
+  lines-reached (l ∷ lines) out s a w =
+      subst (λ o. Reached q f t o (lastRecord (l .gave .session) lines))
+      (append-assoc out (broughtBy (l .gave .answer) []) (outs lines) ∙ ap (λ o. out ++ o) (sym (brought-front (l .gave .answer) (outs lines))))
+      (lines-reached lines (out ++ broughtBy (l .gave .answer) []) (l .gave .session) (next-reached out s l lines a w) (w .2))
 
   -- neither depth falls
-  line-grows : (out : List Pair) (s : Session) (x : Step) → Reached q f t out s → Changed f t s x → (s .depth .field .0 ≤ x .session .depth .field .0) × (s .depth .trim .0 ≤ x .session .depth .trim .0)
+  line-grows : (out : List Pair) (s : Session) (x : Step) → Reached q f t out s → Changed f t s x
+      → (s .depth .field .0 ≤ x .session .depth .field .0) × (s .depth .trim .0 ≤ x .session .depth .trim .0)
   unfolding movedOut
   line-grows out s x a (kept e b r) = omega (arith, ap (λ s. s .depth .field .0) e, ap (λ s. s .depth .trim .0) e)
-  line-grows out s x a (deeper d e) = subst (λ x. (s .depth .field .0 ≤ x .session .depth .field .0) × (s .depth .trim .0 ≤ x .session .depth .trim .0)) (sym e) (read-grows (fieldNext f t s) f t s (omega (arith, a .field-depth, a .field-rows)) (omega (arith, a .trim-depth, a .trim-rows)))
+  line-grows out s x a (deeper d e) =
+      subst (λ x. (s .depth .field .0 ≤ x .session .depth .field .0) × (s .depth .trim .0 ≤ x .session .depth .trim .0)) (sym e)
+      (read-grows (fieldNext f t s) f t s (omega (arith, a .field-depth, a .field-rows)) (omega (arith, a .trim-depth, a .trim-rows)))
   line-grows out s x a (fewer d e) = omega (arith, ap (λ x. x .session .depth .field .0) e, ap (λ x. x .session .depth .trim .0) e)
 
-  lines-grow : (lines : List Line) (out : List Pair) (s : Session) → Reached q f t out s → Follows f t s lines → (s .depth .field .0 ≤ lastRecord s lines .depth .field .0) × (s .depth .trim .0 ≤ lastRecord s lines .depth .trim .0)
+  lines-grow : (lines : List Line) (out : List Pair) (s : Session) → Reached q f t out s → Follows f t s lines
+      → (s .depth .field .0 ≤ lastRecord s lines .depth .field .0) × (s .depth .trim .0 ≤ lastRecord s lines .depth .trim .0)
   lines-grow [] out s a w = omega arith
   lines-grow (l ∷ lines) out s a w =
       let x = line-grows out s (l .gave) a (line-changed out s l lines a w) in
@@ -94,27 +108,38 @@ module _ (q : Query) (f t : List ℤ) (g : legal f ≡ true) (h : legal t ≡ tr
     line-within out s x a v (deeper d e) = subst (λ y. Within (y .session)) (sym e) (read-limit q f t g h wanted out s a d m n sure v)
     line-within out s x a v (fewer d e) = subst (λ y. Within (y .session)) (sym e) v
 
-    pub lines-within : (lines : List Line) (out : List Pair) (s : Session) → Reached q f t out s → Within s → Follows f t s lines → Within (lastRecord s lines)
+    pub lines-within : (lines : List Line) (out : List Pair) (s : Session) → Reached q f t out s → Within s → Follows f t s lines
+        → Within (lastRecord s lines)
     lines-within [] out s a v w = v
-    lines-within (l ∷ lines) out s a v w = lines-within lines (out ++ broughtBy (l .gave .answer) []) (l .gave .session) (next-reached out s l lines a w) (line-within out s (l .gave) a v (line-changed out s l lines a w)) (w .2)
+    lines-within (l ∷ lines) out s a v w =
+        lines-within lines (out ++ broughtBy (l .gave .answer) []) (l .gave .session) (next-reached out s l lines a w)
+        (line-within out s (l .gave) a v (line-changed out s l lines a w)) (w .2)
 
   -- the same answers
   module _ (f′ t′ : List ℤ) (g′ : legal f′ ≡ true) (h′ : legal t′ ≡ true) (m : rowCount f′ ≡ rowCount f) (n : rowCount t′ ≡ rowCount t) where
-    same-line : (out : List Pair) (s : Session) (l : Line) (lines : List Line) → Reached q f t out s → Follows f t s (l ∷ lines) → SameRows (l .gave .session .depth .field .0) f f′ → SameRows (l .gave .session .depth .trim .0) t t′ → promised (l .call) (over f′ t′ l .field) (over f′ t′ l .trim) s ≡ l .gave
+    same-line : (out : List Pair) (s : Session) (l : Line) (lines : List Line) → Reached q f t out s → Follows f t s (l ∷ lines)
+        → SameRows (l .gave .session .depth .field .0) f f′ → SameRows (l .gave .session .depth .trim .0) t t′
+        → promised (l .call) (over f′ t′ l .field) (over f′ t′ l .trim) s ≡ l .gave
     same-line out s l lines a w ef et = go (isAccepted l) refl
       where
         go : (b : Bool) → isAccepted l ≡ b → promised (l .call) (cond b f′ (l .field)) (cond b t′ (l .trim)) s ≡ l .gave
         go true z = same-call q f t f′ t′ g′ h′ m n out s a (l .call) (l .gave) z ef et (line-happened out s l lines a w)
         go false z = sym (w .0)
 
-    pub lines-same : (lines : List Line) (out : List Pair) (s : Session) → Reached q f t out s → Follows f t s lines → SameRows (lastRecord s lines .depth .field .0) f f′ → SameRows (lastRecord s lines .depth .trim .0) t t′ → map (λ x. x .answer) (byRules s (map (over f′ t′) lines)) ≡ map (λ l. l .gave .answer) lines
+    pub lines-same : (lines : List Line) (out : List Pair) (s : Session) → Reached q f t out s → Follows f t s lines
+        → SameRows (lastRecord s lines .depth .field .0) f f′ → SameRows (lastRecord s lines .depth .trim .0) t t′
+        → map (λ x. x .answer) (byRules s (map (over f′ t′) lines)) ≡ map (λ l. l .gave .answer) lines
     lines-same [] out s a w ef et = refl
     lines-same (l ∷ lines) out s a w ef et =
         let b = next-reached out s l lines a w in
         let o : List Pair = out ++ broughtBy (l .gave .answer) [] in
         let y = lines-grow lines o (l .gave .session) b (w .2) in
-        let e = same-line out s l lines a w (same-less (l .gave .session .depth .field .0) (lastRecord (l .gave .session) lines .depth .field .0) f f′ (y .0) ef) (same-less (l .gave .session .depth .trim .0) (lastRecord (l .gave .session) lines .depth .trim .0) t t′ (y .1) et) in
-        ap (λ x. x .answer ∷ map (λ x. x .answer) (byRules (x .session) (map (over f′ t′) lines))) e ∙ ap (λ r. l .gave .answer ∷ r) (lines-same lines o (l .gave .session) b (w .2) ef et)
+        let e =
+        same-line out s l lines a w
+        (same-less (l .gave .session .depth .field .0) (lastRecord (l .gave .session) lines .depth .field .0) f f′ (y .0) ef)
+        (same-less (l .gave .session .depth .trim .0) (lastRecord (l .gave .session) lines .depth .trim .0) t t′ (y .1) et) in
+        ap (λ x. x .answer ∷ map (λ x. x .answer) (byRules (x .session) (map (over f′ t′) lines))) e
+        ∙ ap (λ r. l .gave .answer ∷ r) (lines-same lines o (l .gave .session) b (w .2) ef et)
 
 -- From the opening on
 
@@ -123,7 +148,8 @@ module _ (q : Query) (f t : List ℤ) (opening : Step) (lines : List Line) (w : 
   reached = subst (λ x. Reached q f t [] (x .session)) (sym (opening-is q f t opening lines w)) (open-reached q f t)
 
   -- the record that a call was given, and what the call did
-  pub reached-before : (before after : List Line) (l : Line) → lines ≡ before ++ l ∷ after → Reached q f t (outs before) (lastRecord (opening .session) before) × Happened f t (lastRecord (opening .session) before) (l .call) (l .gave)
+  pub reached-before : (before after : List Line) (l : Line) → lines ≡ before ++ l ∷ after
+      → Reached q f t (outs before) (lastRecord (opening .session) before) × Happened f t (lastRecord (opening .session) before) (l .call) (l .gave)
   reached-before before after l e =
       let c = follows-before f t before (l ∷ after) (opening .session) (subst (Follows f t (opening .session)) e (w .calls)) in
       (lines-reached q f t (w .field-legal) (w .trim-legal) (query-wanted q (opening-query q f t opening lines w) .1) before [] (opening .session) reached (c .0), happened f t (l .field) (l .trim) (lastRecord (opening .session) before) (l .call) (l .gave) (c .1 .0) (c .1 .1))

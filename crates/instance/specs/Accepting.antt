@@ -35,7 +35,9 @@ unless-passed false n h e = absurd (omega arith)
 pub rows-accepted : (t : List ℤ) → legal t ≡ true → (a n : ℕ) → a + n ≤ rowCount t → rowsCode t a n ≡ 0
 unfolding rowsCode rowCode
 rows-accepted t g a zero h = refl
-rows-accepted t g a (suc n) h = first-none (rowsCode t a n) (first (unless (rowInRange t (a + n)) rowLimit) (unless (rowInOrder t (a + n)) rowOrder)) (rows-accepted t g a n (omega arith)) (rw (legal-range t g (a + n) (omega arith), legal-order t g (a + n) (omega arith)))
+rows-accepted t g a (suc n) h =
+    first-none (rowsCode t a n) (first (unless (rowInRange t (a + n)) rowLimit) (unless (rowInOrder t (a + n)) rowOrder))
+    (rows-accepted t g a n (omega arith)) (rw (legal-range t g (a + n) (omega arith), legal-order t g (a + n) (omega arith)))
 
 -- rows that are not refused keep ranges and order
 pub rows-passed : (t : List ℤ) (a n : ℕ) → rowsCode t a n ≡ 0 → (i : ℕ) → a ≤ i → i < a + n → (rowInRange t i ≡ true) × (rowInOrder t i ≡ true)
@@ -43,11 +45,14 @@ unfolding rowsCode rowCode
 rows-passed t a zero e i h k = absurd (omega arith)
 rows-passed t a (suc n) e i h k = go (decLe (a + n) i) (first-passed (rowsCode t a n) (rowCode t (a + n)) e) (rows-passed t a n)
   where
-    go : Dec (a + n ≤ i) → (rowsCode t a n ≡ 0) × (rowCode t (a + n) ≡ 0) → (rowsCode t a n ≡ 0 → (i : ℕ) → a ≤ i → i < a + n → (rowInRange t i ≡ true) × (rowInOrder t i ≡ true)) → (rowInRange t i ≡ true) × (rowInOrder t i ≡ true)
+    go : Dec (a + n ≤ i) → (rowsCode t a n ≡ 0) × (rowCode t (a + n) ≡ 0)
+        → (rowsCode t a n ≡ 0 → (i : ℕ) → a ≤ i → i < a + n → (rowInRange t i ≡ true) × (rowInOrder t i ≡ true))
+        → (rowInRange t i ≡ true) × (rowInOrder t i ≡ true)
     go (yes l) c before =
         let same : a + n ≡ i = omega arith in
         let d = first-passed (unless (rowInRange t (a + n)) rowLimit) (unless (rowInOrder t (a + n)) rowOrder) (c .1) in
-        subst (λ i. (rowInRange t i ≡ true) × (rowInOrder t i ≡ true)) same (unless-passed (rowInRange t (a + n)) rowLimit (omega arith) (d .0), unless-passed (rowInOrder t (a + n)) rowOrder (omega arith) (d .1))
+        subst (λ i. (rowInRange t i ≡ true) × (rowInOrder t i ≡ true)) same
+        (unless-passed (rowInRange t (a + n)) rowLimit (omega arith) (d .0), unless-passed (rowInOrder t (a + n)) rowOrder (omega arith) (d .1))
     go (no l) c before = before (c .0) i h (omega arith)
 
 size-accepted : (t : List ℤ) (n : ℕ) → legal t ≡ true → n ≡ rowCount t → sameSizeCode n t ≡ 0
@@ -55,11 +60,16 @@ unfolding sameSizeCode
 size-accepted t n g e = rw (legal-size t g, eq-eqb (rowCount t) n (sym e))
 
 -- a record that fits is accepted with legal tables of its row counts
-pub call-accepted : (f t : List ℤ) (s : Session) → legal f ≡ true → legal t ≡ true → s .rows .field .0 ≡ rowCount f → s .rows .trim .0 ≡ rowCount t → s .depth .field .0 ≤ rowCount f → s .depth .trim .0 ≤ rowCount t → recordFits s ≡ true → callCode f t s ≡ 0
+pub call-accepted : (f t : List ℤ) (s : Session) → legal f ≡ true → legal t ≡ true → s .rows .field .0 ≡ rowCount f → s .rows .trim .0 ≡ rowCount t
+    → s .depth .field .0 ≤ rowCount f → s .depth .trim .0 ≤ rowCount t → recordFits s ≡ true → callCode f t s ≡ 0
 unfolding callCode lentCode recordCode
 call-accepted f t s g h a b c d r =
-    let sizes : first (sameSizeCode (s .rows .field .0) f) (sameSizeCode (s .rows .trim .0) t) ≡ 0 = first-none (sameSizeCode (s .rows .field .0) f) (sameSizeCode (s .rows .trim .0) t) (size-accepted f (s .rows .field .0) g a) (size-accepted t (s .rows .trim .0) h b) in
-    let rows : first (rowsCode f 0 (s .depth .field .0)) (rowsCode t 0 (s .depth .trim .0)) ≡ 0 = first-none (rowsCode f 0 (s .depth .field .0)) (rowsCode t 0 (s .depth .trim .0)) (rows-accepted f g 0 (s .depth .field .0) (omega arith)) (rows-accepted t h 0 (s .depth .trim .0) (omega arith)) in
+    let sizes : first (sameSizeCode (s .rows .field .0) f) (sameSizeCode (s .rows .trim .0) t) ≡ 0 =
+    first-none (sameSizeCode (s .rows .field .0) f) (sameSizeCode (s .rows .trim .0) t) (size-accepted f (s .rows .field .0) g a)
+    (size-accepted t (s .rows .trim .0) h b) in
+    let rows : first (rowsCode f 0 (s .depth .field .0)) (rowsCode t 0 (s .depth .trim .0)) ≡ 0 =
+    first-none (rowsCode f 0 (s .depth .field .0)) (rowsCode t 0 (s .depth .trim .0)) (rows-accepted f g 0 (s .depth .field .0) (omega arith))
+    (rows-accepted t h 0 (s .depth .trim .0) (omega arith)) in
     rw (r, sizes, rows)
 
 pub accepted-fits : (f t : List ℤ) (s : Session) → callCode f t s ≡ 0 → recordFits s ≡ true
@@ -67,10 +77,12 @@ unfolding callCode lentCode recordCode
 accepted-fits f t s e =
     let sizes : ℕ = first (sameSizeCode (s .rows .field .0) f) (sameSizeCode (s .rows .trim .0) t) in
     let rows : ℕ = first (rowsCode f 0 (s .depth .field .0)) (rowsCode t 0 (s .depth .trim .0)) in
-    unless-passed (recordFits s) badRecord (omega arith) (first-passed (unless (recordFits s) badRecord) sizes (first-passed (first (unless (recordFits s) badRecord) sizes) rows e .0) .0)
+    unless-passed (recordFits s) badRecord (omega arith)
+    (first-passed (unless (recordFits s) badRecord) sizes (first-passed (first (unless (recordFits s) badRecord) sizes) rows e .0) .0)
 
 -- nor is a new block
-own-new : (field : Bool) (f t : List ℤ) (d e size m n : ℕ) → d ≤ rowCount f → e ≤ rowCount t → m ≡ rowCount f → n ≡ rowCount t → cond field d e + (min (cond field d e + size) (cond field m n) - cond field d e) ≤ rowCount (cond field f t)
+own-new : (field : Bool) (f t : List ℤ) (d e size m n : ℕ) → d ≤ rowCount f → e ≤ rowCount t → m ≡ rowCount f → n ≡ rowCount t
+    → cond field d e + (min (cond field d e + size) (cond field m n) - cond field d e) ≤ rowCount (cond field f t)
 own-new true f t d e size m n h k x y = omega arith
 own-new false f t d e size m n h k x y = omega arith
 
@@ -78,9 +90,12 @@ own-legal : (field : Bool) (f t : List ℤ) → legal f ≡ true → legal t ≡
 own-legal true f t g h = g
 own-legal false f t g h = h
 
-pub new-block-accepted : (f t : List ℤ) (s : Session) → legal f ≡ true → legal t ≡ true → s .rows .field .0 ≡ rowCount f → s .rows .trim .0 ≡ rowCount t → s .depth .field .0 ≤ rowCount f → s .depth .trim .0 ≤ rowCount t → newBlockCode f t s ≡ 0
+pub new-block-accepted : (f t : List ℤ) (s : Session) → legal f ≡ true → legal t ≡ true → s .rows .field .0 ≡ rowCount f
+    → s .rows .trim .0 ≡ rowCount t → s .depth .field .0 ≤ rowCount f → s .depth .trim .0 ≤ rowCount t → newBlockCode f t s ≡ 0
 unfolding newBlockCode
-new-block-accepted f t s g h a b c d = rows-accepted (cond field f t) (own-legal field f t g h) (oldDepth field s) (newDepth field s - oldDepth field s) (own-new field f t (s .depth .field .0) (s .depth .trim .0) (s .query .block) (s .rows .field .0) (s .rows .trim .0) c d a b)
+new-block-accepted f t s g h a b c d =
+    rows-accepted (cond field f t) (own-legal field f t g h) (oldDepth field s) (newDepth field s - oldDepth field s)
+    (own-new field f t (s .depth .field .0) (s .depth .trim .0) (s .query .block) (s .rows .field .0) (s .rows .trim .0) c d a b)
   where
     field : Bool
     field = fieldNext f t s

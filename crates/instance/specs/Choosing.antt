@@ -44,7 +44,8 @@ module _ (q : Query) (f t : List ℤ) (out : List Pair) (s : Session) (a : Reach
   e = s .depth .trim .0
 
   abbrev next : Bool → Bool → Bool → Bool → Bool → Bool → Bool
-  next d0 e0 trimOut fieldOut less greater = cond d0 true (cond e0 false (cond trimOut true (cond fieldOut false (cond less true (cond greater false (leb d e))))))
+  next d0 e0 trimOut fieldOut less greater =
+      cond d0 true (cond e0 false (cond trimOut true (cond fieldOut false (cond less true (cond greater false (leb d e))))))
 
   module _ (d0 : eqb d 0 ≡ false) (e0 : eqb e 0 ≡ false) where
     field-some : 1 ≤ d
@@ -61,47 +62,71 @@ module _ (q : Query) (f t : List ℤ) (out : List Pair) (s : Session) (a : Reach
 
   chosen-field : fieldNext f t s ≡ true → Chosen side side (rowsOf f) d (rowsOf t) e
   unfolding fieldNext
-  chosen-field n = go (eqb d 0) (eqb e 0) (trimReadOut s) (fieldReadOut s) (ltb (scoreDrop f d) (scoreDrop t e)) (ltb (scoreDrop t e) (scoreDrop f d)) refl refl refl refl refl refl n
+  chosen-field n =
+      go (eqb d 0) (eqb e 0) (trimReadOut s) (fieldReadOut s) (ltb (scoreDrop f d) (scoreDrop t e)) (ltb (scoreDrop t e) (scoreDrop f d)) refl refl
+      refl refl refl refl n
     where
-      go : (z w x y l m : Bool) → eqb d 0 ≡ z → eqb e 0 ≡ w → trimReadOut s ≡ x → fieldReadOut s ≡ y → ltb (scoreDrop f d) (scoreDrop t e) ≡ l → ltb (scoreDrop t e) (scoreDrop f d) ≡ m → next z w x y l m ≡ true → Chosen side side (rowsOf f) d (rowsOf t) e
+      go : (z w x y l m : Bool) → eqb d 0 ≡ z → eqb e 0 ≡ w → trimReadOut s ≡ x → fieldReadOut s ≡ y → ltb (scoreDrop f d) (scoreDrop t e) ≡ l
+          → ltb (scoreDrop t e) (scoreDrop f d) ≡ m → next z w x y l m ≡ true → Chosen side side (rowsOf f) d (rowsOf t) e
       go true w x y l m ez ew ex ey el em n = inl (eqb-true d 0 ez)
       go false true x y l m ez ew ex ey el em n = clash n refl
       go false false true true l m ez ew ex ey el em n = clash (rw ey ex) more
       go false false true false l m ez ew ex ey el em n = inr (trim-some ez ew, field-ended q f t out s a ∙ ey, inl (trim-ended q f t out s a ∙ ex))
       go false false false true l m ez ew ex ey el em n = clash n refl
-      go false false false false true m ez ew ex ey el em n = inr (trim-some ez ew, field-ended q f t out s a ∙ ey, inr (inl (omega (arith, ltb-true (scoreDrop f d) (scoreDrop t e) el, field-drop ez ew, trim-drop ez ew))))
+      go false false false false true m ez ew ex ey el em n =
+          inr
+          (trim-some ez ew, field-ended q f t out s a ∙ ey, inr (inl (omega (arith, ltb-true (scoreDrop f d) (scoreDrop t e) el, field-drop ez ew, trim-drop ez ew))))
       go false false false false false true ez ew ex ey el em n = clash n refl
-      go false false false false false false ez ew ex ey el em n = inr (trim-some ez ew, field-ended q f t out s a ∙ ey, inr (inr (omega (arith, ltb-false (scoreDrop t e) (scoreDrop f d) em, field-drop ez ew, trim-drop ez ew), leb-true d e n)))
+      go false false false false false false ez ew ex ey el em n =
+          inr
+          (trim-some ez ew, field-ended q f t out s a ∙ ey, inr (inr (omega (arith, ltb-false (scoreDrop t e) (scoreDrop f d) em, field-drop ez ew, trim-drop ez ew), leb-true d e n)))
 
   chosen-trim : fieldNext f t s ≡ false → Chosen side side (rowsOf t) e (rowsOf f) d
   unfolding fieldNext
-  chosen-trim n = go (eqb d 0) (eqb e 0) (trimReadOut s) (fieldReadOut s) (ltb (scoreDrop f d) (scoreDrop t e)) (ltb (scoreDrop t e) (scoreDrop f d)) refl refl refl refl refl refl n
+  chosen-trim n =
+      go (eqb d 0) (eqb e 0) (trimReadOut s) (fieldReadOut s) (ltb (scoreDrop f d) (scoreDrop t e)) (ltb (scoreDrop t e) (scoreDrop f d)) refl refl
+      refl refl refl refl n
     where
-      go : (z w x y l m : Bool) → eqb d 0 ≡ z → eqb e 0 ≡ w → trimReadOut s ≡ x → fieldReadOut s ≡ y → ltb (scoreDrop f d) (scoreDrop t e) ≡ l → ltb (scoreDrop t e) (scoreDrop f d) ≡ m → next z w x y l m ≡ false → Chosen side side (rowsOf t) e (rowsOf f) d
+      go : (z w x y l m : Bool) → eqb d 0 ≡ z → eqb e 0 ≡ w → trimReadOut s ≡ x → fieldReadOut s ≡ y → ltb (scoreDrop f d) (scoreDrop t e) ≡ l
+          → ltb (scoreDrop t e) (scoreDrop f d) ≡ m → next z w x y l m ≡ false → Chosen side side (rowsOf t) e (rowsOf f) d
       go true w x y l m ez ew ex ey el em n = clash refl n
       go false true x y l m ez ew ex ey el em n = inl (eqb-true e 0 ew)
       go false false true y l m ez ew ex ey el em n = clash refl n
       go false false false true l m ez ew ex ey el em n = inr (field-some ez ew, trim-ended q f t out s a ∙ ex, inl (field-ended q f t out s a ∙ ey))
       go false false false false true m ez ew ex ey el em n = clash refl n
-      go false false false false false true ez ew ex ey el em n = inr (field-some ez ew, trim-ended q f t out s a ∙ ex, inr (inl (omega (arith, ltb-true (scoreDrop t e) (scoreDrop f d) em, field-drop ez ew, trim-drop ez ew))))
-      go false false false false false false ez ew ex ey el em n = inr (field-some ez ew, trim-ended q f t out s a ∙ ex, inr (inr (omega (arith, ltb-false (scoreDrop f d) (scoreDrop t e) el, field-drop ez ew, trim-drop ez ew), omega (arith, leb-false d e n))))
+      go false false false false false true ez ew ex ey el em n =
+          inr
+          (field-some ez ew, trim-ended q f t out s a ∙ ex, inr (inl (omega (arith, ltb-true (scoreDrop t e) (scoreDrop f d) em, field-drop ez ew, trim-drop ez ew))))
+      go false false false false false false ez ew ex ey el em n =
+          inr
+          (field-some ez ew, trim-ended q f t out s a ∙ ex, inr (inr (omega (arith, ltb-false (scoreDrop f d) (scoreDrop t e) el, field-drop ez ew, trim-drop ez ew), omega (arith, leb-false d e n))))
 
 -- An unsettled session
 
 module _ (q : Query) (f t : List ℤ) (out : List Pair) (s : Session) (a : Reached q f t out s) (u : settled f t s ≡ false) where
   live : leb (length (rowsOf f)) 0 ≡ false
-  live = lt-leb (length (rowsOf f)) 0 (let z = eqb-false (s .rows .field .0) 0 (none-true (eqb (s .rows .field .0) 0) (eqb (s .rows .trim .0) 0) (unsettled f t s u .0) .0) in omega (arith, length-rows f, a .field-rows))
+  live =
+      lt-leb (length (rowsOf f)) 0
+      (let z = eqb-false (s .rows .field .0) 0 (none-true (eqb (s .rows .field .0) 0) (eqb (s .rows .trim .0) 0) (unsettled f t s u .0) .0) in omega (arith, length-rows f, a .field-rows))
 
   live-trim : leb (length (rowsOf t)) 0 ≡ false
-  live-trim = lt-leb (length (rowsOf t)) 0 (let z = eqb-false (s .rows .trim .0) 0 (none-true (eqb (s .rows .field .0) 0) (eqb (s .rows .trim .0) 0) (unsettled f t s u .0) .1) in omega (arith, length-rows t, a .trim-rows))
+  live-trim =
+      lt-leb (length (rowsOf t)) 0
+      (let z = eqb-false (s .rows .trim .0) 0 (none-true (eqb (s .rows .field .0) 0) (eqb (s .rows .trim .0) 0) (unsettled f t s u .0) .1) in omega (arith, length-rows t, a .trim-rows))
 
   unended : (side .ended (rowsOf f) (s .depth .field .0) && side .ended (rowsOf t) (s .depth .trim .0)) ≡ false
   unended = rw (field-ended q f t out s a, trim-ended q f t out s a) (unsettled f t s u .1)
 
   -- the table that is read next has unread rows
   next-unread : (field : Bool) → fieldNext f t s ≡ field → oldDepth field s < cond field (s .rows .field .0) (s .rows .trim .0)
-  next-unread true e = ⊎-elim (λ z. omega (arith, leb-false (length (rowsOf f)) 0 live, length-rows f, a .field-rows)) (λ z. omega (arith, leb-false (length (rowsOf f)) (s .depth .field .0) (z .1), length-rows f, a .field-rows)) (chosen-field q f t out s a (unsettled f t s u .1) e)
-  next-unread false e = ⊎-elim (λ z. omega (arith, leb-false (length (rowsOf t)) 0 live-trim, length-rows t, a .trim-rows)) (λ z. omega (arith, leb-false (length (rowsOf t)) (s .depth .trim .0) (z .1), length-rows t, a .trim-rows)) (chosen-trim q f t out s a (unsettled f t s u .1) e)
+  next-unread true e =
+      ⊎-elim (λ z. omega (arith, leb-false (length (rowsOf f)) 0 live, length-rows f, a .field-rows))
+      (λ z. omega (arith, leb-false (length (rowsOf f)) (s .depth .field .0) (z .1), length-rows f, a .field-rows))
+      (chosen-field q f t out s a (unsettled f t s u .1) e)
+  next-unread false e =
+      ⊎-elim (λ z. omega (arith, leb-false (length (rowsOf t)) 0 live-trim, length-rows t, a .trim-rows))
+      (λ z. omega (arith, leb-false (length (rowsOf t)) (s .depth .trim .0) (z .1), length-rows t, a .trim-rows))
+      (chosen-trim q f t out s a (unsettled f t s u .1) e)
 
   -- so the read raises its depth
   pub read-raises : 1 ≤ q .block → oldDepth (fieldNext f t s) s < newDepth (fieldNext f t s) s
@@ -110,7 +135,15 @@ module _ (q : Query) (f t : List ℤ) (out : List Pair) (s : Session) (a : Reach
 -- fact 5 of a session: an unsettled read goes on from a depth below every sure reading's
 module _ (q : Query) (f t : List ℤ) (g : legal f ≡ true) (h : legal t ≡ true) (wanted : 1 ≤ q .k) (out : List Pair) (s : Session) (a : Reached q f t out s) (u : settled f t s ≡ false) (m : FieldRows) (n : TrimRows) (sure : Sure (q .k) (q .radius) f t m n) where
   pub field-limit : fieldNext f t s ≡ true → s .depth .field .0 < max (m .0) (n .0)
-  field-limit c = row-limit side side (near (q .radius)) (laws (q .radius)) (rowsOf f) (rowsOf t) (legal-rows f g) (legal-rows t h) (q .k) (m .0) (n .0) (s .depth .field .0) (s .depth .trim .0) wanted (live q f t out s a u) (live-trim q f t out s a u) (unended q f t out s a u) (λ hd he. unsettled-short q f t out s a g h hd he u) (chosen-field q f t out s a (unsettled f t s u .1) c) (sure-rows (q .k) (q .radius) f t m n g h .0 sure)
+  field-limit c =
+      row-limit side side (near (q .radius)) (laws (q .radius)) (rowsOf f) (rowsOf t) (legal-rows f g) (legal-rows t h) (q .k) (m .0) (n .0)
+      (s .depth .field .0) (s .depth .trim .0) wanted (live q f t out s a u) (live-trim q f t out s a u) (unended q f t out s a u)
+      (λ hd he. unsettled-short q f t out s a g h hd he u) (chosen-field q f t out s a (unsettled f t s u .1) c)
+      (sure-rows (q .k) (q .radius) f t m n g h .0 sure)
 
   pub trim-limit : fieldNext f t s ≡ false → s .depth .trim .0 < max (m .0) (n .0)
-  trim-limit c = row-limit-trim side side (near (q .radius)) (laws (q .radius)) (rowsOf f) (rowsOf t) (legal-rows f g) (legal-rows t h) (q .k) (m .0) (n .0) (s .depth .field .0) (s .depth .trim .0) wanted (live q f t out s a u) (live-trim q f t out s a u) (unended q f t out s a u) (λ hd he. unsettled-short q f t out s a g h hd he u) (chosen-trim q f t out s a (unsettled f t s u .1) c) (sure-rows (q .k) (q .radius) f t m n g h .0 sure)
+  trim-limit c =
+      row-limit-trim side side (near (q .radius)) (laws (q .radius)) (rowsOf f) (rowsOf t) (legal-rows f g) (legal-rows t h) (q .k) (m .0) (n .0)
+      (s .depth .field .0) (s .depth .trim .0) wanted (live q f t out s a u) (live-trim q f t out s a u) (unended q f t out s a u)
+      (λ hd he. unsettled-short q f t out s a g h hd he u) (chosen-trim q f t out s a (unsettled f t s u .1) c)
+      (sure-rows (q .k) (q .radius) f t m n g h .0 sure)

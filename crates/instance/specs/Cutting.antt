@@ -38,14 +38,20 @@ module _ (t : List ℤ) (n : ℕ) (fits : n ≤ rowCount t) where
 
   cut-range : (i : ℕ) → i < n → rowInRange t i ≡ true → rowInRange (take (4 * n) t) i ≡ true
   unfolding rowInRange
-  cut-range i h e = rw (same-num n t (take (4 * n) t) cut-same i 0 h (lit≤ tt), same-num n t (take (4 * n) t) cut-same i 1 h (lit≤ tt), same-num n t (take (4 * n) t) cut-same i 2 h (lit≤ tt), same-num n t (take (4 * n) t) cut-same i 3 h (lit≤ tt)) e
+  cut-range i h e =
+      rw
+      (same-num n t (take (4 * n) t) cut-same i 0 h (lit≤ tt), same-num n t (take (4 * n) t) cut-same i 1 h (lit≤ tt), same-num n t (take (4 * n) t) cut-same i 2 h (lit≤ tt), same-num n t (take (4 * n) t) cut-same i 3 h (lit≤ tt))
+      e
 
   cut-order : (i : ℕ) → i < n → rowInOrder t i ≡ true → rowInOrder (take (4 * n) t) i ≡ true
   unfolding rowInOrder
-  cut-order i h e = rw (same-num n t (take (4 * n) t) cut-same i 1 h (lit≤ tt), same-num n t (take (4 * n) t) cut-same (i - 1) 1 (omega arith) (lit≤ tt)) e
+  cut-order i h e =
+      rw (same-num n t (take (4 * n) t) cut-same i 1 h (lit≤ tt), same-num n t (take (4 * n) t) cut-same (i - 1) 1 (omega arith) (lit≤ tt)) e
 
   pub cut-legal : n ≤ 65535 → ((i : ℕ) → i < n → GoodAt t i) → legal (take (4 * n) t) ≡ true
-  cut-legal m good = legal-of (take (4 * n) t) (omega (arith, cut-length)) (omega (arith, cut-count)) (λ i h. let r = good i (omega (arith, cut-count)) in (cut-range i (omega (arith, cut-count)) (r .0), cut-order i (omega (arith, cut-count)) (r .1)))
+  cut-legal m good =
+      legal-of (take (4 * n) t) (omega (arith, cut-length)) (omega (arith, cut-count))
+      (λ i h. let r = good i (omega (arith, cut-count)) in (cut-range i (omega (arith, cut-count)) (r .0), cut-order i (omega (arith, cut-count)) (r .1)))
 
 -- What a record that passes 5 keeps, of its tables' counts and its held pairs
 
@@ -71,18 +77,23 @@ counts-parts size rows d e =
 
 size-parts : (n : ℕ) (t : List ℤ) → sameSizeCode n t ≡ 0 → n ≡ rowCount t
 unfolding sameSizeCode
-size-parts n t e = sym (eqb-true (rowCount t) n (both-true (sizeFits t) (eqb (rowCount t) n) (unless-passed (sizeFits t && eqb (rowCount t) n) tableSize (omega arith) e) .1))
+size-parts n t e =
+    sym
+    (eqb-true (rowCount t) n (both-true (sizeFits t) (eqb (rowCount t) n) (unless-passed (sizeFits t && eqb (rowCount t) n) tableSize (omega arith) e) .1))
 
 query-most : (q : Query) → queryCode q ≡ 0 → q .k ≤ 64
 unfolding queryCode
-query-most q e = leb-true (q .k) 64 (both-true (leb 1 (q .k)) (leb (q .k) 64) (unless-passed (between 1 64 (q .k)) 1 (omega arith) (first-passed (unless (between 1 64 (q .k)) 1) (first (unless (between 1 1024 (q .block)) 2) (unless (leb (q .radius) 40000) 3)) e .0)) .1)
+query-most q e =
+    leb-true (q .k) 64
+    (both-true (leb 1 (q .k)) (leb (q .k) 64) (unless-passed (between 1 64 (q .k)) 1 (omega arith) (first-passed (unless (between 1 64 (q .k)) 1) (first (unless (between 1 1024 (q .block)) 2) (unless (leb (q .radius) 40000) 3)) e .0)) .1)
 
 pub passed : (f t : List ℤ) (s : Session) → callCode f t s ≡ 0 → Passed f t s
 unfolding callCode lentCode recordFits
 passed f t s e =
     let sizes : ℕ = first (sameSizeCode (s .rows .field .0) f) (sameSizeCode (s .rows .trim .0) t) in
     let checked = first-passed (first (recordCode s) sizes) (first (rowsCode f 0 (s .depth .field .0)) (rowsCode t 0 (s .depth .trim .0))) e in
-    let size = first-passed (sameSizeCode (s .rows .field .0) f) (sameSizeCode (s .rows .trim .0) t) (first-passed (recordCode s) sizes (checked .0) .1) in
+    let size =
+    first-passed (sameSizeCode (s .rows .field .0) f) (sameSizeCode (s .rows .trim .0) t) (first-passed (recordCode s) sizes (checked .0) .1) in
     let rows = first-passed (rowsCode f 0 (s .depth .field .0)) (rowsCode t 0 (s .depth .trim .0)) (checked .1) in
     let joined : Bool = leb (s .joined) (blockCount (s .query .block) (s .depth .field .0) * blockCount (s .query .block) (s .depth .trim .0)) in
     let r6 : Bool = markFits s && (every isZeros (drop (s .held) (s .pairs)) && joined) in
@@ -122,6 +133,8 @@ new-good t a b e g i h = go (decLe a i)
     go (yes k) = rows-passed t a (b - a) g i k (omega arith)
     go (no k) = rows-passed t 0 a e i (omega arith) (omega arith)
 
-pub read-good : (field : Bool) (f t : List ℤ) (d e b : ℕ) → rowsCode f 0 d ≡ 0 → rowsCode t 0 e ≡ 0 → rowsCode (cond field f t) (cond field d e) (b - cond field d e) ≡ 0 → ((i : ℕ) → i < cond field b d → GoodAt f i) × ((i : ℕ) → i < cond field e b → GoodAt t i)
+pub read-good : (field : Bool) (f t : List ℤ) (d e b : ℕ) → rowsCode f 0 d ≡ 0 → rowsCode t 0 e ≡ 0
+    → rowsCode (cond field f t) (cond field d e) (b - cond field d e) ≡ 0
+    → ((i : ℕ) → i < cond field b d → GoodAt f i) × ((i : ℕ) → i < cond field e b → GoodAt t i)
 read-good true f t d e b x y z = (new-good f d b x z, λ i h. rows-passed t 0 e y i (omega arith) (omega arith))
 read-good false f t d e b x y z = (λ i h. rows-passed f 0 d x i (omega arith) (omega arith), new-good t e b y z)

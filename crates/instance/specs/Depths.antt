@@ -21,19 +21,25 @@ use Rattle.instance.specs.Choosing.{field-limit, trim-limit}
 module _ (field : Bool) (f t : List ℤ) (s : Session) where
   pub read-field : readTable field f t s .depth .field .0 ≡ cond field (newDepth field s) (s .depth .field .0)
   unfolding readTable readTo
-  read-field = ap (λ c. cond field (newDepth field s) (c .field .0)) (blocks-same field s (rowsBetween (cond field f t) (oldDepth field s) (newDepth field s)) (cond field t f) (cond field (s .depth .trim .0) (s .depth .field .0)) (blockCount (s .query .block) (cond field (s .depth .trim .0) (s .depth .field .0))) .depth)
+  read-field =
+      ap (λ c. cond field (newDepth field s) (c .field .0))
+      (blocks-same field s (rowsBetween (cond field f t) (oldDepth field s) (newDepth field s)) (cond field t f) (cond field (s .depth .trim .0) (s .depth .field .0)) (blockCount (s .query .block) (cond field (s .depth .trim .0) (s .depth .field .0))) .depth)
 
   pub read-trim : readTable field f t s .depth .trim .0 ≡ cond field (s .depth .trim .0) (newDepth field s)
   unfolding readTable readTo
-  read-trim = ap (λ c. cond field (c .trim .0) (newDepth field s)) (blocks-same field s (rowsBetween (cond field f t) (oldDepth field s) (newDepth field s)) (cond field t f) (cond field (s .depth .trim .0) (s .depth .field .0)) (blockCount (s .query .block) (cond field (s .depth .trim .0) (s .depth .field .0))) .depth)
+  read-trim =
+      ap (λ c. cond field (c .trim .0) (newDepth field s))
+      (blocks-same field s (rowsBetween (cond field f t) (oldDepth field s) (newDepth field s)) (cond field t f) (cond field (s .depth .trim .0) (s .depth .field .0)) (blockCount (s .query .block) (cond field (s .depth .trim .0) (s .depth .field .0))) .depth)
 
 -- neither depth falls
-pub read-grows : (field : Bool) (f t : List ℤ) (s : Session) → s .depth .field .0 ≤ s .rows .field .0 → s .depth .trim .0 ≤ s .rows .trim .0 → (s .depth .field .0 ≤ readTable field f t s .depth .field .0) × (s .depth .trim .0 ≤ readTable field f t s .depth .trim .0)
+pub read-grows : (field : Bool) (f t : List ℤ) (s : Session) → s .depth .field .0 ≤ s .rows .field .0 → s .depth .trim .0 ≤ s .rows .trim .0
+    → (s .depth .field .0 ≤ readTable field f t s .depth .field .0) × (s .depth .trim .0 ≤ readTable field f t s .depth .trim .0)
 read-grows true f t s h k = (omega (arith, read-field true f t s), omega (arith, read-trim true f t s))
 read-grows false f t s h k = (omega (arith, read-field false f t s), omega (arith, read-trim false f t s))
 
 -- an unsettled read stays below max(p, q) + block, as both depths did
-pub read-limit : (q : Query) (f t : List ℤ) → legal f ≡ true → legal t ≡ true → 1 ≤ q .k → (out : List Pair) (s : Session) → Reached q f t out s → settled f t s ≡ false → (m : FieldRows) (n : TrimRows) → Sure (q .k) (q .radius) f t m n
+pub read-limit : (q : Query) (f t : List ℤ) → legal f ≡ true → legal t ≡ true → 1 ≤ q .k → (out : List Pair) (s : Session) → Reached q f t out s
+    → settled f t s ≡ false → (m : FieldRows) (n : TrimRows) → Sure (q .k) (q .radius) f t m n
     → (s .depth .field .0 ≤ max (m .0) (n .0) + q .block - 1) × (s .depth .trim .0 ≤ max (m .0) (n .0) + q .block - 1)
     → (readBlock f t s .depth .field .0 ≤ max (m .0) (n .0) + q .block - 1) × (readBlock f t s .depth .trim .0 ≤ max (m .0) (n .0) + q .block - 1)
 read-limit q f t g h wanted out s a u m n sure l = go (fieldNext f t s) refl
@@ -41,6 +47,9 @@ read-limit q f t g h wanted out s a u m n sure l = go (fieldNext f t s) refl
     size : s .query .block ≡ q .block
     size = ap (λ q. q .block) (a .query)
 
-    go : (b : Bool) → fieldNext f t s ≡ b → (readTable b f t s .depth .field .0 ≤ max (m .0) (n .0) + q .block - 1) × (readTable b f t s .depth .trim .0 ≤ max (m .0) (n .0) + q .block - 1)
-    go true e = let k = field-limit q f t g h wanted out s a u m n sure e in (omega (arith, size, read-field true f t s, l), omega (arith, read-trim true f t s, l))
-    go false e = let k = trim-limit q f t g h wanted out s a u m n sure e in (omega (arith, read-field false f t s, l), omega (arith, size, read-trim false f t s, l))
+    go : (b : Bool) → fieldNext f t s ≡ b
+        → (readTable b f t s .depth .field .0 ≤ max (m .0) (n .0) + q .block - 1) × (readTable b f t s .depth .trim .0 ≤ max (m .0) (n .0) + q .block - 1)
+    go true e =
+        let k = field-limit q f t g h wanted out s a u m n sure e in (omega (arith, size, read-field true f t s, l), omega (arith, read-trim true f t s, l))
+    go false e =
+        let k = trim-limit q f t g h wanted out s a u m n sure e in (omega (arith, read-field false f t s, l), omega (arith, size, read-trim false f t s, l))

@@ -36,13 +36,17 @@ held-holding s l = take-append-seam l (replicate (64 - length l) noPair)
 
 module _ (s : Session) (x y : Block) where
   -- "Skipping never changes them", of any record whose held pairs are ranked and as many as it says
-  pub skipped-same : length (heldPairs s) ≡ s .held → ranked ahead (heldPairs s) ≡ true → ((p : Pair) → List·Memᴰ p (qualifying (s .query .radius) x y) → p .sum ≤ firstScore (x .rows) + firstScore (y .rows)) → skipped s x y ≡ true → bestHeld s (qualifying (s .query .radius) x y) ≡ heldPairs s
+  pub skipped-same : length (heldPairs s) ≡ s .held → ranked ahead (heldPairs s) ≡ true
+      → ((p : Pair) → List·Memᴰ p (qualifying (s .query .radius) x y) → p .sum ≤ firstScore (x .rows) + firstScore (y .rows)) → skipped s x y ≡ true
+      → bestHeld s (qualifying (s .query .radius) x y) ≡ heldPairs s
   unfolding skipped bestHeld
   skipped-same w r low e =
       let a = both-true (eqb (s .out + s .held) (s .query .k)) (ltb (firstScore (x .rows) + firstScore (y .rows)) (lowest (heldPairs s))) e in
       let full : s .out + s .held ≡ s .query .k = eqb-true (s .out + s .held) (s .query .k) (a .0) in
-      let under : firstScore (x .rows) + firstScore (y .rows) < lowest (heldPairs s) = ltb-true (firstScore (x .rows) + firstScore (y .rows)) (lowest (heldPairs s)) (a .1) in
-      skip-same ahead (λ p. p .sum) pair-rank (s .query .k - s .out) (heldPairs s) (qualifying (s .query .radius) x y) r (omega arith) (λ p q m n. omega (arith, lowest-least p (heldPairs s) m, low q n))
+      let under : firstScore (x .rows) + firstScore (y .rows) < lowest (heldPairs s) =
+      ltb-true (firstScore (x .rows) + firstScore (y .rows)) (lowest (heldPairs s)) (a .1) in
+      skip-same ahead (λ p. p .sum) pair-rank (s .query .k - s .out) (heldPairs s) (qualifying (s .query .radius) x y) r (omega arith)
+      (λ p q m n. omega (arith, lowest-least p (heldPairs s) m, low q n))
 
   -- "Skipping never changes them": a block pair met holds the best of those held and its own, skipped or not
   module _ (stored : length (heldPairs s) ≡ s .held) (r : ranked ahead (heldPairs s) ≡ true) (low : (p : Pair) → List·Memᴰ p (qualifying (s .query .radius) x y) → p .sum ≤ firstScore (x .rows) + firstScore (y .rows)) where
@@ -50,7 +54,8 @@ module _ (s : Session) (x y : Block) where
     unfolding meet
     meet-held = go (skipped s x y) refl
       where
-        go : (b : Bool) → skipped s x y ≡ b → heldPairs (cond b s (holding s (bestHeld s (qualifying (s .query .radius) x y)))) ≡ bestHeld s (qualifying (s .query .radius) x y)
+        go : (b : Bool) → skipped s x y ≡ b
+            → heldPairs (cond b s (holding s (bestHeld s (qualifying (s .query .radius) x y)))) ≡ bestHeld s (qualifying (s .query .radius) x y)
         go true e = sym (skipped-same stored r low e)
         go false e = held-holding s (bestHeld s (qualifying (s .query .radius) x y))
 
@@ -74,7 +79,9 @@ module _ (s : Session) (x y : Block) where
       go false = record { query = refl; rows = refl; depth = refl; out = refl }
 
   -- the block pair's pairs M, none of them in R, join R
-  pub meet-keeps : (R R′ M : Pair → Type 0) (out : List Pair) → Keeping R out s → ((p : Pair) → List·Memᴰ p (qualifying (s .query .radius) x y) ↔ M p) → ((p : Pair) → M p → p .sum ≤ firstScore (x .rows) + firstScore (y .rows)) → ((p : Pair) → M p → R p → ⊥) → ((p : Pair) → R′ p ↔ (R p ⊎ M p)) → Keeping R′ out (meet s x y)
+  pub meet-keeps : (R R′ M : Pair → Type 0) (out : List Pair) → Keeping R out s → ((p : Pair) → List·Memᴰ p (qualifying (s .query .radius) x y) ↔ M p)
+      → ((p : Pair) → M p → p .sum ≤ firstScore (x .rows) + firstScore (y .rows)) → ((p : Pair) → M p → R p → ⊥) → ((p : Pair) → R′ p ↔ (R p ⊎ M p))
+      → Keeping R′ out (meet s x y)
   unfolding meet bestHeld
   meet-keeps R R′ M out h in-met low new more = go (skipped s x y) refl
     where
@@ -85,11 +92,24 @@ module _ (s : Session) (x y : Block) where
       rest = sort ahead (h .rest ++ met)
 
       joined : Holds ahead (s .query .k) R′ out rest (take (s .query .k - length out) (sort ahead (heldPairs s ++ met)))
-      joined = holds-join ahead (λ p. p .sum) pair-rank (s .query .k) R R′ out (h .rest) (heldPairs s) met (h .holds) (qualifying-distinct (s .query .radius) x y) (λ p m. new p (in-met p .0 m)) (λ p. (λ r. ⊎-elim inl (λ m. inr (in-met p .1 m)) (more p .0 r), λ r. more p .1 (⊎-elim inl (λ m. inr (in-met p .0 m)) r)))
+      joined =
+          holds-join ahead (λ p. p .sum) pair-rank (s .query .k) R R′ out (h .rest) (heldPairs s) met (h .holds)
+          (qualifying-distinct (s .query .radius) x y) (λ p m. new p (in-met p .0 m))
+          (λ p. (λ r. ⊎-elim inl (λ m. inr (in-met p .1 m)) (more p .0 r), λ r. more p .1 (⊎-elim inl (λ m. inr (in-met p .0 m)) r)))
 
       best : Holds ahead (s .query .k) R′ out rest (bestHeld s met)
       best = subst (λ n. Holds ahead (s .query .k) R′ out rest (take (s .query .k - n) (sort ahead (heldPairs s ++ met)))) (sym (h .counted)) joined
 
       go : (b : Bool) → skipped s x y ≡ b → Keeping R′ out (cond b s (holding s (bestHeld s met)))
-      go true e = record { counted = h .counted; stored = h .stored; rest = rest; holds = subst (Holds ahead (s .query .k) R′ out rest) (skipped-same (h .stored) (held-ranked ahead (λ p. p .sum) pair-rank (s .query .k) R out (h .rest) (heldPairs s) (h .holds)) (λ p m. low p (in-met p .0 m)) e) best }
-      go false e = unfold holding in record { counted = h .counted; stored = ap length (held-holding s (bestHeld s met)); rest = rest; holds = subst (Holds ahead (s .query .k) R′ out rest) (sym (held-holding s (bestHeld s met))) best }
+      go true e = record {
+        counted = h .counted;
+        stored = h .stored;
+        rest = rest;
+        holds =
+            subst (Holds ahead (s .query .k) R′ out rest)
+            (skipped-same (h .stored) (held-ranked ahead (λ p. p .sum) pair-rank (s .query .k) R out (h .rest) (heldPairs s) (h .holds)) (λ p m. low p (in-met p .0 m)) e)
+            best;
+      }
+      go false e =
+          unfold holding in record
+          { counted = h .counted; stored = ap length (held-holding s (bestHeld s met)); rest = rest; holds = subst (Holds ahead (s .query .k) R′ out rest) (sym (held-holding s (bestHeld s met))) best }

@@ -28,7 +28,12 @@ open-reached q f t = record {
   trim-rows = refl;
   field-depth = omega arith;
   trim-depth = omega arith;
-  keeping = record { counted = refl; stored = refl; rest = []; holds = holds-none ahead (λ p. p .sum) pair-rank (q .k) (Region (q .radius) f t 0 0) (λ p h. omega (arith, h .field-part)) };
+  keeping = record {
+    counted = refl;
+    stored = refl;
+    rest = [];
+    holds = holds-none ahead (λ p. p .sum) pair-rank (q .k) (Region (q .radius) f t 0 0) (λ p h. omega (arith, h .field-part));
+  };
 }
 
 -- The depths after a read
@@ -61,19 +66,22 @@ module _ (field : Bool) (radius : ℕ) (f t : List ℤ) (a b c : ℕ) (p : Pair)
   region-own h = h .own-part .1
 
   met-more : a ≤ b → (Met field radius f t 0 a 0 c p ⊎ Met field radius f t a b 0 c p) ↔ Met field radius f t 0 b 0 c p
-  met-more h = (⊎-elim (λ r. record { fits = r .fits; own-part = omega (arith, r .own-part); other-part = r .other-part }) (λ r. record { fits = r .fits; own-part = omega (arith, r .own-part); other-part = r .other-part }), λ r. go r (decLe (ownRow field p) a))
+  met-more h =
+      (⊎-elim (λ r. record { fits = r .fits; own-part = omega (arith, r .own-part); other-part = r .other-part }) (λ r. record { fits = r .fits; own-part = omega (arith, r .own-part); other-part = r .other-part }), λ r. go r (decLe (ownRow field p) a))
     where
       go : Met field radius f t 0 b 0 c p → Dec (ownRow field p ≤ a) → Met field radius f t 0 a 0 c p ⊎ Met field radius f t a b 0 c p
       go r (yes k) = inl (record { fits = r .fits; own-part = (r .own-part .0, k); other-part = r .other-part })
       go r (no k) = inr (record { fits = r .fits; own-part = omega (arith, r .own-part); other-part = r .other-part })
 
 -- a region, its table that is read first
-region-met : (field : Bool) (radius : ℕ) (f t : List ℤ) (d e : ℕ) (p : Pair) → Region radius f t d e p ↔ Met field radius f t 0 (cond field d e) 0 (cond field e d) p
+region-met : (field : Bool) (radius : ℕ) (f t : List ℤ) (d e : ℕ) (p : Pair)
+    → Region radius f t d e p ↔ Met field radius f t 0 (cond field d e) 0 (cond field e d) p
 region-met true radius f t d e p = between-met radius f t 0 d 0 e p
 region-met false radius f t d e p = between-met-trim radius f t 0 e 0 d p
 
 -- the same, its depth in the table that is read being b
-region-read : (field : Bool) (radius : ℕ) (f t : List ℤ) (b d e : ℕ) (p : Pair) → Region radius f t (cond field b d) (cond field e b) p ↔ Met field radius f t 0 b 0 (cond field e d) p
+region-read : (field : Bool) (radius : ℕ) (f t : List ℤ) (b d e : ℕ) (p : Pair)
+    → Region radius f t (cond field b d) (cond field e b) p ↔ Met field radius f t 0 b 0 (cond field e d) p
 region-read true radius f t b d e p = between-met radius f t 0 b 0 e p
 region-read false radius f t b d e p = between-met-trim radius f t 0 b 0 d p
 
@@ -91,16 +99,22 @@ module _ (field : Bool) (f t : List ℤ) (g : legal f ≡ true) (h : legal t ≡
 
   -- before the depth is raised
   abbrev met : Session
-  met = meetBlocks field s (rowsBetween (cond field f t) (oldDepth field s) b) (cond field t f) (cond field e d) (blockCount (s .query .block) (cond field e d))
+  met =
+      meetBlocks field s (rowsBetween (cond field f t) (oldDepth field s) b) (cond field t f) (cond field e d)
+      (blockCount (s .query .block) (cond field e d))
 
   b-within : b ≤ rowCount (cond field f t)
   b-within = own-within field f t (oldDepth field s + s .query .block) (s .rows .field .0) (s .rows .trim .0) (a .field-rows) (a .trim-rows)
 
   b-grows : cond field d e ≤ b
-  b-grows = depth-grows field d e (s .rows .field .0) (s .rows .trim .0) (s .query .block) (omega (arith, a .field-depth, a .field-rows)) (omega (arith, a .trim-depth, a .trim-rows))
+  b-grows =
+      depth-grows field d e (s .rows .field .0) (s .rows .trim .0) (s .query .block) (omega (arith, a .field-depth, a .field-rows))
+      (omega (arith, a .trim-depth, a .trim-rows))
 
   same : SameButHeld s met
-  same = blocks-same field s (rowsBetween (cond field f t) (oldDepth field s) b) (cond field t f) (cond field e d) (blockCount (s .query .block) (cond field e d))
+  same =
+      blocks-same field s (rowsBetween (cond field f t) (oldDepth field s) b) (cond field t f) (cond field e d)
+      (blockCount (s .query .block) (cond field e d))
 
   -- the old region, in the words of the blocks
   abbrev Old : Pair → Type 0
@@ -110,9 +124,13 @@ module _ (field : Bool) (f t : List ℤ) (g : legal f ≡ true) (h : legal t ≡
   keeps-old = keeping-same (Region (s .query .radius) f t d e) Old out s (region-met field (s .query .radius) f t d e) (a .keeping)
 
   met-keeps : Keeping (Region (s .query .radius) f t (cond field b d) (cond field e b)) out met
-  met-keeps = keeping-same (λ p. Old p ⊎ Met field (s .query .radius) f t (cond field d e) b 0 (cond field e d) p) (Region (s .query .radius) f t (cond field b d) (cond field e b)) out met same-region (all-blocks-keep field f t g h s (cond field d e) b (cond field e d) b-within (other-within field f t d e (a .field-depth) (a .trim-depth)) Old (region-own field (s .query .radius) f t (cond field d e) b (cond field e d)) out keeps-old size)
+  met-keeps =
+      keeping-same (λ p. Old p ⊎ Met field (s .query .radius) f t (cond field d e) b 0 (cond field e d) p)
+      (Region (s .query .radius) f t (cond field b d) (cond field e b)) out met same-region
+      (all-blocks-keep field f t g h s (cond field d e) b (cond field e d) b-within (other-within field f t d e (a .field-depth) (a .trim-depth)) Old (region-own field (s .query .radius) f t (cond field d e) b (cond field e d)) out keeps-old size)
     where
-      same-region : (p : Pair) → (Old p ⊎ Met field (s .query .radius) f t (cond field d e) b 0 (cond field e d) p) ↔ Region (s .query .radius) f t (cond field b d) (cond field e b) p
+      same-region : (p : Pair)
+          → (Old p ⊎ Met field (s .query .radius) f t (cond field d e) b 0 (cond field e d) p) ↔ Region (s .query .radius) f t (cond field b d) (cond field e b) p
       same-region p =
           let more = met-more field (s .query .radius) f t (cond field d e) b (cond field e d) p b-grows in
           let new = region-read field (s .query .radius) f t b d e p in
@@ -126,8 +144,19 @@ module _ (field : Bool) (f t : List ℤ) (g : legal f ≡ true) (h : legal t ≡
     trim-rows = ap (λ c. c .trim .0) (same .rows) ∙ a .trim-rows;
     field-depth = subst (λ c. cond field b (c .field .0) ≤ rowCount f) (sym (same .depth)) (field-within field f t b d b-within (a .field-depth));
     trim-depth = subst (λ c. cond field (c .trim .0) b ≤ rowCount t) (sym (same .depth)) (trim-within field f t b e b-within (a .trim-depth));
-    keeping = record { counted = met-keeps .counted; stored = met-keeps .stored; rest = met-keeps .rest; holds = subst (λ c. Holds ahead (met .query .k) (Region (s .query .radius) f t (cond field b (c .field .0)) (cond field (c .trim .0) b)) out (met-keeps .rest) (heldPairs met)) (sym (same .depth)) (met-keeps .holds) };
+    keeping = record {
+      counted = met-keeps .counted;
+      stored = met-keeps .stored;
+      rest = met-keeps .rest;
+      holds =
+          subst
+          (λ c. Holds ahead (met .query .k) (Region (s .query .radius) f t (cond field b (c .field .0)) (cond field (c .trim .0) b)) out (met-keeps .rest) (heldPairs met))
+          (sym (same .depth)) (met-keeps .holds);
+    };
   }
 
-pub read-reached : (field : Bool) (q : Query) (f t : List ℤ) → legal f ≡ true → legal t ≡ true → 1 ≤ q .block → (out : List Pair) (s : Session) → Reached q f t out s → Reached q f t out (readTable field f t s)
-read-reached field q f t g h size out s a = subst (λ q. Reached q f t out (readTable field f t s)) (a .query) (read-same-query field f t g h out s (subst (λ q. 1 ≤ q .block) (sym (a .query)) size) (subst (λ q. Reached q f t out s) (sym (a .query)) a))
+pub read-reached : (field : Bool) (q : Query) (f t : List ℤ) → legal f ≡ true → legal t ≡ true → 1 ≤ q .block → (out : List Pair) (s : Session)
+    → Reached q f t out s → Reached q f t out (readTable field f t s)
+read-reached field q f t g h size out s a =
+    subst (λ q. Reached q f t out (readTable field f t s)) (a .query)
+    (read-same-query field f t g h out s (subst (λ q. 1 ≤ q .block) (sym (a .query)) size) (subst (λ q. Reached q f t out s) (sym (a .query)) a))

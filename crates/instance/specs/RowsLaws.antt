@@ -29,7 +29,8 @@ legal-size t g = both-true (sizeFits t) (every (λ i. rowInRange t i && rowInOrd
 
 pub legal-four : (t : List ℤ) → legal t ≡ true → length t ≡ 4 * rowCount t
 unfolding sizeFits
-legal-four t g = let e : length t % 4 ≡ 0 = eqb-true (length t % 4) 0 (both-true (eqb (length t % 4) 0) (leb (rowCount t) 65535) (legal-size t g) .0) in omega arith
+legal-four t g =
+    let e : length t % 4 ≡ 0 = eqb-true (length t % 4) 0 (both-true (eqb (length t % 4) 0) (leb (rowCount t) 65535) (legal-size t g) .0) in omega arith
 
 pub legal-most : (t : List ℤ) → legal t ≡ true → rowCount t ≤ 65535
 unfolding sizeFits
@@ -38,7 +39,10 @@ legal-most t g = leb-true (rowCount t) 65535 (both-true (eqb (length t % 4) 0) (
 module _ (t : List ℤ) (g : legal t ≡ true) (i : ℕ) (h : i < rowCount t) where
   row-legal : (rowInRange t i && rowInOrder t i) ≡ true
   unfolding legal
-  row-legal = every-at (λ i. rowInRange t i && rowInOrder t i) i (both-true (sizeFits t) (every (λ i. rowInRange t i && rowInOrder t i) (range 0 (rowCount t))) g .1) (mem-range i 0 (rowCount t) .1 (omega arith))
+  row-legal =
+      every-at (λ i. rowInRange t i && rowInOrder t i) i
+      (both-true (sizeFits t) (every (λ i. rowInRange t i && rowInOrder t i) (range 0 (rowCount t))) g .1)
+      (mem-range i 0 (rowCount t) .1 (omega arith))
 
   pub legal-range : rowInRange t i ≡ true
   legal-range = both-true (rowInRange t i) (rowInOrder t i) row-legal .0
@@ -46,9 +50,12 @@ module _ (t : List ℤ) (g : legal t ≡ true) (i : ℕ) (h : i < rowCount t) wh
   pub legal-order : rowInOrder t i ≡ true
   legal-order = both-true (rowInRange t i) (rowInOrder t i) row-legal .1
 
-pub legal-of : (t : List ℤ) → length t ≡ 4 * rowCount t → rowCount t ≤ 65535 → ((i : ℕ) → i < rowCount t → (rowInRange t i ≡ true) × (rowInOrder t i ≡ true)) → legal t ≡ true
+pub legal-of : (t : List ℤ) → length t ≡ 4 * rowCount t → rowCount t ≤ 65535
+    → ((i : ℕ) → i < rowCount t → (rowInRange t i ≡ true) × (rowInOrder t i ≡ true)) → legal t ≡ true
 unfolding legal sizeFits
-legal-of t e m h = rw (eq-eqb (length t % 4) 0 (omega arith), le-leb (rowCount t) 65535 m) (every-of (λ i. rowInRange t i && rowInOrder t i) (range 0 (rowCount t)) (λ i k. let r = h i (omega (arith, mem-range i 0 (rowCount t) .0 k)) in rw (r .0) (r .1)))
+legal-of t e m h =
+    rw (eq-eqb (length t % 4) 0 (omega arith), le-leb (rowCount t) 65535 m)
+    (every-of (λ i. rowInRange t i && rowInOrder t i) (range 0 (rowCount t)) (λ i k. let r = h i (omega (arith, mem-range i 0 (rowCount t) .0 k)) in rw (r .0) (r .1)))
 
 -- The rows of a table
 
@@ -66,7 +73,8 @@ unfolding within
 pos-nat low n (pos m) h = refl
 pos-nat low n (negsuc m) h = clash h refl
 
-range-parts : (p s a b : ℤ) → inRange p s a b ≡ true → (within (pos 1) (pos 999999) p ≡ true) × (within (pos 0) (pos 9999) s ≡ true) × ((within (negsuc 12799) (pos 12700) a && within (negsuc 12799) (pos 12700) b) ≡ true)
+range-parts : (p s a b : ℤ) → inRange p s a b ≡ true
+    → (within (pos 1) (pos 999999) p ≡ true) × (within (pos 0) (pos 9999) s ≡ true) × ((within (negsuc 12799) (pos 12700) a && within (negsuc 12799) (pos 12700) b) ≡ true)
 unfolding inRange
 range-parts p s a b h =
     let shades : Bool = within (negsuc 12799) (pos 12700) a && within (negsuc 12799) (pos 12700) b in
@@ -85,12 +93,15 @@ module _ (t : List ℤ) (i : ℕ) (h : rowInRange t i ≡ true) where
 
   row-good : GoodRow (row t i)
   unfolding rowInRange row
-  row-good = subst (λ p. inRange p (pos (natOf (num t i 1))) (num t i 2) (num t i 3) ≡ true) (sym pattern-kept) (subst (λ s. inRange (num t i 0) s (num t i 2) (num t i 3) ≡ true) (sym score-kept) h)
+  row-good =
+      subst (λ p. inRange p (pos (natOf (num t i 1))) (num t i 2) (num t i 3) ≡ true) (sym pattern-kept)
+      (subst (λ s. inRange (num t i 0) s (num t i 2) (num t i 3) ≡ true) (sym score-kept) h)
 
 pub score-most : (t : List ℤ) → legal t ≡ true → (i : ℕ) → i < rowCount t → row t i .score ≤ 9999
 unfolding rowInRange within
 score-most t g i h =
-    let a : (leZ (pos 0) (num t i 1) && leZ (num t i 1) (pos 9999)) ≡ true = range-parts (num t i 0) (num t i 1) (num t i 2) (num t i 3) (legal-range t g i h) .1 in
+    let a : (leZ (pos 0) (num t i 1) && leZ (num t i 1) (pos 9999)) ≡ true =
+    range-parts (num t i 0) (num t i 1) (num t i 2) (num t i 3) (legal-range t g i h) .1 in
     let b : leZ (num t i 1) (pos 9999) ≡ true = both-true (leZ (pos 0) (num t i 1)) (leZ (num t i 1) (pos 9999)) a .1 in
     leb-true (row t i .score) 9999 (subst (λ x. leZ x (pos 9999) ≡ true) (sym (score-kept t i (legal-range t g i h))) b)
 
@@ -98,19 +109,25 @@ score-most t g i h =
 score-falls : (t : List ℤ) → legal t ≡ true → (i : ℕ) → suc i < rowCount t → row t (suc i) .score ≤ row t i .score
 unfolding rowInOrder
 score-falls t g i h =
-    let a : leZ (num t (suc i) 1) (num t (suc i - 1) 1) ≡ true = ⊎-elim (λ e. absurd (omega (arith, eqb-true (suc i) 0 e))) (λ e. e) (one-true (eqb (suc i) 0) (leZ (num t (suc i) 1) (num t (suc i - 1) 1)) (legal-order t g (suc i) h)) in
+    let a : leZ (num t (suc i) 1) (num t (suc i - 1) 1) ≡ true =
+    ⊎-elim (λ e. absurd (omega (arith, eqb-true (suc i) 0 e))) (λ e. e)
+    (one-true (eqb (suc i) 0) (leZ (num t (suc i) 1) (num t (suc i - 1) 1)) (legal-order t g (suc i) h)) in
     let b : suc i - 1 ≡ i = omega arith in
     let c : leZ (num t (suc i) 1) (num t i 1) ≡ true = subst (λ j. leZ (num t (suc i) 1) (num t j 1) ≡ true) b a in
-    leb-true (row t (suc i) .score) (row t i .score) (subst₂ (λ x y. leZ x y ≡ true) (sym (score-kept t (suc i) (legal-range t g (suc i) h))) (sym (score-kept t i (legal-range t g i (omega arith)))) c)
+    leb-true (row t (suc i) .score) (row t i .score)
+    (subst₂ (λ x y. leZ x y ≡ true) (sym (score-kept t (suc i) (legal-range t g (suc i) h))) (sym (score-kept t i (legal-range t g i (omega arith)))) c)
 
 pub scores-fall : (t : List ℤ) → legal t ≡ true → (i j : ℕ) → i ≤ j → j < rowCount t → row t j .score ≤ row t i .score
-scores-fall t g i j h = le-ind (λ j. j < rowCount t → row t j .score ≤ row t i .score) (λ k. omega arith) (λ j m ih k. omega (arith, ih (omega arith), score-falls t g j k)) j h
+scores-fall t g i j h =
+    le-ind (λ j. j < rowCount t → row t j .score ≤ row t i .score) (λ k. omega arith)
+    (λ j m ih k. omega (arith, ih (omega arith), score-falls t g j k)) j h
 
 pub legal-rows : (t : List ℤ) → legal t ≡ true → PlainLegal rows (rowsOf t)
 legal-rows t g = record {
   short = omega (arith, length-rows t, legal-most t g);
   good = λ i h. let k : i < rowCount t = omega (arith, length-rows t) in subst GoodRow (sym (rows-at t i k)) (row-good t i (legal-range t g i k));
-  falls = λ i h. let k : suc i < rowCount t = omega (arith, length-rows t) in omega (arith, ap (λ x. x .score) (rows-at t (suc i) k), ap (λ x. x .score) (rows-at t i (omega arith)), score-falls t g i k);
+  falls =
+      λ i h. let k : suc i < rowCount t = omega (arith, length-rows t) in omega (arith, ap (λ x. x .score) (rows-at t (suc i) k), ap (λ x. x .score) (rows-at t i (omega arith)), score-falls t g i k);
 }
 
 -- Rows written out
@@ -146,10 +163,14 @@ num-flat (x ∷ l) (suc i) j h =
 
 pub row-flat : (l : List Row) (i : ℕ) → row (flat l) i ≡ getD l i blankRow
 unfolding row cell
-row-flat l i = λ k. record { pattern = natOf (num-flat l i 0 (lit≤ tt) k); score = natOf (num-flat l i 1 (lit≤ tt) k); shade = record { a = num-flat l i 2 (lit≤ tt) k; b = num-flat l i 3 (lit≤ tt) k } }
+row-flat l i =
+    λ k. record
+    { pattern = natOf (num-flat l i 0 (lit≤ tt) k); score = natOf (num-flat l i 1 (lit≤ tt) k); shade = record { a = num-flat l i 2 (lit≤ tt) k; b = num-flat l i 3 (lit≤ tt) k } }
 
 pub rows-flat : (l : List Row) → rowsOf (flat l) ≡ l
-rows-flat l = ext-getD blankRow (rowsOf (flat l)) l (length-rows (flat l) ∙ count-flat l) (λ i h. rows-at (flat l) i (omega (arith, length-rows (flat l))) ∙ row-flat l i)
+rows-flat l =
+    ext-getD blankRow (rowsOf (flat l)) l (length-rows (flat l) ∙ count-flat l)
+    (λ i h. rows-at (flat l) i (omega (arith, length-rows (flat l))) ∙ row-flat l i)
 
 cell-row : (t : List ℤ) (i : ℕ) → rowInRange t i ≡ true → (j : ℕ) → j < 4 → cell (row t i) j ≡ num t i j
 unfolding cell row
@@ -167,7 +188,11 @@ flat-rows t g = ext-getD (pos 0) (flat (rowsOf t)) t (omega (arith, length-flat 
         let e : m ≡ 4 * (m / 4) + m % 4 = omega arith in
         let k : m / 4 < rowCount t = omega (arith, length-flat (rowsOf t), length-rows t) in
         let j : m % 4 < 4 = omega arith in
-        ap (λ n. getD (flat (rowsOf t)) n (pos 0)) e ∙ num-flat (rowsOf t) (m / 4) (m % 4) j ∙ ap (λ x. cell x (m % 4)) (rows-at t (m / 4) k) ∙ cell-row t (m / 4) (legal-range t g (m / 4) k) (m % 4) j ∙ ap (λ n. getD t n (pos 0)) (sym e)
+        ap (λ n. getD (flat (rowsOf t)) n (pos 0)) e
+        ∙ num-flat (rowsOf t) (m / 4) (m % 4) j
+        ∙ ap (λ x. cell x (m % 4)) (rows-at t (m / 4) k)
+        ∙ cell-row t (m / 4) (legal-range t g (m / 4) k) (m % 4) j
+        ∙ ap (λ n. getD t n (pos 0)) (sym e)
 
 -- past the end too
 pub row-at : (t : List ℤ) → legal t ≡ true → (i : ℕ) → getD (rowsOf t) i blankRow ≡ row t i
@@ -190,11 +215,14 @@ unfolding rowInOrder cell
 flat-order l g zero h = refl
 flat-order l g (suc i) h =
     let e : suc i - 1 ≡ i = omega arith in
-    rw (ne-eqb (suc i) 0 (λ z. omega arith), num-flat l (suc i) 1 (lit≤ tt), ap (λ j. num (flat l) j 1) e ∙ num-flat l i 1 (lit≤ tt)) (le-leb (getD l (suc i) blankRow .score) (getD l i blankRow .score) (g .falls i h))
+    rw (ne-eqb (suc i) 0 (λ z. omega arith), num-flat l (suc i) 1 (lit≤ tt), ap (λ j. num (flat l) j 1) e ∙ num-flat l i 1 (lit≤ tt))
+    (le-leb (getD l (suc i) blankRow .score) (getD l i blankRow .score) (g .falls i h))
 
 pub flat-legal : (l : List Row) → PlainLegal rows l → legal (flat l) ≡ true
 unfolding rowInRange cell
-flat-legal l g = legal-of (flat l) (omega (arith, length-flat l)) (omega (arith, count-flat l, g .short)) (λ i h. (rw (num-flat l i 0 (lit≤ tt), num-flat l i 1 (lit≤ tt), num-flat l i 2 (lit≤ tt), num-flat l i 3 (lit≤ tt)) (g .good i (omega (arith, count-flat l))), flat-order l g i (omega (arith, count-flat l))))
+flat-legal l g =
+    legal-of (flat l) (omega (arith, length-flat l)) (omega (arith, count-flat l, g .short))
+    (λ i h. (rw (num-flat l i 0 (lit≤ tt), num-flat l i 1 (lit≤ tt), num-flat l i 2 (lit≤ tt), num-flat l i 3 (lit≤ tt)) (g .good i (omega (arith, count-flat l))), flat-order l g i (omega (arith, count-flat l))))
 
 -- The laws of the join
 

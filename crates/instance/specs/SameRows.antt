@@ -29,11 +29,16 @@ same-less m n t u h e = sym (take-take (4 * m) (4 * n) u (omega arith)) ∙ ap (
 -- Rows and parts
 
 pub same-num : (n : ℕ) (t u : List ℤ) → SameRows n t u → (i j : ℕ) → i < n → j < 4 → num u i j ≡ num t i j
-same-num n t u e i j h k = sym (getD-take (4 * n) u (4 * i + j) (pos 0) (omega arith)) ∙ ap (λ l. getD l (4 * i + j) (pos 0)) e ∙ getD-take (4 * n) t (4 * i + j) (pos 0) (omega arith)
+same-num n t u e i j h k =
+    sym (getD-take (4 * n) u (4 * i + j) (pos 0) (omega arith))
+    ∙ ap (λ l. getD l (4 * i + j) (pos 0)) e
+    ∙ getD-take (4 * n) t (4 * i + j) (pos 0) (omega arith)
 
 pub same-row : (n : ℕ) (t u : List ℤ) → SameRows n t u → (i : ℕ) → i < n → row u i ≡ row t i
 unfolding row
-same-row n t u e i h = λ k. record { pattern = natOf (same-num n t u e i 0 h (lit≤ tt) k); score = natOf (same-num n t u e i 1 h (lit≤ tt) k); shade = record { a = same-num n t u e i 2 h (lit≤ tt) k; b = same-num n t u e i 3 h (lit≤ tt) k } }
+same-row n t u e i h =
+    λ k. record
+    { pattern = natOf (same-num n t u e i 0 h (lit≤ tt) k); score = natOf (same-num n t u e i 1 h (lit≤ tt) k); shade = record { a = same-num n t u e i 2 h (lit≤ tt) k; b = same-num n t u e i 3 h (lit≤ tt) k } }
 
 take-drop : (m j : ℕ) (l : List ℤ) → take m (drop j l) ≡ drop j (take (j + m) l)
 take-drop m zero l = ap (λ n. take n l) (let z : m ≡ 0 + m = omega arith in z)
@@ -43,7 +48,8 @@ take-drop m (suc j) (x ∷ l) =
     take-drop m j l ∙ ap (λ n. drop (suc j) (take n (x ∷ l))) e
 
 same-slice : (m j n : ℕ) (t u : List ℤ) → take n u ≡ take n t → j + m ≤ n → take m (drop j u) ≡ take m (drop j t)
-same-slice m j n t u e h = take-drop m j u ∙ ap (drop j) (sym (take-take (j + m) n u h) ∙ ap (take (j + m)) e ∙ take-take (j + m) n t h) ∙ sym (take-drop m j t)
+same-slice m j n t u e h =
+    take-drop m j u ∙ ap (drop j) (sym (take-take (j + m) n u h) ∙ ap (take (j + m)) e ∙ take-take (j + m) n t h) ∙ sym (take-drop m j t)
 
 pub same-part : (n : ℕ) (t u : List ℤ) → SameRows n t u → (a b : ℕ) → b ≤ n → rowsBetween u a b ≡ rowsBetween t a b
 same-part n t u e a b h = ap (λ l. record { start = a; rows = l }) (go (decLe a b))
@@ -90,7 +96,8 @@ module _ (f t f′ t′ : List ℤ) (s : Session) (ef : SameRows (s .depth .fiel
   unfolding secured
   same-secured live p = go (aDepthIsZero s) refl
     where
-      go : (b : Bool) → aDepthIsZero s ≡ b → cond (b && not (aTableIsEmpty s)) false (cond (bothReadOut s) true (leb (ceiling f′ t′ s) (p .sum))) ≡ cond (b && not (aTableIsEmpty s)) false (cond (bothReadOut s) true (leb (ceiling f t s) (p .sum)))
+      go : (b : Bool) → aDepthIsZero s ≡ b
+          → cond (b && not (aTableIsEmpty s)) false (cond (bothReadOut s) true (leb (ceiling f′ t′ s) (p .sum))) ≡ cond (b && not (aTableIsEmpty s)) false (cond (bothReadOut s) true (leb (ceiling f t s) (p .sum)))
       go true z = rw live
       go false z = ap (λ c. cond (bothReadOut s) true (leb c (p .sum))) (same-ceiling (some-field z) (some-trim z))
 
@@ -98,16 +105,20 @@ module _ (f t f′ t′ : List ℤ) (s : Session) (ef : SameRows (s .depth .fiel
   unfolding settled
   same-settled = go (aTableIsEmpty s) refl
     where
-      go : (b : Bool) → aTableIsEmpty s ≡ b → (b || (bothReadOut s || (eqb (s .out) (s .query .k) || (eqb (s .out + s .held) (s .query .k) && every (secured f′ t′ s) (heldPairs s))))) ≡ (b || (bothReadOut s || (eqb (s .out) (s .query .k) || (eqb (s .out + s .held) (s .query .k) && every (secured f t s) (heldPairs s)))))
+      go : (b : Bool) → aTableIsEmpty s ≡ b
+          → (b || (bothReadOut s || (eqb (s .out) (s .query .k) || (eqb (s .out + s .held) (s .query .k) && every (secured f′ t′ s) (heldPairs s))))) ≡ (b || (bothReadOut s || (eqb (s .out) (s .query .k) || (eqb (s .out + s .held) (s .query .k) && every (secured f t s) (heldPairs s)))))
       go true z = refl
-      go false z = ap (λ w. bothReadOut s || (eqb (s .out) (s .query .k) || (eqb (s .out + s .held) (s .query .k) && w))) (every-same (secured f′ t′ s) (secured f t s) (heldPairs s) (λ p m. same-secured z p))
+      go false z =
+          ap (λ w. bothReadOut s || (eqb (s .out) (s .query .k) || (eqb (s .out + s .held) (s .query .k) && w)))
+          (every-same (secured f′ t′ s) (secured f t s) (heldPairs s) (λ p m. same-secured z p))
 
   pub same-next : fieldNext f′ t′ s ≡ fieldNext f t s
   unfolding fieldNext
   same-next = go (eqb d 0) (eqb e 0) refl refl
     where
       rule : Bool → Bool → ℕ → ℕ → Bool
-      rule x y m n = cond x true (cond y false (cond (trimReadOut s) true (cond (fieldReadOut s) false (cond (ltb m n) true (cond (ltb n m) false (leb d e))))))
+      rule x y m n =
+          cond x true (cond y false (cond (trimReadOut s) true (cond (fieldReadOut s) false (cond (ltb m n) true (cond (ltb n m) false (leb d e))))))
 
       go : (x y : Bool) → eqb d 0 ≡ x → eqb e 0 ≡ y → rule x y (scoreDrop f′ d) (scoreDrop t′ e) ≡ rule x y (scoreDrop f d) (scoreDrop t e)
       go true y p q = refl
@@ -119,22 +130,30 @@ module _ (f t f′ t′ : List ℤ) (s : Session) (ef : SameRows (s .depth .fiel
 
 -- Reading
 
-same-blocks : (field : Bool) (s : Session) (new : Block) (t u : List ℤ) (depth n : ℕ) → SameRows depth t u → meetBlocks field s new u depth n ≡ meetBlocks field s new t depth n
+same-blocks : (field : Bool) (s : Session) (new : Block) (t u : List ℤ) (depth n : ℕ) → SameRows depth t u
+    → meetBlocks field s new u depth n ≡ meetBlocks field s new t depth n
 unfolding meetBlocks
 same-blocks field s new t u depth zero e = refl
-same-blocks field s new t u depth (suc n) e = ap₂ (λ r old. meet r (cond field new old) (cond field old new)) (same-blocks field s new t u depth n e) (same-part depth t u e (n * s .query .block) (min (n * s .query .block + s .query .block) depth) (omega arith))
+same-blocks field s new t u depth (suc n) e =
+    ap₂ (λ r old. meet r (cond field new old) (cond field old new)) (same-blocks field s new t u depth n e)
+    (same-part depth t u e (n * s .query .block) (min (n * s .query .block + s .query .block) depth) (omega arith))
 
-pub same-own : (field : Bool) (f t f′ t′ : List ℤ) (b d e : ℕ) → SameRows (cond field b d) f f′ → SameRows (cond field e b) t t′ → SameRows b (cond field f t) (cond field f′ t′)
+pub same-own : (field : Bool) (f t f′ t′ : List ℤ) (b d e : ℕ) → SameRows (cond field b d) f f′ → SameRows (cond field e b) t t′
+    → SameRows b (cond field f t) (cond field f′ t′)
 same-own true f t f′ t′ b d e h k = h
 same-own false f t f′ t′ b d e h k = k
 
-pub same-other : (field : Bool) (f t f′ t′ : List ℤ) (b d e : ℕ) → SameRows (cond field b d) f f′ → SameRows (cond field e b) t t′ → SameRows (cond field e d) (cond field t f) (cond field t′ f′)
+pub same-other : (field : Bool) (f t f′ t′ : List ℤ) (b d e : ℕ) → SameRows (cond field b d) f f′ → SameRows (cond field e b) t t′
+    → SameRows (cond field e d) (cond field t f) (cond field t′ f′)
 same-other true f t f′ t′ b d e h k = k
 same-other false f t f′ t′ b d e h k = h
 
-pub same-read : (field : Bool) (f t f′ t′ : List ℤ) (s : Session) → SameRows (cond field (newDepth field s) (s .depth .field .0)) f f′ → SameRows (cond field (s .depth .trim .0) (newDepth field s)) t t′ → readTable field f′ t′ s ≡ readTable field f t s
+pub same-read : (field : Bool) (f t f′ t′ : List ℤ) (s : Session) → SameRows (cond field (newDepth field s) (s .depth .field .0)) f f′
+    → SameRows (cond field (s .depth .trim .0) (newDepth field s)) t t′ → readTable field f′ t′ s ≡ readTable field f t s
 unfolding readTable
-same-read field f t f′ t′ s h k = ap (readTo field b) (ap (λ new. meetBlocks field s new (cond field t′ f′) c n) (same-part b (cond field f t) (cond field f′ t′) (same-own field f t f′ t′ b d e h k) (oldDepth field s) b (omega arith)) ∙ same-blocks field s (rowsBetween (cond field f t) (oldDepth field s) b) (cond field t f) (cond field t′ f′) c n (same-other field f t f′ t′ b d e h k))
+same-read field f t f′ t′ s h k =
+    ap (readTo field b)
+    (ap (λ new. meetBlocks field s new (cond field t′ f′) c n) (same-part b (cond field f t) (cond field f′ t′) (same-own field f t f′ t′ b d e h k) (oldDepth field s) b (omega arith)) ∙ same-blocks field s (rowsBetween (cond field f t) (oldDepth field s) b) (cond field t f) (cond field t′ f′) c n (same-other field f t f′ t′ b d e h k))
   where
     d : ℕ
     d = s .depth .field .0

@@ -55,9 +55,12 @@ secured-cases f t s p h = go (aDepthIsZero s && not (aTableIsEmpty s)) (bothRead
     go false true h = inl refl
     go false false h = inr (leb-true (ceiling f t s) (p .sum) h)
 
-secured-high : (f t : List ℤ) (s : Session) (p : Pair) → 1 ≤ s .depth .field .0 → 1 ≤ s .depth .trim .0 → ceiling f t s ≤ p .sum → secured f t s p ≡ true
+secured-high : (f t : List ℤ) (s : Session) (p : Pair) → 1 ≤ s .depth .field .0 → 1 ≤ s .depth .trim .0 → ceiling f t s ≤ p .sum
+    → secured f t s p ≡ true
 unfolding secured
-secured-high f t s p hd he h = rw (ne-eqb (s .depth .field .0) 0 (λ z. omega arith), ne-eqb (s .depth .trim .0) 0 (λ z. omega arith), le-leb (ceiling f t s) (p .sum) h) (go (bothReadOut s))
+secured-high f t s p hd he h =
+    rw (ne-eqb (s .depth .field .0) 0 (λ z. omega arith), ne-eqb (s .depth .trim .0) 0 (λ z. omega arith), le-leb (ceiling f t s) (p .sum) h)
+    (go (bothReadOut s))
   where
     go : (b : Bool) → cond b true true ≡ true
     go true = refl
@@ -112,22 +115,32 @@ module _ (q : Query) (f t : List ℤ) (out : List Pair) (s : Session) (a : Reach
         let j : ℕ = p .trim - 1 in
         let hi : i < rowCount f = omega (arith, m .field-row) in
         let hj : j < rowCount t = omega (arith, m .trim-row) in
-        let meets : near (q .radius) (Join.rowAt side F i) (Join.rowAt side T j) ≡ true = ap₂ (near (q .radius)) (rows-at f i hi) (rows-at t j hj) ∙ m .near in
-        let low = outside-low side side (near (q .radius)) (laws (q .radius)) F F T T d e i j (legal-rows f g) (legal-rows t h) hd he (begins-itself d f g) (begins-itself e t h) (⊎-elim (λ z. inl (omega arith)) (λ z. inr (omega arith)) o) (omega (arith, length-rows f)) (omega (arith, length-rows t)) meets in
+        let meets : near (q .radius) (Join.rowAt side F i) (Join.rowAt side T j) ≡ true =
+        ap₂ (near (q .radius)) (rows-at f i hi) (rows-at t j hj) ∙ m .near in
+        let low =
+        outside-low side side (near (q .radius)) (laws (q .radius)) F F T T d e i j (legal-rows f g) (legal-rows t h) hd he (begins-itself d f g)
+        (begins-itself e t h) (⊎-elim (λ z. inl (omega arith)) (λ z. inr (omega arith)) o) (omega (arith, length-rows f))
+        (omega (arith, length-rows t)) meets in
         omega (arith, low, weight-is f i hi, weight-is t j hj, m .own-sum, ceiling-rows hd he)
 
     -- the first held pair, once secured: no pair that is not out has a higher sum
-    pub secured-best : 1 ≤ s .held → secured f t s (firstHeld s) ≡ true → (p : Pair) → Fits (q .radius) f t p → (List·Memᴰ p out → ⊥) → p .sum ≤ firstHeld s .sum
+    pub secured-best : 1 ≤ s .held → secured f t s (firstHeld s) ≡ true → (p : Pair) → Fits (q .radius) f t p → (List·Memᴰ p out → ⊥)
+        → p .sum ≤ firstHeld s .sum
     secured-best some z p m new = go (decLe (p .field) d) (decLe (p .trim) e)
       where
         first : Region (q .radius) f t d e (firstHeld s)
         first = first-inside q f t out s a some
 
         beyond : (d < p .field) ⊎ (e < p .trim) → p .sum ≤ firstHeld s .sum
-        beyond o = ⊎-elim (λ b. first-best q f t out s a some p (read-out-region q f t out s a b p m) new) (λ c. omega (arith, outside (omega (arith, first .field-part)) (omega (arith, first .trim-part)) p m o)) (secured-cases f t s (firstHeld s) z)
+        beyond o =
+            ⊎-elim (λ b. first-best q f t out s a some p (read-out-region q f t out s a b p m) new)
+            (λ c. omega (arith, outside (omega (arith, first .field-part)) (omega (arith, first .trim-part)) p m o))
+            (secured-cases f t s (firstHeld s) z)
 
         go : Dec (p .field ≤ d) → Dec (p .trim ≤ e) → p .sum ≤ firstHeld s .sum
-        go (yes i) (yes j) = first-best q f t out s a some p (record { fits = m; field-part = omega (arith, m .field-row); trim-part = omega (arith, m .trim-row) }) new
+        go (yes i) (yes j) =
+            first-best q f t out s a some p (record { fits = m; field-part = omega (arith, m .field-row); trim-part = omega (arith, m .trim-row) })
+            new
         go (yes i) (no j) = beyond (inr (omega arith))
         go (no i) (yes j) = beyond (inl (omega arith))
         go (no i) (no j) = beyond (inl (omega arith))
@@ -138,25 +151,36 @@ module _ (q : Query) (f t : List ℤ) (out : List Pair) (s : Session) (a : Reach
     part-rows n u l = let z : n - 0 ≡ n = omega arith in ap (λ m. rowsOf (part u 0 m)) z ∙ rows-take n u l
 
     region-sums : map (λ p. p .sum) (qualifying (q .radius) (rowsBetween f 0 d) (rowsBetween t 0 e)) ≡ sumsOf side side (near (q .radius)) (take d F) (take e T)
-    region-sums = sums-rows (q .radius) (rowsBetween f 0 d) (rowsBetween t 0 e) ∙ ap₂ (sumsOf side side (near (q .radius))) (part-rows d f g) (part-rows e t h)
+    region-sums =
+        sums-rows (q .radius) (rowsBetween f 0 d) (rowsBetween t 0 e) ∙ ap₂ (sumsOf side side (near (q .radius))) (part-rows d f g) (part-rows e t h)
 
     module _ (hd : 1 ≤ d) (he : 1 ≤ e) where
-      covered : s .query .k ≤ atLeast (ceiling f t s) (sumsOf side side (near (q .radius)) (take d F) (take e T)) → (s .out + s .held ≡ s .query .k) × (every (secured f t s) (heldPairs s) ≡ true)
+      covered : s .query .k ≤ atLeast (ceiling f t s) (sumsOf side side (near (q .radius)) (take d F) (take e T))
+          → (s .out + s .held ≡ s .query .k) × (every (secured f t s) (heldPairs s) ≡ true)
       covered enough =
           let l : List Pair = qualifying (q .radius) (rowsBetween f 0 d) (rowsBetween t 0 e) in
-          let c = held-cover ahead (λ p. p .sum) pair-rank (s .query .k) (Region (q .radius) f t d e) out (a .keeping .rest) (heldPairs s) (a .keeping .holds) (ceiling f t s) l (qualifying-distinct (q .radius) (rowsBetween f 0 d) (rowsBetween t 0 e)) (λ p m. mem-qualifying (q .radius) f t 0 d 0 e (a .field-depth) (a .trim-depth) p .0 m) (subst (λ m. s .query .k ≤ atLeast (ceiling f t s) m) (sym region-sums) enough) in
+          let c =
+          held-cover ahead (λ p. p .sum) pair-rank (s .query .k) (Region (q .radius) f t d e) out (a .keeping .rest) (heldPairs s)
+          (a .keeping .holds) (ceiling f t s) l (qualifying-distinct (q .radius) (rowsBetween f 0 d) (rowsBetween t 0 e))
+          (λ p m. mem-qualifying (q .radius) f t 0 d 0 e (a .field-depth) (a .trim-depth) p .0 m)
+          (subst (λ m. s .query .k ≤ atLeast (ceiling f t s) m) (sym region-sums) enough) in
           (omega (arith, c .0, a .keeping .counted, a .keeping .stored), every-of (secured f t s) (heldPairs s) (λ p m. secured-high f t s p hd he (all-at (λ n. ceiling f t s ≤ n) (p .sum) (c .1) (Memᴰ·map (λ p. p .sum) m))))
 
       pub unsettled-short : settled f t s ≡ false → region side side (near (q .radius)) (Join.ceiling side side F d T e) F d T e < q .k
       unfolding settled
-      unsettled-short u = subst₂ (λ c k. atLeast c sums < k) (sym (ceiling-rows hd he)) (ap (λ q. q .k) (a .query)) (go (leb (s .query .k) (atLeast (ceiling f t s) sums)) refl)
+      unsettled-short u =
+          subst₂ (λ c k. atLeast c sums < k) (sym (ceiling-rows hd he)) (ap (λ q. q .k) (a .query))
+          (go (leb (s .query .k) (atLeast (ceiling f t s) sums)) refl)
         where
           sums : List ℕ
           sums = sumsOf side side (near (q .radius)) (take d F) (take e T)
 
           last : (eqb (s .out + s .held) (s .query .k) && every (secured f t s) (heldPairs s)) ≡ false
-          last = none-true (eqb (s .out) (s .query .k)) (eqb (s .out + s .held) (s .query .k) && every (secured f t s) (heldPairs s)) (none-true (bothReadOut s) (eqb (s .out) (s .query .k) || (eqb (s .out + s .held) (s .query .k) && every (secured f t s) (heldPairs s))) (none-true (aTableIsEmpty s) (bothReadOut s || (eqb (s .out) (s .query .k) || (eqb (s .out + s .held) (s .query .k) && every (secured f t s) (heldPairs s)))) u .1) .1) .1
+          last =
+              none-true (eqb (s .out) (s .query .k)) (eqb (s .out + s .held) (s .query .k) && every (secured f t s) (heldPairs s))
+              (none-true (bothReadOut s) (eqb (s .out) (s .query .k) || (eqb (s .out + s .held) (s .query .k) && every (secured f t s) (heldPairs s))) (none-true (aTableIsEmpty s) (bothReadOut s || (eqb (s .out) (s .query .k) || (eqb (s .out + s .held) (s .query .k) && every (secured f t s) (heldPairs s)))) u .1) .1) .1
 
           go : (b : Bool) → leb (s .query .k) (atLeast (ceiling f t s) sums) ≡ b → atLeast (ceiling f t s) sums < s .query .k
-          go true z = let c = covered (leb-true (s .query .k) (atLeast (ceiling f t s) sums) z) in clash (rw (eq-eqb (s .out + s .held) (s .query .k) (c .0)) (c .1)) last
+          go true z =
+              let c = covered (leb-true (s .query .k) (atLeast (ceiling f t s) sums) z) in clash (rw (eq-eqb (s .out + s .held) (s .query .k) (c .0)) (c .1)) last
           go false z = leb-false (s .query .k) (atLeast (ceiling f t s) sums) z

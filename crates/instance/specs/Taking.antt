@@ -24,7 +24,8 @@ use Rattle.instance.specs.PairsLaws.{pair-rank}
 use Rattle.instance.specs.Keeping.{Reached}
 
 -- the first of n places, and the n - 1 after it when they move up
-places-first : (n : ℕ) (l : List Pair) → length (take n l) ≡ n → 1 ≤ n → (m : List Pair) × (take n l ≡ getD l 0 noPair ∷ m) × (take (n - 1) (drop 1 l ++ (noPair ∷ [])) ≡ m) × (length m ≡ n - 1)
+places-first : (n : ℕ) (l : List Pair) → length (take n l) ≡ n → 1 ≤ n
+    → (m : List Pair) × (take n l ≡ getD l 0 noPair ∷ m) × (take (n - 1) (drop 1 l ++ (noPair ∷ [])) ≡ m) × (length m ≡ n - 1)
 places-first zero l e h = absurd (omega arith)
 places-first (suc n) [] e h = absurd (omega arith)
 places-first (suc n) (x ∷ l) e h =
@@ -48,11 +49,15 @@ module _ (q : Query) (f t : List ℤ) (out : List Pair) (s : Session) (a : Reach
 
     -- it is a pair of the region
     pub first-inside : R (firstHeld s)
-    first-inside = held-inside ahead (λ p. p .sum) pair-rank (s .query .k) R out (a .keeping .rest) (firstHeld s ∷ first-held .0) first-holds (firstHeld s) (List·Memᴰ·head refl)
+    first-inside =
+        held-inside ahead (λ p. p .sum) pair-rank (s .query .k) R out (a .keeping .rest) (firstHeld s ∷ first-held .0) first-holds (firstHeld s)
+        (List·Memᴰ·head refl)
 
     -- not yet out
     pub first-new : List·Memᴰ (firstHeld s) out → ⊥
-    first-new = held-new ahead (λ p. p .sum) pair-rank (s .query .k) R out (a .keeping .rest) (firstHeld s ∷ first-held .0) first-holds (firstHeld s) (List·Memᴰ·head refl)
+    first-new =
+        held-new ahead (λ p. p .sum) pair-rank (s .query .k) R out (a .keeping .rest) (firstHeld s ∷ first-held .0) first-holds (firstHeld s)
+        (List·Memᴰ·head refl)
 
     -- and no pair of the region that is not out has a higher sum
     pub first-best : (p : Pair) → R p → (List·Memᴰ p out → ⊥) → p .sum ≤ firstHeld s .sum
@@ -89,14 +94,22 @@ module _ (q : Query) (f t : List ℤ) (out : List Pair) (s : Session) (a : Reach
   read-out-region e p h = let d = read-out e in record { fits = h; field-part = omega (arith, h .field-row); trim-part = omega (arith, h .trim-row) }
 
   pub empty-none : aTableIsEmpty s ≡ true → (p : Pair) → Fits (q .radius) f t p → ⊥
-  empty-none e p h = ⊎-elim (λ z. omega (arith, eqb-true (s .rows .field .0) 0 z, a .field-rows, h .field-row)) (λ z. omega (arith, eqb-true (s .rows .trim .0) 0 z, a .trim-rows, h .trim-row)) (one-true (eqb (s .rows .field .0) 0) (eqb (s .rows .trim .0) 0) e)
+  empty-none e p h =
+      ⊎-elim (λ z. omega (arith, eqb-true (s .rows .field .0) 0 z, a .field-rows, h .field-row))
+      (λ z. omega (arith, eqb-true (s .rows .trim .0) 0 z, a .trim-rows, h .trim-row))
+      (one-true (eqb (s .rows .field .0) 0) (eqb (s .rows .trim .0) 0) e)
 
   pub finished-complete : finished s ≡ true → (length out ≡ q .k) ⊎ ((p : Pair) → Fits (q .radius) f t p → List·Memᴰ p out)
   unfolding finished
-  finished-complete e = ⊎-elim (λ z. inl (sym (a .keeping .counted) ∙ eqb-true (s .out) (s .query .k) z ∙ wanted)) (λ z. ⊎-elim (λ n. inr (λ p h. absurd (empty-none n p h))) (λ n. none (both-true (bothReadOut s) (eqb (s .held) 0) n)) (one-true (aTableIsEmpty s) (bothReadOut s && eqb (s .held) 0) z)) (one-true (eqb (s .out) (s .query .k)) (aTableIsEmpty s || (bothReadOut s && eqb (s .held) 0)) e)
+  finished-complete e =
+      ⊎-elim (λ z. inl (sym (a .keeping .counted) ∙ eqb-true (s .out) (s .query .k) z ∙ wanted))
+      (λ z. ⊎-elim (λ n. inr (λ p h. absurd (empty-none n p h))) (λ n. none (both-true (bothReadOut s) (eqb (s .held) 0) n)) (one-true (aTableIsEmpty s) (bothReadOut s && eqb (s .held) 0) z))
+      (one-true (eqb (s .out) (s .query .k)) (aTableIsEmpty s || (bothReadOut s && eqb (s .held) 0)) e)
     where
       wanted : s .query .k ≡ q .k
       wanted = ap (λ q. q .k) (a .query)
 
       none : (bothReadOut s ≡ true) × (eqb (s .held) 0 ≡ true) → (length out ≡ q .k) ⊎ ((p : Pair) → Fits (q .radius) f t p → List·Memᴰ p out)
-      none n = ⊎-elim (λ z. inl (z ∙ wanted)) (λ z. inr (λ p h. z p (read-out-region (n .0) p h))) (none-held ahead (λ p. p .sum) pair-rank (s .query .k) R out (a .keeping .rest) (subst (λ m. Holds ahead (s .query .k) R out (a .keeping .rest) (take m (s .pairs))) (eqb-true (s .held) 0 (n .1)) (a .keeping .holds)))
+      none n =
+          ⊎-elim (λ z. inl (z ∙ wanted)) (λ z. inr (λ p h. z p (read-out-region (n .0) p h)))
+          (none-held ahead (λ p. p .sum) pair-rank (s .query .k) R out (a .keeping .rest) (subst (λ m. Holds ahead (s .query .k) R out (a .keeping .rest) (take m (s .pairs))) (eqb-true (s .held) 0 (n .1)) (a .keeping .holds)))

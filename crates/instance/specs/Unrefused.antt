@@ -75,13 +75,16 @@ places-cleared : (l : List Pair) → every isZeros (drop (length l) (places l)) 
 unfolding places
 places-cleared l = ap (every isZeros) (drop-append-seam l (replicate (64 - length l) noPair)) ∙ every-none (64 - length l)
 
-moved-cleared : (n : ℕ) (l : List Pair) → 1 ≤ n → n ≤ length l → every isZeros (drop n l) ≡ true → every isZeros (drop (n - 1) (drop 1 l ++ (noPair ∷ []))) ≡ true
+moved-cleared : (n : ℕ) (l : List Pair) → 1 ≤ n → n ≤ length l → every isZeros (drop n l) ≡ true
+    → every isZeros (drop (n - 1) (drop 1 l ++ (noPair ∷ []))) ≡ true
 unfolding every
 moved-cleared zero l h k e = absurd (omega arith)
 moved-cleared (suc n) [] h k e = absurd (omega arith)
 moved-cleared (suc n) (x ∷ l) h k e =
     let j : suc n - 1 ≡ n = omega arith in
-    ap (λ m. every isZeros (drop m (l ++ (noPair ∷ [])))) j ∙ ap (every isZeros) (drop-append-le n l (noPair ∷ []) (omega arith)) ∙ every-append (drop n l) (noPair ∷ []) e refl
+    ap (λ m. every isZeros (drop m (l ++ (noPair ∷ [])))) j
+    ∙ ap (every isZeros) (drop-append-le n l (noPair ∷ []) (omega arith))
+    ∙ every-append (drop n l) (noPair ∷ []) e refl
 
 -- Meeting blocks
 
@@ -93,7 +96,8 @@ meet-joined s x y = go (skipped s x y)
     go true = omega arith
     go false = omega arith
 
-meet-cleared : (s : Session) (x y : Block) → every isZeros (drop (s .held) (s .pairs)) ≡ true → every isZeros (drop (meet s x y .held) (meet s x y .pairs)) ≡ true
+meet-cleared : (s : Session) (x y : Block) → every isZeros (drop (s .held) (s .pairs)) ≡ true
+    → every isZeros (drop (meet s x y .held) (meet s x y .pairs)) ≡ true
 unfolding meet holding
 meet-cleared s x y h = go (skipped s x y)
   where
@@ -112,7 +116,8 @@ module _ (field : Bool) (s : Session) (new : Block) (t : List ℤ) (depth : ℕ)
       let old : Block = blockAt t (s .query .block) depth n in
       omega (arith, blocks-joined n, meet-joined (meetBlocks field s new t depth n) (cond field new old) (cond field old new))
 
-  blocks-cleared : (n : ℕ) → every isZeros (drop (s .held) (s .pairs)) ≡ true → every isZeros (drop (meetBlocks field s new t depth n .held) (meetBlocks field s new t depth n .pairs)) ≡ true
+  blocks-cleared : (n : ℕ) → every isZeros (drop (s .held) (s .pairs)) ≡ true
+      → every isZeros (drop (meetBlocks field s new t depth n .held) (meetBlocks field s new t depth n .pairs)) ≡ true
   unfolding meetBlocks
   blocks-cleared zero h = h
   blocks-cleared (suc n) h =
@@ -123,14 +128,31 @@ module _ (field : Bool) (s : Session) (new : Block) (t : List ℤ) (depth : ℕ)
 
 pub sound-open : (q : Query) (m : FieldRows) (n : TrimRows) → Sound (opened q m n)
 unfolding opened markFits
-sound-open q m n = record { field-whole = inl (zero-mod (q .block)); trim-whole = inl (zero-mod (q .block)); mark = refl; cleared = places-cleared []; joined = omega arith }
+sound-open q m n = record {
+  field-whole = inl (zero-mod (q .block));
+  trim-whole = inl (zero-mod (q .block));
+  mark = refl;
+  cleared = places-cleared [];
+  joined = omega arith;
+}
 
 -- s with the pairs held and the block pairs joined of r
 abbrev heldOf : Session → Session → Session
-heldOf s r = record { query = s .query; rows = s .rows; depth = s .depth; last = r .last; out = s .out; held = r .held; pairs = r .pairs; joined = r .joined }
+heldOf s r = record {
+  query = s .query;
+  rows = s .rows;
+  depth = s .depth;
+  last = r .last;
+  out = s .out;
+  held = r .held;
+  pairs = r .pairs;
+  joined = r .joined;
+}
 
 same-held : (s r : Session) → SameButHeld s r → r ≡ heldOf s r
-same-held s r e = λ i. record { query = e .query i; rows = e .rows i; depth = e .depth i; last = r .last; out = e .out i; held = r .held; pairs = r .pairs; joined = r .joined }
+same-held s r e =
+    λ i. record
+    { query = e .query i; rows = e .rows i; depth = e .depth i; last = r .last; out = e .out i; held = r .held; pairs = r .pairs; joined = r .joined }
 
 -- unread rows begin after whole blocks
 whole-unread : (size rows d : ℕ) → d < rows → Whole size rows d → d % size ≡ 0
@@ -141,27 +163,35 @@ module _ (s r : Session) (h : Sound s) (size : 1 ≤ s .query .block) (cleared :
   abbrev counted : ℕ → ℕ
   counted depth = blockCount (s .query .block) depth
 
-  sound-raised : (field : Bool) → oldDepth field s < newDepth field s → r .joined ≤ s .joined + counted (cond field (s .depth .trim .0) (s .depth .field .0)) → Sound (readTo field (newDepth field s) (heldOf s r))
+  sound-raised : (field : Bool) → oldDepth field s < newDepth field s
+      → r .joined ≤ s .joined + counted (cond field (s .depth .trim .0) (s .depth .field .0)) → Sound (readTo field (newDepth field s) (heldOf s r))
   unfolding readTo markFits
   sound-raised true k j = record {
     field-whole = whole-next (s .query .block) size (s .rows .field .0) (s .depth .field .0) (h .field-whole);
     trim-whole = h .trim-whole;
     mark = lt-ltb 0 (newDepth true s) (omega arith);
     cleared = cleared;
-    joined = product-next (counted (s .depth .field .0)) (counted (newDepth true s)) (counted (s .depth .trim .0)) (s .joined) (r .joined) (h .joined) (count-next (s .query .block) size (s .depth .field .0) (newDepth true s) (whole-unread (s .query .block) (s .rows .field .0) (s .depth .field .0) (omega arith) (h .field-whole)) k) j;
+    joined =
+        product-next (counted (s .depth .field .0)) (counted (newDepth true s)) (counted (s .depth .trim .0)) (s .joined) (r .joined) (h .joined)
+        (count-next (s .query .block) size (s .depth .field .0) (newDepth true s) (whole-unread (s .query .block) (s .rows .field .0) (s .depth .field .0) (omega arith) (h .field-whole)) k)
+        j;
   }
   sound-raised false k j = record {
     field-whole = h .field-whole;
     trim-whole = whole-next (s .query .block) size (s .rows .trim .0) (s .depth .trim .0) (h .trim-whole);
     mark = lt-ltb 0 (newDepth false s) (omega arith);
     cleared = cleared;
-    joined = subst (λ n. r .joined ≤ n) (mul-comm (counted (newDepth false s)) (counted (s .depth .field .0))) (product-next (counted (s .depth .trim .0)) (counted (newDepth false s)) (counted (s .depth .field .0)) (s .joined) (r .joined) (subst (λ n. s .joined ≤ n) (mul-comm (counted (s .depth .field .0)) (counted (s .depth .trim .0))) (h .joined)) (count-next (s .query .block) size (s .depth .trim .0) (newDepth false s) (whole-unread (s .query .block) (s .rows .trim .0) (s .depth .trim .0) (omega arith) (h .trim-whole)) k) j);
+    joined =
+        subst (λ n. r .joined ≤ n) (mul-comm (counted (newDepth false s)) (counted (s .depth .field .0)))
+        (product-next (counted (s .depth .trim .0)) (counted (newDepth false s)) (counted (s .depth .field .0)) (s .joined) (r .joined) (subst (λ n. s .joined ≤ n) (mul-comm (counted (s .depth .field .0)) (counted (s .depth .trim .0))) (h .joined)) (count-next (s .query .block) size (s .depth .trim .0) (newDepth false s) (whole-unread (s .query .block) (s .rows .trim .0) (s .depth .trim .0) (omega arith) (h .trim-whole)) k) j);
   }
 
 module _ (q : Query) (f t : List ℤ) (out : List Pair) (s : Session) (a : Reached q f t out s) (h : Sound s) where
   pub sound-read : 1 ≤ q .block → settled f t s ≡ false → Sound (readBlock f t s)
   unfolding readTable
-  sound-read size u = subst (λ r. Sound (readTo field (newDepth field s) r)) (sym (same-held s r (blocks-same field s new (cond field t f) depth n))) (sound-raised s r h (subst (λ q. 1 ≤ q .block) (sym (a .query)) size) (blocks-cleared field s new (cond field t f) depth n (h .cleared)) field (read-raises q f t out s a u size) (blocks-joined field s new (cond field t f) depth n))
+  sound-read size u =
+      subst (λ r. Sound (readTo field (newDepth field s) r)) (sym (same-held s r (blocks-same field s new (cond field t f) depth n)))
+      (sound-raised s r h (subst (λ q. 1 ≤ q .block) (sym (a .query)) size) (blocks-cleared field s new (cond field t f) depth n (h .cleared)) field (read-raises q f t out s a u size) (blocks-joined field s new (cond field t f) depth n))
     where
       field : Bool
       field = fieldNext f t s
@@ -180,7 +210,13 @@ module _ (q : Query) (f t : List ℤ) (out : List Pair) (s : Session) (a : Reach
 
   pub sound-take : 1 ≤ s .held → Sound (movedOut s)
   unfolding movedOut markFits
-  sound-take some = record { field-whole = h .field-whole; trim-whole = h .trim-whole; mark = h .mark; cleared = moved-cleared (s .held) (s .pairs) some (omega (arith, length-take (s .held) (s .pairs), a .keeping .stored)) (h .cleared); joined = h .joined }
+  sound-take some = record {
+    field-whole = h .field-whole;
+    trim-whole = h .trim-whole;
+    mark = h .mark;
+    cleared = moved-cleared (s .held) (s .pairs) some (omega (arith, length-take (s .held) (s .pairs), a .keeping .stored)) (h .cleared);
+    joined = h .joined;
+  }
 
   -- Every ground of 5
 
@@ -195,11 +231,17 @@ module _ (q : Query) (f t : List ℤ) (out : List Pair) (s : Session) (a : Reach
 
   pair-fits : legal f ≡ true → legal t ≡ true → (p : Pair) → Region (q .radius) f t (s .depth .field .0) (s .depth .trim .0) p → pairFits s p ≡ true
   unfolding pairFits pairSum
-  pair-fits x y p m = rw (le-leb 1 (p .field) (m .fits .field-row .0), le-leb (p .field) (s .depth .field .0) (m .field-part .1), le-leb 1 (p .trim) (m .fits .trim-row .0), le-leb (p .trim) (s .depth .trim .0) (m .trim-part .1)) (le-leb (p .sum) 19998 (omega (arith, m .fits .own-sum, score-most f x (p .field - 1) (omega (arith, m .fits .field-row)), score-most t y (p .trim - 1) (omega (arith, m .fits .trim-row)))))
+  pair-fits x y p m =
+      rw
+      (le-leb 1 (p .field) (m .fits .field-row .0), le-leb (p .field) (s .depth .field .0) (m .field-part .1), le-leb 1 (p .trim) (m .fits .trim-row .0), le-leb (p .trim) (s .depth .trim .0) (m .trim-part .1))
+      (le-leb (p .sum) 19998 (omega (arith, m .fits .own-sum, score-most f x (p .field - 1) (omega (arith, m .fits .field-row)), score-most t y (p .trim - 1) (omega (arith, m .fits .trim-row)))))
 
   pub reached-fits : legal f ≡ true → legal t ≡ true → queryCode q ≡ 0 → recordFits s ≡ true
   unfolding recordFits
-  reached-fits x y c = rw (eq-eqb (queryCode (s .query)) 0 (ap queryCode (a .query) ∙ c), counts-fit (s .query .block) (s .rows .field .0) (s .depth .field .0) (omega (arith, legal-most f x, a .field-rows)) (omega (arith, a .field-depth, a .field-rows)) (h .field-whole), counts-fit (s .query .block) (s .rows .trim .0) (s .depth .trim .0) (omega (arith, legal-most t y, a .trim-rows)) (omega (arith, a .trim-depth, a .trim-rows)) (h .trim-whole), le-leb (s .out + s .held) (s .query .k) (omega (arith, held-room ahead (λ p. p .sum) pair-rank (s .query .k) R out (a .keeping .rest) (heldPairs s) (a .keeping .holds), a .keeping .counted, a .keeping .stored)), every-of (pairFits s) (heldPairs s) (λ p m. pair-fits x y p (held-inside ahead (λ p. p .sum) pair-rank (s .query .k) R out (a .keeping .rest) (heldPairs s) (a .keeping .holds) p m)), held-ranked ahead (λ p. p .sum) pair-rank (s .query .k) R out (a .keeping .rest) (heldPairs s) (a .keeping .holds), h .mark, h .cleared) (le-leb (s .joined) (blockCount (s .query .block) (s .depth .field .0) * blockCount (s .query .block) (s .depth .trim .0)) (h .joined))
+  reached-fits x y c =
+      rw
+      (eq-eqb (queryCode (s .query)) 0 (ap queryCode (a .query) ∙ c), counts-fit (s .query .block) (s .rows .field .0) (s .depth .field .0) (omega (arith, legal-most f x, a .field-rows)) (omega (arith, a .field-depth, a .field-rows)) (h .field-whole), counts-fit (s .query .block) (s .rows .trim .0) (s .depth .trim .0) (omega (arith, legal-most t y, a .trim-rows)) (omega (arith, a .trim-depth, a .trim-rows)) (h .trim-whole), le-leb (s .out + s .held) (s .query .k) (omega (arith, held-room ahead (λ p. p .sum) pair-rank (s .query .k) R out (a .keeping .rest) (heldPairs s) (a .keeping .holds), a .keeping .counted, a .keeping .stored)), every-of (pairFits s) (heldPairs s) (λ p m. pair-fits x y p (held-inside ahead (λ p. p .sum) pair-rank (s .query .k) R out (a .keeping .rest) (heldPairs s) (a .keeping .holds) p m)), held-ranked ahead (λ p. p .sum) pair-rank (s .query .k) R out (a .keeping .rest) (heldPairs s) (a .keeping .holds), h .mark, h .cleared)
+      (le-leb (s .joined) (blockCount (s .query .block) (s .depth .field .0) * blockCount (s .query .block) (s .depth .trim .0)) (h .joined))
     where
       R : Pair → Type 0
       R = Region (q .radius) f t (s .depth .field .0) (s .depth .trim .0)

@@ -16,10 +16,12 @@ unfoldable pub heldUnskipped : Bool → Session → Block → List ℤ → ℕ �
 heldUnskipped field s new t depth zero = heldPairs s
 heldUnskipped field s new t depth (suc n) =
     let old = blockAt t (s .query .block) depth n in
-    take (s .query .k - s .out) (sort ahead (heldUnskipped field s new t depth n ++ qualifying (s .query .radius) (cond field new old) (cond field old new)))
+    take (s .query .k - s .out)
+    (sort ahead (heldUnskipped field s new t depth n ++ qualifying (s .query .radius) (cond field new old) (cond field old new)))
 
 -- after one block of the field table, or of the trim table
 unfoldable pub readUnskipped : Bool → List ℤ → List ℤ → Session → List Pair
 readUnskipped field f t s =
     let depth = cond field (s .depth .trim .0) (s .depth .field .0) in
-    heldUnskipped field s (rowsBetween (cond field f t) (oldDepth field s) (newDepth field s)) (cond field t f) depth (blockCount (s .query .block) depth)
+    heldUnskipped field s (rowsBetween (cond field f t) (oldDepth field s) (newDepth field s)) (cond field t f) depth
+    (blockCount (s .query .block) depth)

@@ -46,13 +46,22 @@ module _ (field : Bool) (f t : List ℤ) (g : legal f ≡ true) (h : legal t ≡
   abbrev unskipped : ℕ → List Pair
   unskipped n = heldUnskipped field s new (cond field t f) c n
 
-  block-unskipping : (n : ℕ) → Unskipping field a (n * s .query .block) (unskipped n) (after n) → Unskipping field a (suc n * s .query .block) (unskipped (suc n)) (after (suc n))
+  block-unskipping : (n : ℕ) → Unskipping field a (n * s .query .block) (unskipped n) (after n)
+      → Unskipping field a (suc n * s .query .block) (unskipped (suc n)) (after (suc n))
   unfolding meetBlocks heldUnskipped bestHeld
   block-unskipping n u = record {
     stored = meet-stored (after n) x y (u .stored) (u .in-rank) low;
-    in-rank = subst (λ l. ranked ahead l ≡ true) (sym held) (ranked-take ahead (pair-rank .order) room (sort ahead (heldPairs (after n) ++ met)) (sort-ranked ahead (pair-rank .order) (heldPairs (after n) ++ met) (append-distinct (heldPairs (after n)) met (ranked-distinct ahead (pair-rank .order) (heldPairs (after n)) (u .in-rank)) (qualifying-distinct (after n .query .radius) x y) fresh)));
-    seen = λ p m. ⊎-elim (λ k. ⊎-elim inl (λ z. inr (omega (arith, suc-mul n B))) (u .seen p k)) (λ k. inr (omega (arith, suc-mul n B, inside p k .other-part))) (List·Memᴰ·append-cases (heldPairs (after n)) (mem-sort ahead p (heldPairs (after n) ++ met) .0 (mem-take room p (sort ahead (heldPairs (after n) ++ met)) (subst (List·Memᴰ p) held m))));
-    same = held ∙ ap₂ (λ k l. take k (sort ahead l)) (ap₂ (λ q o. q .k - o) (kept .query) (kept .out)) (ap₂ (λ l radius. l ++ qualifying radius x y) (u .same) (ap (λ q. q .radius) (kept .query)));
+    in-rank =
+        subst (λ l. ranked ahead l ≡ true) (sym held)
+        (ranked-take ahead (pair-rank .order) room (sort ahead (heldPairs (after n) ++ met)) (sort-ranked ahead (pair-rank .order) (heldPairs (after n) ++ met) (append-distinct (heldPairs (after n)) met (ranked-distinct ahead (pair-rank .order) (heldPairs (after n)) (u .in-rank)) (qualifying-distinct (after n .query .radius) x y) fresh)));
+    seen =
+        λ p m. ⊎-elim (λ k. ⊎-elim inl (λ z. inr (omega (arith, suc-mul n B))) (u .seen p k))
+        (λ k. inr (omega (arith, suc-mul n B, inside p k .other-part)))
+        (List·Memᴰ·append-cases (heldPairs (after n)) (mem-sort ahead p (heldPairs (after n) ++ met) .0 (mem-take room p (sort ahead (heldPairs (after n) ++ met)) (subst (List·Memᴰ p) held m))));
+    same =
+        held
+        ∙ ap₂ (λ k l. take k (sort ahead l)) (ap₂ (λ q o. q .k - o) (kept .query) (kept .out))
+        (ap₂ (λ l radius. l ++ qualifying radius x y) (u .same) (ap (λ q. q .radius) (kept .query)));
   }
     where
       B : ℕ
@@ -99,14 +108,23 @@ module _ (field : Bool) (f t : List ℤ) (g : legal f ≡ true) (h : legal t ≡
 
 -- The rows that a read looks at
 
-same-held-unskipped : (field : Bool) (s : Session) (new : Block) (t u : List ℤ) (depth n : ℕ) → SameRows depth t u → heldUnskipped field s new u depth n ≡ heldUnskipped field s new t depth n
+same-held-unskipped : (field : Bool) (s : Session) (new : Block) (t u : List ℤ) (depth n : ℕ) → SameRows depth t u
+    → heldUnskipped field s new u depth n ≡ heldUnskipped field s new t depth n
 unfolding heldUnskipped
 same-held-unskipped field s new t u depth zero e = refl
-same-held-unskipped field s new t u depth (suc n) e = ap₂ (λ l old. take (s .query .k - s .out) (sort ahead (l ++ qualifying (s .query .radius) (cond field new old) (cond field old new)))) (same-held-unskipped field s new t u depth n e) (same-part depth t u e (n * s .query .block) (min (n * s .query .block + s .query .block) depth) (omega arith))
+same-held-unskipped field s new t u depth (suc n) e =
+    ap₂ (λ l old. take (s .query .k - s .out) (sort ahead (l ++ qualifying (s .query .radius) (cond field new old) (cond field old new))))
+    (same-held-unskipped field s new t u depth n e)
+    (same-part depth t u e (n * s .query .block) (min (n * s .query .block + s .query .block) depth) (omega arith))
 
-same-unskipped : (field : Bool) (f t f′ t′ : List ℤ) (s : Session) → SameRows (cond field (newDepth field s) (s .depth .field .0)) f f′ → SameRows (cond field (s .depth .trim .0) (newDepth field s)) t t′ → readUnskipped field f′ t′ s ≡ readUnskipped field f t s
+same-unskipped : (field : Bool) (f t f′ t′ : List ℤ) (s : Session) → SameRows (cond field (newDepth field s) (s .depth .field .0)) f f′
+    → SameRows (cond field (s .depth .trim .0) (newDepth field s)) t t′ → readUnskipped field f′ t′ s ≡ readUnskipped field f t s
 unfolding readUnskipped
-same-unskipped field f t f′ t′ s h k = ap (λ new. heldUnskipped field s new (cond field t′ f′) c n) (same-part b (cond field f t) (cond field f′ t′) (same-own field f t f′ t′ b d e h k) (oldDepth field s) b (omega arith)) ∙ same-held-unskipped field s (rowsBetween (cond field f t) (oldDepth field s) b) (cond field t f) (cond field t′ f′) c n (same-other field f t f′ t′ b d e h k)
+same-unskipped field f t f′ t′ s h k =
+    ap (λ new. heldUnskipped field s new (cond field t′ f′) c n)
+    (same-part b (cond field f t) (cond field f′ t′) (same-own field f t f′ t′ b d e h k) (oldDepth field s) b (omega arith))
+    ∙ same-held-unskipped field s (rowsBetween (cond field f t) (oldDepth field s) b) (cond field t f) (cond field t′ f′) c n
+    (same-other field f t f′ t′ b d e h k)
   where
     d : ℕ
     d = s .depth .field .0
@@ -135,7 +153,8 @@ own-cut : (field : Bool) (f t : List ℤ) (b d e : ℕ) → rowCount f ≡ cond 
 own-cut true f t b d e x y = omega arith
 own-cut false f t b d e x y = omega arith
 
-other-cut : (field : Bool) (f t : List ℤ) (b d e : ℕ) → rowCount f ≡ cond field b d → rowCount t ≡ cond field e b → cond field e d ≤ rowCount (cond field t f)
+other-cut : (field : Bool) (f t : List ℤ) (b d e : ℕ) → rowCount f ≡ cond field b d → rowCount t ≡ cond field e b
+    → cond field e d ≤ rowCount (cond field t f)
 other-cut true f t b d e x y = omega arith
 other-cut false f t b d e x y = omega arith
 
@@ -145,7 +164,8 @@ unfolding pairFits
 fits-own field s p e =
     let a = both-true (between 1 (s .depth .field .0) (p .field)) (between 1 (s .depth .trim .0) (p .trim) && leb (p .sum) 19998) e in
     let b = both-true (between 1 (s .depth .trim .0) (p .trim)) (leb (p .sum) 19998) (a .1) in
-    go field (leb-true (p .field) (s .depth .field .0) (both-true (leb 1 (p .field)) (leb (p .field) (s .depth .field .0)) (a .0) .1)) (leb-true (p .trim) (s .depth .trim .0) (both-true (leb 1 (p .trim)) (leb (p .trim) (s .depth .trim .0)) (b .0) .1))
+    go field (leb-true (p .field) (s .depth .field .0) (both-true (leb 1 (p .field)) (leb (p .field) (s .depth .field .0)) (a .0) .1))
+    (leb-true (p .trim) (s .depth .trim .0) (both-true (leb 1 (p .trim)) (leb (p .trim) (s .depth .trim .0)) (b .0) .1))
   where
     go : (field : Bool) → p .field ≤ s .depth .field .0 → p .trim ≤ s .depth .trim .0 → ownRow field p ≤ oldDepth field s
     go true h k = h
@@ -181,12 +201,24 @@ module _ (field : Bool) (f t : List ℤ) (s : Session) (a : Passed f t s) (new :
 
   cut-unskipped : heldPairs (readTable field f′ t′ s) ≡ readUnskipped field f′ t′ s
   unfolding readTable readTo readUnskipped
-  cut-unskipped = unskipped-same field f′ t′ (cut-legal f m m-within (omega (arith, m-fits, a .field-most)) (good .0)) (cut-legal t n n-within (omega (arith, n-fits, a .trim-most)) (good .1)) s (oldDepth field s) (newDepth field s) (cond field (s .depth .trim .0) (s .depth .field .0)) (own-cut field f′ t′ (newDepth field s) (s .depth .field .0) (s .depth .trim .0) (cut-count f m m-within) (cut-count t n n-within)) (other-cut field f′ t′ (newDepth field s) (s .depth .field .0) (s .depth .trim .0) (cut-count f m m-within) (cut-count t n n-within)) (length-take (s .held) (s .pairs) ∙ omega (arith, a .room, a .wanted)) (a .in-rank) (λ p i. fits-own field s p (every-at (pairFits s) p (a .pairs) i)) (blockCount (s .query .block) (cond field (s .depth .trim .0) (s .depth .field .0)))
+  cut-unskipped =
+      unskipped-same field f′ t′ (cut-legal f m m-within (omega (arith, m-fits, a .field-most)) (good .0))
+      (cut-legal t n n-within (omega (arith, n-fits, a .trim-most)) (good .1)) s (oldDepth field s) (newDepth field s)
+      (cond field (s .depth .trim .0) (s .depth .field .0))
+      (own-cut field f′ t′ (newDepth field s) (s .depth .field .0) (s .depth .trim .0) (cut-count f m m-within) (cut-count t n n-within))
+      (other-cut field f′ t′ (newDepth field s) (s .depth .field .0) (s .depth .trim .0) (cut-count f m m-within) (cut-count t n n-within))
+      (length-take (s .held) (s .pairs) ∙ omega (arith, a .room, a .wanted)) (a .in-rank)
+      (λ p i. fits-own field s p (every-at (pairFits s) p (a .pairs) i))
+      (blockCount (s .query .block) (cond field (s .depth .trim .0) (s .depth .field .0)))
 
   table-unskipped : heldPairs (readTable field f t s) ≡ readUnskipped field f t s
-  table-unskipped = ap heldPairs (sym (same-read field f t f′ t′ s (cut-same f m m-within) (cut-same t n n-within))) ∙ cut-unskipped ∙ same-unskipped field f t f′ t′ s (cut-same f m m-within) (cut-same t n n-within)
+  table-unskipped =
+      ap heldPairs (sym (same-read field f t f′ t′ s (cut-same f m m-within) (cut-same t n n-within)))
+      ∙ cut-unskipped
+      ∙ same-unskipped field f t f′ t′ s (cut-same f m m-within) (cut-same t n n-within)
 
 -- every accepted read, over any slices and of any record with its 64 places
-pub skipping-changes-nothing : (f t : List ℤ) (s : Session) → callCode f t s ≡ 0 → newBlockCode f t s ≡ 0 → length (s .pairs) ≡ 64 → heldPairs (readBlock f t s) ≡ readUnskipped (fieldNext f t s) f t s
+pub skipping-changes-nothing : (f t : List ℤ) (s : Session) → callCode f t s ≡ 0 → newBlockCode f t s ≡ 0 → length (s .pairs) ≡ 64
+    → heldPairs (readBlock f t s) ≡ readUnskipped (fieldNext f t s) f t s
 unfolding newBlockCode
 skipping-changes-nothing f t s a b places = table-unskipped (fieldNext f t s) f t s (passed f t s a) b places

@@ -41,28 +41,59 @@ module _ {P : Type 0} (ahead : P → P → Bool) (sum : P → ℕ) (rank : Rank 
           go false f = f
 
   -- pairs that are all lower than a full list of held ones change nothing
-  pub skip-same : (n : ℕ) (held met : List P) → ranked ahead held ≡ true → length held ≡ n → ((p q : P) → List·Memᴰ p held → List·Memᴰ q met → sum q < sum p) → take n (sort ahead (held ++ met)) ≡ held
-  skip-same n held met r e h = ap (take n) (sort-below ahead (rank .order) held met (ranked-sort ahead (rank .order) held r) (λ p q a b. rank .higher p q (h p q a b))) ∙ take-at held (sort ahead met) n e
+  pub skip-same : (n : ℕ) (held met : List P) → ranked ahead held ≡ true → length held ≡ n
+      → ((p q : P) → List·Memᴰ p held → List·Memᴰ q met → sum q < sum p) → take n (sort ahead (held ++ met)) ≡ held
+  skip-same n held met r e h =
+      ap (take n) (sort-below ahead (rank .order) held met (ranked-sort ahead (rank .order) held r) (λ p q a b. rank .higher p q (h p q a b)))
+      ∙ take-at held (sort ahead met) n e
 
   -- nothing is held of an empty region
   pub holds-none : (k : ℕ) (R : P → Type 0) → ((p : P) → R p → ⊥) → Holds ahead k R [] [] []
   unfolding ranked
-  holds-none k R h = record { in-rank = refl; front = sym (take-nil (k - 0)); room = omega arith; once = tt; apart = λ p m. absurd (List·Memᴰ·not-nil m); inside = λ p m. absurd (⊎-elim List·Memᴰ·not-nil List·Memᴰ·not-nil m); known = λ p r. absurd (h p r) }
+  holds-none k R h = record {
+    in-rank = refl;
+    front = sym (take-nil (k - 0));
+    room = omega arith;
+    once = tt;
+    apart = λ p m. absurd (List·Memᴰ·not-nil m);
+    inside = λ p m. absurd (⊎-elim List·Memᴰ·not-nil List·Memᴰ·not-nil m);
+    known = λ p r. absurd (h p r);
+  }
 
   -- the region may be put in other words
-  pub holds-same : (k : ℕ) (R R′ : P → Type 0) (out rest held : List P) → ((p : P) → R p ↔ R′ p) → Holds ahead k R out rest held → Holds ahead k R′ out rest held
-  holds-same k R R′ out rest held e h = record { in-rank = h .in-rank; front = h .front; room = h .room; once = h .once; apart = h .apart; inside = λ p m. e p .0 (h .inside p m); known = λ p r. h .known p (e p .1 r) }
+  pub holds-same : (k : ℕ) (R R′ : P → Type 0) (out rest held : List P) → ((p : P) → R p ↔ R′ p) → Holds ahead k R out rest held
+      → Holds ahead k R′ out rest held
+  holds-same k R R′ out rest held e h = record {
+    in-rank = h .in-rank;
+    front = h .front;
+    room = h .room;
+    once = h .once;
+    apart = h .apart;
+    inside = λ p m. e p .0 (h .inside p m);
+    known = λ p r. h .known p (e p .1 r);
+  }
 
   -- the pairs of more rows join
-  pub holds-join : (k : ℕ) (R R′ : P → Type 0) (out rest held met : List P) → Holds ahead k R out rest held → Distinct met → ((p : P) → List·Memᴰ p met → R p → ⊥) → ((p : P) → R′ p ↔ (R p ⊎ List·Memᴰ p met)) → Holds ahead k R′ out (sort ahead (rest ++ met)) (take (k - length out) (sort ahead (held ++ met)))
+  pub holds-join : (k : ℕ) (R R′ : P → Type 0) (out rest held met : List P) → Holds ahead k R out rest held → Distinct met
+      → ((p : P) → List·Memᴰ p met → R p → ⊥) → ((p : P) → R′ p ↔ (R p ⊎ List·Memᴰ p met))
+      → Holds ahead k R′ out (sort ahead (rest ++ met)) (take (k - length out) (sort ahead (held ++ met)))
   holds-join k R R′ out rest held met h d new more = record {
-    in-rank = sort-ranked ahead (rank .order) (rest ++ met) (append-distinct rest met (ranked-distinct ahead (rank .order) rest (h .in-rank)) d (λ p a b. new p b (h .inside p (inr a))));
-    front = ap (λ l. take (k - length out) (sort ahead (l ++ met))) (h .front ∙ ap (take (k - length out)) (sym (ranked-sort ahead (rank .order) rest (h .in-rank)))) ∙ take-sort-append ahead (rank .order) (k - length out) rest met;
+    in-rank =
+        sort-ranked ahead (rank .order) (rest ++ met)
+        (append-distinct rest met (ranked-distinct ahead (rank .order) rest (h .in-rank)) d (λ p a b. new p b (h .inside p (inr a))));
+    front =
+        ap (λ l. take (k - length out) (sort ahead (l ++ met)))
+        (h .front ∙ ap (take (k - length out)) (sym (ranked-sort ahead (rank .order) rest (h .in-rank))))
+        ∙ take-sort-append ahead (rank .order) (k - length out) rest met;
     room = h .room;
     once = h .once;
     apart = λ p a b. ⊎-elim (h .apart p a) (λ m. new p m (h .inside p (inl a))) (List·Memᴰ·append-cases rest (mem-sort ahead p (rest ++ met) .0 b));
-    inside = λ p m. more p .1 (⊎-elim (λ a. inl (h .inside p (inl a))) (λ b. ⊎-elim (λ a. inl (h .inside p (inr a))) inr (List·Memᴰ·append-cases rest (mem-sort ahead p (rest ++ met) .0 b))) m);
-    known = λ p r. ⊎-elim (λ a. ⊎-elim inl (λ b. inr (mem-sort ahead p (rest ++ met) .1 (Memᴰ·append-left met b))) (h .known p a)) (λ m. inr (mem-sort ahead p (rest ++ met) .1 (Memᴰ·append-right rest m))) (more p .0 r);
+    inside =
+        λ p m. more p .1
+        (⊎-elim (λ a. inl (h .inside p (inl a))) (λ b. ⊎-elim (λ a. inl (h .inside p (inr a))) inr (List·Memᴰ·append-cases rest (mem-sort ahead p (rest ++ met) .0 b))) m);
+    known =
+        λ p r. ⊎-elim (λ a. ⊎-elim inl (λ b. inr (mem-sort ahead p (rest ++ met) .1 (Memᴰ·append-left met b))) (h .known p a))
+        (λ m. inr (mem-sort ahead p (rest ++ met) .1 (Memᴰ·append-right rest m))) (more p .0 r);
   }
 
   map-take : (n : ℕ) (l : List P) → map sum (take n l) ≡ take n (map sum l)
@@ -78,7 +109,9 @@ module _ {P : Type 0} (ahead : P → P → Bool) (sum : P → ℕ) (rank : Rank 
   count-inside : (c : ℕ) (l m : List P) → Distinct l → ((p : P) → List·Memᴰ p l → List·Memᴰ p m) → atLeast c (map sum l) ≤ atLeast c (map sum m)
   count-inside c l m d h =
       let test : P → Bool = λ p. leb c (sum p) in
-      let few : length (keep test l) ≤ length (keep test m) = pigeonhole (keep test l) (keep test m) (keep-distinct test l d) (λ p i. let j = mem-keep test p l .0 i in mem-keep test p m .1 (h p (j .0), j .1)) in
+      let few : length (keep test l) ≤ length (keep test m) =
+      pigeonhole (keep test l) (keep test m) (keep-distinct test l d)
+      (λ p i. let j = mem-keep test p l .0 i in mem-keep test p m .1 (h p (j .0), j .1)) in
       omega (arith, count-keep c l, count-keep c m)
 
   module _ (k : ℕ) (R : P → Type 0) (out rest : List P) where
@@ -104,20 +137,29 @@ module _ {P : Type 0} (ahead : P → P → Bool) (sum : P → ℕ) (rank : Rank 
     pub none-held : Holds ahead k R out rest [] → (length out ≡ k) ⊎ ((p : P) → R p → List·Memᴰ p out)
     none-held h = go (k - length out) rest refl (h .front) (h .known)
       where
-        go : (n : ℕ) (l : List P) → k - length out ≡ n → [] ≡ take n l → ((p : P) → R p → List·Memᴰ p out ⊎ List·Memᴰ p l) → (length out ≡ k) ⊎ ((p : P) → R p → List·Memᴰ p out)
+        go : (n : ℕ) (l : List P) → k - length out ≡ n → [] ≡ take n l → ((p : P) → R p → List·Memᴰ p out ⊎ List·Memᴰ p l)
+            → (length out ≡ k) ⊎ ((p : P) → R p → List·Memᴰ p out)
         go zero l e f w = inl (omega (arith, h .room))
         go (suc n) [] e f w = inr (λ p r. ⊎-elim (λ m. m) (λ m. absurd (List·Memᴰ·not-nil m)) (w p r))
         go (suc n) (y ∷ l) e f w = absurd (let z : _≡_ {A = ℕ} 0 1 = cc in omega arith)
 
     -- where k sums of the region are at least c, out plus held is k and each held sum is at least c
-    pub held-cover : (held : List P) → Holds ahead k R out rest held → (c : ℕ) (l : List P) → Distinct l → ((p : P) → List·Memᴰ p l → R p) → k ≤ atLeast c (map sum l) → (length out + length held ≡ k) × All (λ n. c ≤ n) (map sum held)
+    pub held-cover : (held : List P) → Holds ahead k R out rest held → (c : ℕ) (l : List P) → Distinct l → ((p : P) → List·Memᴰ p l → R p)
+        → k ≤ atLeast c (map sum l) → (length out + length held ≡ k) × All (λ n. c ≤ n) (map sum held)
     held-cover held h c l d within enough =
         let n : ℕ = k - length out in
-        let passed : atLeast c (map sum l) ≤ atLeast c (map sum (out ++ rest)) = count-inside c l (out ++ rest) d (λ p m. ⊎-elim (Memᴰ·append-left rest) (Memᴰ·append-right out) (h .known p (within p m))) in
-        let parts : atLeast c (map sum (out ++ rest)) ≡ atLeast c (map sum out) + atLeast c (map sum rest) = ap (atLeast c) (map-append sum out rest) ∙ count-append c (map sum out) (map sum rest) in
-        let some : atLeast c (map sum out) ≤ length out = subst (λ m. atLeast c (map sum out) ≤ m) (length-map out sum) (count-some c (map sum out)) in
-        let front : atLeast c (map sum held) ≡ min n (atLeast c (map sum rest)) = ap (λ m. atLeast c (map sum m)) (h .front) ∙ ap (atLeast c) (map-take n rest) ∙ count-take c n (map sum rest) (ordered-sums rest (ranked-ordered ahead (rank .order) rest (h .in-rank))) in
-        let full : atLeast c (map sum held) ≤ length held = subst (λ m. atLeast c (map sum held) ≤ m) (length-map held sum) (count-some c (map sum held)) in
+        let passed : atLeast c (map sum l) ≤ atLeast c (map sum (out ++ rest)) =
+        count-inside c l (out ++ rest) d (λ p m. ⊎-elim (Memᴰ·append-left rest) (Memᴰ·append-right out) (h .known p (within p m))) in
+        let parts : atLeast c (map sum (out ++ rest)) ≡ atLeast c (map sum out) + atLeast c (map sum rest) =
+        ap (atLeast c) (map-append sum out rest) ∙ count-append c (map sum out) (map sum rest) in
+        let some : atLeast c (map sum out) ≤ length out =
+        subst (λ m. atLeast c (map sum out) ≤ m) (length-map out sum) (count-some c (map sum out)) in
+        let front : atLeast c (map sum held) ≡ min n (atLeast c (map sum rest)) =
+        ap (λ m. atLeast c (map sum m)) (h .front)
+        ∙ ap (atLeast c) (map-take n rest)
+        ∙ count-take c n (map sum rest) (ordered-sums rest (ranked-ordered ahead (rank .order) rest (h .in-rank))) in
+        let full : atLeast c (map sum held) ≤ length held =
+        subst (λ m. atLeast c (map sum held) ≤ m) (length-map held sum) (count-some c (map sum held)) in
         let room = held-room held h in
         (omega (arith, h .room), count-all c (map sum held) (omega (arith, length-map held sum, h .room)))
 
@@ -137,7 +179,10 @@ module _ {P : Type 0} (ahead : P → P → Bool) (sum : P → ℕ) (rank : Rank 
 
       -- no pair of the region that is not out has a higher sum
       pub first-highest : (p : P) → R p → (List·Memᴰ p out → ⊥) → sum p ≤ sum x
-      first-highest p r n = ⊎-elim (λ m. absurd (n m)) (λ m. ⊎-elim (λ e. omega (arith, ap sum e)) (λ i. ahead-sum x p (all-at (λ y. ahead x y ≡ true) p (ranked-first ahead (rank .order) x (c .0) (subst (λ r. ranked ahead r ≡ true) (c .1) (h .in-rank))) i)) (List·Memᴰ·cases-cons (subst (List·Memᴰ p) (c .1) m))) (h .known p r)
+      first-highest p r n =
+          ⊎-elim (λ m. absurd (n m))
+          (λ m. ⊎-elim (λ e. omega (arith, ap sum e)) (λ i. ahead-sum x p (all-at (λ y. ahead x y ≡ true) p (ranked-first ahead (rank .order) x (c .0) (subst (λ r. ranked ahead r ≡ true) (c .1) (h .in-rank))) i)) (List·Memᴰ·cases-cons (subst (List·Memᴰ p) (c .1) m)))
+          (h .known p r)
         where
           c : (m : List P) × (rest ≡ x ∷ m) × (l ≡ take (k - length out - 1) m) × (1 ≤ k - length out)
           c = first-rest
@@ -151,10 +196,21 @@ module _ {P : Type 0} (ahead : P → P → Bool) (sum : P → ℕ) (rank : Rank 
             in-rank = ranked-rest ahead (rank .order) x m r;
             front = f ∙ ap (λ i. take i m) fewer;
             room = omega (arith, length-append out (x ∷ []));
-            once = append-distinct out (x ∷ []) (h .once) (List·Memᴰ·not-nil, tt) (λ p a b. h .apart p a (at p (List·Memᴰ·head (List·Memᴰ·eq-of-singleton b))));
-            apart = λ p a b. ⊎-elim (λ o. h .apart p o (at p (List·Memᴰ·tail b))) (λ o. ranked-distinct ahead (rank .order) (x ∷ m) r .0 (Memᴰ·cast (sym (List·Memᴰ·eq-of-singleton o)) b)) (List·Memᴰ·append-cases out a);
-            inside = λ p a. ⊎-elim (λ o. ⊎-elim (λ i. h .inside p (inl i)) (λ i. h .inside p (inr (at p (List·Memᴰ·head (List·Memᴰ·eq-of-singleton i))))) (List·Memᴰ·append-cases out o)) (λ i. h .inside p (inr (at p (List·Memᴰ·tail i)))) a;
-            known = λ p i. ⊎-elim (λ o. inl (Memᴰ·append-left (x ∷ []) o)) (λ o. ⊎-elim (λ g. inl (Memᴰ·append-right out (List·Memᴰ·head g))) inr (List·Memᴰ·cases-cons (subst (List·Memᴰ p) e o))) (h .known p i);
+            once =
+                append-distinct out (x ∷ []) (h .once) (List·Memᴰ·not-nil, tt)
+                (λ p a b. h .apart p a (at p (List·Memᴰ·head (List·Memᴰ·eq-of-singleton b))));
+            apart =
+                λ p a b. ⊎-elim (λ o. h .apart p o (at p (List·Memᴰ·tail b)))
+                (λ o. ranked-distinct ahead (rank .order) (x ∷ m) r .0 (Memᴰ·cast (sym (List·Memᴰ·eq-of-singleton o)) b))
+                (List·Memᴰ·append-cases out a);
+            inside =
+                λ p a. ⊎-elim
+                (λ o. ⊎-elim (λ i. h .inside p (inl i)) (λ i. h .inside p (inr (at p (List·Memᴰ·head (List·Memᴰ·eq-of-singleton i))))) (List·Memᴰ·append-cases out o))
+                (λ i. h .inside p (inr (at p (List·Memᴰ·tail i)))) a;
+            known =
+                λ p i. ⊎-elim (λ o. inl (Memᴰ·append-left (x ∷ []) o))
+                (λ o. ⊎-elim (λ g. inl (Memᴰ·append-right out (List·Memᴰ·head g))) inr (List·Memᴰ·cases-cons (subst (List·Memᴰ p) e o)))
+                (h .known p i);
           }
             where
               r : ranked ahead (x ∷ m) ≡ true

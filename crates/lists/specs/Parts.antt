@@ -16,7 +16,8 @@ use Rattle.lists.specs.Words.{Distinct}
 module _ {A : Type 0} where
   pub append-distinct : (l m : List A) → Distinct l → Distinct m → ((x : A) → List·Memᴰ x l → List·Memᴰ x m → ⊥) → Distinct (l ++ m)
   append-distinct [] m d e h = e
-  append-distinct (x ∷ l) m d e h = (λ k. ⊎-elim (d .0) (h x (List·Memᴰ·head refl)) (List·Memᴰ·append-cases l k), append-distinct l m (d .1) e (λ y a b. h y (List·Memᴰ·tail a) b))
+  append-distinct (x ∷ l) m d e h =
+      (λ k. ⊎-elim (d .0) (h x (List·Memᴰ·head refl)) (List·Memᴰ·append-cases l k), append-distinct l m (d .1) e (λ y a b. h y (List·Memᴰ·tail a) b))
 
 -- range
 
@@ -25,9 +26,11 @@ unfolding range
 mem-range x a zero = (λ m. absurd (List·Memᴰ·not-nil m), λ h. absurd (omega arith))
 mem-range x a (suc n) = go (mem-range x (suc a) n) (ℕ-discrete x a)
   where
-    go : (List·Memᴰ x (range (suc a) n) ↔ ((suc a ≤ x) × (x < suc a + n))) → Dec (x ≡ a) → List·Memᴰ x (a ∷ range (suc a) n) ↔ ((a ≤ x) × (x < a + suc n))
+    go : (List·Memᴰ x (range (suc a) n) ↔ ((suc a ≤ x) × (x < suc a + n))) → Dec (x ≡ a)
+        → List·Memᴰ x (a ∷ range (suc a) n) ↔ ((a ≤ x) × (x < a + suc n))
     go f (yes e) = (λ m. omega arith, λ h. List·Memᴰ·head e)
-    go f (no e) = (λ m. ⊎-elim (λ g. absurd (e g)) (λ k. let h = f .0 k in omega arith) (List·Memᴰ·cases-cons m), λ h. List·Memᴰ·tail (f .1 (omega arith)))
+    go f (no e) =
+        (λ m. ⊎-elim (λ g. absurd (e g)) (λ k. let h = f .0 k in omega arith) (List·Memᴰ·cases-cons m), λ h. List·Memᴰ·tail (f .1 (omega arith)))
 
 pub range-distinct : (a n : ℕ) → Distinct (range a n)
 unfolding range
@@ -59,7 +62,8 @@ module _ {A : Type 0} (test : A → Bool) where
   mem-keep x [] = (λ m. absurd (List·Memᴰ·not-nil m), λ h. h .0)
   mem-keep x (y ∷ l) = go (test y) refl (mem-keep x l)
     where
-      go : (t : Bool) → test y ≡ t → (List·Memᴰ x (keep test l) ↔ (List·Memᴰ x l × (test x ≡ true))) → List·Memᴰ x (consIf t y (keep test l)) ↔ (List·Memᴰ x (y ∷ l) × (test x ≡ true))
+      go : (t : Bool) → test y ≡ t → (List·Memᴰ x (keep test l) ↔ (List·Memᴰ x l × (test x ≡ true)))
+          → List·Memᴰ x (consIf t y (keep test l)) ↔ (List·Memᴰ x (y ∷ l) × (test x ≡ true))
       go true e f = (
         λ m. ⊎-elim (λ g. (List·Memᴰ·head g, ap test g ∙ e)) (λ k. (List·Memᴰ·tail (f .0 k .0), f .0 k .1)) (List·Memᴰ·cases-cons m),
         λ h. ⊎-elim (λ g. List·Memᴰ·head g) (λ k. List·Memᴰ·tail (f .1 (k, h .1))) (List·Memᴰ·cases-cons (h .0)),
@@ -83,23 +87,28 @@ module _ {A : Type 0} (test : A → Bool) where
 module _ {A B : Type 0} where
   pub map-distinct : (f : A → B) (key : B → A) → ((x : A) → key (f x) ≡ x) → (l : List A) → Distinct l → Distinct (map f l)
   map-distinct f key h [] d = tt
-  map-distinct f key h (x ∷ l) d = (λ m. let r = Memᴰ·of-map f l m in d .0 (Memᴰ·cast (sym (h x) ∙ ap key (sym (r .2)) ∙ h (r .0)) (r .1)), map-distinct f key h l (d .1))
+  map-distinct f key h (x ∷ l) d =
+      (λ m. let r = Memᴰ·of-map f l m in d .0 (Memᴰ·cast (sym (h x) ∙ ap key (sym (r .2)) ∙ h (r .0)) (r .1)), map-distinct f key h l (d .1))
 
   pub mem-each : (f : A → List B) (y : B) (l : List A) → List·Memᴰ y (each f l) ↔ ((x : A) × List·Memᴰ x l × List·Memᴰ y (f x))
   unfolding each
   mem-each f y [] = (λ m. absurd (List·Memᴰ·not-nil m), λ h. absurd (List·Memᴰ·not-nil (h .1)))
   mem-each f y (x ∷ l) = go (mem-each f y l)
     where
-      go : (List·Memᴰ y (each f l) ↔ ((x : A) × List·Memᴰ x l × List·Memᴰ y (f x))) → List·Memᴰ y (f x ++ each f l) ↔ ((z : A) × List·Memᴰ z (x ∷ l) × List·Memᴰ y (f z))
+      go : (List·Memᴰ y (each f l) ↔ ((x : A) × List·Memᴰ x l × List·Memᴰ y (f x)))
+          → List·Memᴰ y (f x ++ each f l) ↔ ((z : A) × List·Memᴰ z (x ∷ l) × List·Memᴰ y (f z))
       go g = (
         λ m. ⊎-elim (λ k. (x, List·Memᴰ·head refl, k)) (λ k. let r = g .0 k in (r .0, List·Memᴰ·tail (r .1), r .2)) (List·Memᴰ·append-cases (f x) m),
         λ h. ⊎-elim (λ e. Memᴰ·append-left (each f l) (subst (λ z. List·Memᴰ y (f z)) e (h .2))) (λ k. Memᴰ·append-right (f x) (g .1 (h .0, k, h .2))) (List·Memᴰ·cases-cons (h .1)),
       )
 
-  pub each-distinct : (f : A → List B) (key : B → A) → ((x : A) (y : B) → List·Memᴰ y (f x) → key y ≡ x) → ((x : A) → Distinct (f x)) → (l : List A) → Distinct l → Distinct (each f l)
+  pub each-distinct : (f : A → List B) (key : B → A) → ((x : A) (y : B) → List·Memᴰ y (f x) → key y ≡ x) → ((x : A) → Distinct (f x)) → (l : List A)
+      → Distinct l → Distinct (each f l)
   unfolding each
   each-distinct f key h k [] d = tt
-  each-distinct f key h k (x ∷ l) d = append-distinct (f x) (each f l) (k x) (each-distinct f key h k l (d .1)) (λ y a b. let r = mem-each f y l .0 b in d .0 (Memᴰ·cast (sym (h x y a) ∙ h (r .0) y (r .2)) (r .1)))
+  each-distinct f key h k (x ∷ l) d =
+      append-distinct (f x) (each f l) (k x) (each-distinct f key h k l (d .1))
+      (λ y a b. let r = mem-each f y l .0 b in d .0 (Memᴰ·cast (sym (h x y a) ∙ h (r .0) y (r .2)) (r .1)))
 
 module _ {A B C : Type 0} where
   pub map-each : (g : B → C) (f : A → List B) (l : List A) → map g (each f l) ≡ each (λ x. map g (f x)) l
@@ -117,7 +126,8 @@ unfolding keep consIf
 keep-map g test [] = refl
 keep-map g test (x ∷ l) = go (test (g x)) (keep-map g test l)
   where
-    go : (t : Bool) → keep test (map g l) ≡ map g (keep (λ x. test (g x)) l) → consIf t (g x) (keep test (map g l)) ≡ map g (consIf t x (keep (λ x. test (g x)) l))
+    go : (t : Bool) → keep test (map g l) ≡ map g (keep (λ x. test (g x)) l)
+        → consIf t (g x) (keep test (map g l)) ≡ map g (consIf t x (keep (λ x. test (g x)) l))
     go true h = ap (λ r. g x ∷ r) h
     go false h = h
 
