@@ -25,7 +25,7 @@ keeping-same R R′ out s e k = record {
   counted = k .counted;
   stored = k .stored;
   rest = k .rest;
-  holds = holds-same ahead (λ p. p .sum) pair-rank (s .query .k) R R′ out (k .rest) (heldPairs s) e (k .holds);
+  holds = holds-same pair-rank R′ e (k .holds);
 }
 
 -- One block pair, whichever table is read

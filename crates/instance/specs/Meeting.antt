@@ -45,7 +45,7 @@ module _ (s : Session) (x y : Block) where
       let full : s .out + s .held ≡ s .query .k = eqb-true (s .out + s .held) (s .query .k) (a .0) in
       let under : firstScore (x .rows) + firstScore (y .rows) < lowest (heldPairs s) =
       ltb-true (firstScore (x .rows) + firstScore (y .rows)) (lowest (heldPairs s)) (a .1) in
-      skip-same ahead (λ p. p .sum) pair-rank (s .query .k - s .out) (heldPairs s) (qualifying (s .query .radius) x y) r (omega arith)
+      skip-same pair-rank (s .query .k - s .out) (heldPairs s) (qualifying (s .query .radius) x y) r (omega arith)
       (λ p q m n. omega (arith, lowest-least p (heldPairs s) m, low q n))
 
   -- "Skipping never changes them": a block pair met holds the best of those held and its own, skipped or not
@@ -93,7 +93,7 @@ module _ (s : Session) (x y : Block) where
 
       joined : Holds ahead (s .query .k) R′ out rest (take (s .query .k - length out) (sort ahead (heldPairs s ++ met)))
       joined =
-          holds-join ahead (λ p. p .sum) pair-rank (s .query .k) R R′ out (h .rest) (heldPairs s) met (h .holds)
+          holds-join pair-rank R′ met (h .holds)
           (qualifying-distinct (s .query .radius) x y) (λ p m. new p (in-met p .0 m))
           (λ p. (λ r. ⊎-elim inl (λ m. inr (in-met p .1 m)) (more p .0 r), λ r. more p .1 (⊎-elim inl (λ m. inr (in-met p .0 m)) r)))
 
@@ -107,7 +107,7 @@ module _ (s : Session) (x y : Block) where
         rest = rest;
         holds =
             subst (Holds ahead (s .query .k) R′ out rest)
-            (skipped-same (h .stored) (held-ranked ahead (λ p. p .sum) pair-rank (s .query .k) R out (h .rest) (heldPairs s) (h .holds)) (λ p m. low p (in-met p .0 m)) e)
+            (skipped-same (h .stored) (held-ranked pair-rank (h .holds)) (λ p m. low p (in-met p .0 m)) e)
             best;
       }
       go false e =

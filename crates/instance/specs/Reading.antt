@@ -32,7 +32,7 @@ open-reached q f t = record {
     counted = refl;
     stored = refl;
     rest = [];
-    holds = holds-none ahead (λ p. p .sum) pair-rank (q .k) (Region (q .radius) f t 0 0) (λ p h. omega (arith, h .field-part));
+    holds = holds-none pair-rank (q .k) (Region (q .radius) f t 0 0) (λ p h. omega (arith, h .field-part));
   };
 }
 

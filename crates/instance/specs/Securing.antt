@@ -160,8 +160,7 @@ module _ (q : Query) (f t : List ℤ) (out : List Pair) (s : Session) (a : Reach
       covered enough =
           let l : List Pair = qualifying (q .radius) (rowsBetween f 0 d) (rowsBetween t 0 e) in
           let c =
-          held-cover ahead (λ p. p .sum) pair-rank (s .query .k) (Region (q .radius) f t d e) out (a .keeping .rest) (heldPairs s)
-          (a .keeping .holds) (ceiling f t s) l (qualifying-distinct (q .radius) (rowsBetween f 0 d) (rowsBetween t 0 e))
+          held-cover pair-rank (a .keeping .holds) (ceiling f t s) l (qualifying-distinct (q .radius) (rowsBetween f 0 d) (rowsBetween t 0 e))
           (λ p m. mem-qualifying (q .radius) f t 0 d 0 e (a .field-depth) (a .trim-depth) p .0 m)
           (subst (λ m. s .query .k ≤ atLeast (ceiling f t s) m) (sym region-sums) enough) in
           (omega (arith, c .0, a .keeping .counted, a .keeping .stored), every-of (secured f t s) (heldPairs s) (λ p m. secured-high f t s p hd he (all-at (λ n. ceiling f t s ≤ n) (p .sum) (c .1) (Memᴰ·map (λ p. p .sum) m))))

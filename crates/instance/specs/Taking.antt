@@ -50,23 +50,23 @@ module _ (q : Query) (f t : List ℤ) (out : List Pair) (s : Session) (a : Reach
     -- it is a pair of the region
     pub first-inside : R (firstHeld s)
     first-inside =
-        held-inside ahead (λ p. p .sum) pair-rank (s .query .k) R out (a .keeping .rest) (firstHeld s ∷ first-held .0) first-holds (firstHeld s)
+        held-inside pair-rank first-holds (firstHeld s)
         (List·Memᴰ·head refl)
 
     -- not yet out
     pub first-new : List·Memᴰ (firstHeld s) out → ⊥
     first-new =
-        held-new ahead (λ p. p .sum) pair-rank (s .query .k) R out (a .keeping .rest) (firstHeld s ∷ first-held .0) first-holds (firstHeld s)
+        held-new pair-rank first-holds (firstHeld s)
         (List·Memᴰ·head refl)
 
     -- and no pair of the region that is not out has a higher sum
     pub first-best : (p : Pair) → R p → (List·Memᴰ p out → ⊥) → p .sum ≤ firstHeld s .sum
-    first-best = first-highest ahead (λ p. p .sum) pair-rank (s .query .k) R out (a .keeping .rest) (firstHeld s) (first-held .0) first-holds
+    first-best = first-highest pair-rank first-holds
 
     pub take-reached : Reached q f t (out ++ firstHeld s ∷ []) (movedOut s)
     unfolding movedOut
     take-reached =
-        let h = holds-out ahead (λ p. p .sum) pair-rank (s .query .k) R out (a .keeping .rest) (firstHeld s) (first-held .0) first-holds in
+        let h = holds-out pair-rank first-holds in
         record {
           query = a .query;
           field-rows = a .field-rows;
@@ -112,4 +112,4 @@ module _ (q : Query) (f t : List ℤ) (out : List Pair) (s : Session) (a : Reach
       none : (bothReadOut s ≡ true) × (eqb (s .held) 0 ≡ true) → (length out ≡ q .k) ⊎ ((p : Pair) → Fits (q .radius) f t p → List·Memᴰ p out)
       none n =
           ⊎-elim (λ z. inl (z ∙ wanted)) (λ z. inr (λ p h. z p (read-out-region (n .0) p h)))
-          (none-held ahead (λ p. p .sum) pair-rank (s .query .k) R out (a .keeping .rest) (subst (λ m. Holds ahead (s .query .k) R out (a .keeping .rest) (take m (s .pairs))) (eqb-true (s .held) 0 (n .1)) (a .keeping .holds)))
+          (none-held pair-rank (subst (λ m. Holds ahead (s .query .k) R out (a .keeping .rest) (take m (s .pairs))) (eqb-true (s .held) 0 (n .1)) (a .keeping .holds)))

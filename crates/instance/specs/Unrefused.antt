@@ -240,7 +240,7 @@ module _ (q : Query) (f t : List ℤ) (out : List Pair) (s : Session) (a : Reach
   unfolding recordFits
   reached-fits x y c =
       rw
-      (eq-eqb (queryCode (s .query)) 0 (ap queryCode (a .query) ∙ c), counts-fit (s .query .block) (s .rows .field .0) (s .depth .field .0) (omega (arith, legal-most f x, a .field-rows)) (omega (arith, a .field-depth, a .field-rows)) (h .field-whole), counts-fit (s .query .block) (s .rows .trim .0) (s .depth .trim .0) (omega (arith, legal-most t y, a .trim-rows)) (omega (arith, a .trim-depth, a .trim-rows)) (h .trim-whole), le-leb (s .out + s .held) (s .query .k) (omega (arith, held-room ahead (λ p. p .sum) pair-rank (s .query .k) R out (a .keeping .rest) (heldPairs s) (a .keeping .holds), a .keeping .counted, a .keeping .stored)), every-of (pairFits s) (heldPairs s) (λ p m. pair-fits x y p (held-inside ahead (λ p. p .sum) pair-rank (s .query .k) R out (a .keeping .rest) (heldPairs s) (a .keeping .holds) p m)), held-ranked ahead (λ p. p .sum) pair-rank (s .query .k) R out (a .keeping .rest) (heldPairs s) (a .keeping .holds), h .mark, h .cleared)
+      (eq-eqb (queryCode (s .query)) 0 (ap queryCode (a .query) ∙ c), counts-fit (s .query .block) (s .rows .field .0) (s .depth .field .0) (omega (arith, legal-most f x, a .field-rows)) (omega (arith, a .field-depth, a .field-rows)) (h .field-whole), counts-fit (s .query .block) (s .rows .trim .0) (s .depth .trim .0) (omega (arith, legal-most t y, a .trim-rows)) (omega (arith, a .trim-depth, a .trim-rows)) (h .trim-whole), le-leb (s .out + s .held) (s .query .k) (omega (arith, held-room pair-rank (a .keeping .holds), a .keeping .counted, a .keeping .stored)), every-of (pairFits s) (heldPairs s) (λ p m. pair-fits x y p (held-inside pair-rank (a .keeping .holds) p m)), held-ranked pair-rank (a .keeping .holds), h .mark, h .cleared)
       (le-leb (s .joined) (blockCount (s .query .block) (s .depth .field .0) * blockCount (s .query .block) (s .depth .trim .0)) (h .joined))
     where
       R : Pair → Type 0

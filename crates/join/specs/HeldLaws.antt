@@ -18,7 +18,7 @@ use Rattle.lists.specs.Parts.{append-distinct, keep-distinct, mem-keep, keep-ma
 use Rattle.lists.specs.Counts.{count-append, count-some, count-all, count-take}
 use Rattle.join.specs.Held.{Rank, Holds}
 
-module _ {P : Type 0} (ahead : P → P → Bool) (sum : P → ℕ) (rank : Rank ahead sum) where
+module _ {P : Type 0} {ahead : P → P → Bool} {sum : P → ℕ} (rank : Rank ahead sum) where
   -- what stands ahead is no lower
   pub ahead-sum : (p q : P) → ahead p q ≡ true → sum q ≤ sum p
   ahead-sum p q e = go (ltb (sum p) (sum q)) refl
@@ -61,9 +61,9 @@ module _ {P : Type 0} (ahead : P → P → Bool) (sum : P → ℕ) (rank : Rank 
   }
 
   -- the region may be put in other words
-  pub holds-same : (k : ℕ) (R R′ : P → Type 0) (out rest held : List P) → ((p : P) → R p ↔ R′ p) → Holds ahead k R out rest held
+  pub holds-same : {k : ℕ} {R : P → Type 0} (R′ : P → Type 0) {out rest held : List P} → ((p : P) → R p ↔ R′ p) → Holds ahead k R out rest held
       → Holds ahead k R′ out rest held
-  holds-same k R R′ out rest held e h = record {
+  holds-same R′ e h = record {
     in-rank = h .in-rank;
     front = h .front;
     room = h .room;
@@ -74,10 +74,10 @@ module _ {P : Type 0} (ahead : P → P → Bool) (sum : P → ℕ) (rank : Rank 
   }
 
   -- the pairs of more rows join
-  pub holds-join : (k : ℕ) (R R′ : P → Type 0) (out rest held met : List P) → Holds ahead k R out rest held → Distinct met
+  pub holds-join : {k : ℕ} {R : P → Type 0} (R′ : P → Type 0) {out rest held : List P} (met : List P) → Holds ahead k R out rest held → Distinct met
       → ((p : P) → List·Memᴰ p met → R p → ⊥) → ((p : P) → R′ p ↔ (R p ⊎ List·Memᴰ p met))
       → Holds ahead k R′ out (sort ahead (rest ++ met)) (take (k - length out) (sort ahead (held ++ met)))
-  holds-join k R R′ out rest held met h d new more = record {
+  holds-join {k} {R} R′ {out} {rest} {held} met h d new more = record {
     in-rank =
         sort-ranked ahead (rank .order) (rest ++ met)
         (append-distinct rest met (ranked-distinct ahead (rank .order) rest (h .in-rank)) d (λ p a b. new p b (h .inside p (inr a))));
@@ -114,24 +114,24 @@ module _ {P : Type 0} (ahead : P → P → Bool) (sum : P → ℕ) (rank : Rank 
       (λ p i. let j = mem-keep test p l .0 i in mem-keep test p m .1 (h p (j .0), j .1)) in
       omega (arith, count-keep c l, count-keep c m)
 
-  module _ (k : ℕ) (R : P → Type 0) (out rest : List P) where
-    held-rest : (held : List P) → Holds ahead k R out rest held → (p : P) → List·Memᴰ p held → List·Memᴰ p rest
-    held-rest held h p m = mem-take (k - length out) p rest (subst (List·Memᴰ p) (h .front) m)
+  module _ {k : ℕ} {R : P → Type 0} {out rest : List P} where
+    held-rest : {held : List P} → Holds ahead k R out rest held → (p : P) → List·Memᴰ p held → List·Memᴰ p rest
+    held-rest h p m = mem-take (k - length out) p rest (subst (List·Memᴰ p) (h .front) m)
 
     -- the held pairs are pairs of the region
-    pub held-inside : (held : List P) → Holds ahead k R out rest held → (p : P) → List·Memᴰ p held → R p
-    held-inside held h p m = h .inside p (inr (held-rest held h p m))
+    pub held-inside : {held : List P} → Holds ahead k R out rest held → (p : P) → List·Memᴰ p held → R p
+    held-inside h p m = h .inside p (inr (held-rest h p m))
 
     -- none of them is out
-    pub held-new : (held : List P) → Holds ahead k R out rest held → (p : P) → List·Memᴰ p held → List·Memᴰ p out → ⊥
-    held-new held h p m o = h .apart p o (held-rest held h p m)
+    pub held-new : {held : List P} → Holds ahead k R out rest held → (p : P) → List·Memᴰ p held → List·Memᴰ p out → ⊥
+    held-new h p m o = h .apart p o (held-rest h p m)
 
-    pub held-ranked : (held : List P) → Holds ahead k R out rest held → ranked ahead held ≡ true
-    held-ranked held h = subst (λ l. ranked ahead l ≡ true) (sym (h .front)) (ranked-take ahead (rank .order) (k - length out) rest (h .in-rank))
+    pub held-ranked : {held : List P} → Holds ahead k R out rest held → ranked ahead held ≡ true
+    held-ranked h = subst (λ l. ranked ahead l ≡ true) (sym (h .front)) (ranked-take ahead (rank .order) (k - length out) rest (h .in-rank))
 
     -- they and those out are at most k
-    pub held-room : (held : List P) → Holds ahead k R out rest held → length out + length held ≤ k
-    held-room held h = omega (arith, h .room, ap length (h .front), length-take (k - length out) rest)
+    pub held-room : {held : List P} → Holds ahead k R out rest held → length out + length held ≤ k
+    held-room h = omega (arith, h .room, ap length (h .front), length-take (k - length out) rest)
 
     -- with none held, k are out or all are
     pub none-held : Holds ahead k R out rest [] → (length out ≡ k) ⊎ ((p : P) → R p → List·Memᴰ p out)
@@ -144,9 +144,9 @@ module _ {P : Type 0} (ahead : P → P → Bool) (sum : P → ℕ) (rank : Rank 
         go (suc n) (y ∷ l) e f w = absurd (let z : _≡_ {A = ℕ} 0 1 = cc in omega arith)
 
     -- where k sums of the region are at least c, out plus held is k and each held sum is at least c
-    pub held-cover : (held : List P) → Holds ahead k R out rest held → (c : ℕ) (l : List P) → Distinct l → ((p : P) → List·Memᴰ p l → R p)
+    pub held-cover : {held : List P} → Holds ahead k R out rest held → (c : ℕ) (l : List P) → Distinct l → ((p : P) → List·Memᴰ p l → R p)
         → k ≤ atLeast c (map sum l) → (length out + length held ≡ k) × All (λ n. c ≤ n) (map sum held)
-    held-cover held h c l d within enough =
+    held-cover {held} h c l d within enough =
         let n : ℕ = k - length out in
         let passed : atLeast c (map sum l) ≤ atLeast c (map sum (out ++ rest)) =
         count-inside c l (out ++ rest) d (λ p m. ⊎-elim (Memᴰ·append-left rest) (Memᴰ·append-right out) (h .known p (within p m))) in
@@ -160,10 +160,10 @@ module _ {P : Type 0} (ahead : P → P → Bool) (sum : P → ℕ) (rank : Rank 
         ∙ count-take c n (map sum rest) (ordered-sums rest (ranked-ordered ahead (rank .order) rest (h .in-rank))) in
         let full : atLeast c (map sum held) ≤ length held =
         subst (λ m. atLeast c (map sum held) ≤ m) (length-map held sum) (count-some c (map sum held)) in
-        let room = held-room held h in
+        let room = held-room h in
         (omega (arith, h .room), count-all c (map sum held) (omega (arith, length-map held sum, h .room)))
 
-    module _ (x : P) (l : List P) (h : Holds ahead k R out rest (x ∷ l)) where
+    module _ {x : P} {l : List P} (h : Holds ahead k R out rest (x ∷ l)) where
       -- the first held pair is the first of all that are not out
       first-rest : (m : List P) × (rest ≡ x ∷ m) × (l ≡ take (k - length out - 1) m) × (1 ≤ k - length out)
       first-rest = go (k - length out) rest (h .front)
