@@ -61,16 +61,16 @@ module _ (q : Query) (f t : List ℤ) (g : legal f ≡ true) (h : legal t ≡ tr
       → eqb (number (promised c f t s .answer)) 0 ≡ true
   call-unrefused k out s a b reading =
       read-accepted f t s
-      (call-accepted f t s g h (a .field-rows) (a .trim-rows) (a .field-depth) (a .trim-depth) (reached-fits q f t out s a b g h k))
+      (call-accepted f t s g h (a .field-rows) (a .trim-rows) (a .field-depth) (a .trim-depth) (reached-fits a b g h k))
       (new-block-accepted f t s g h (a .field-rows) (a .trim-rows) (a .field-depth) (a .trim-depth))
   call-unrefused k out s a b taking =
       take-accepted f t s
-      (call-accepted f t s g h (a .field-rows) (a .trim-rows) (a .field-depth) (a .trim-depth) (reached-fits q f t out s a b g h k))
+      (call-accepted f t s g h (a .field-rows) (a .trim-rows) (a .field-depth) (a .trim-depth) (reached-fits a b g h k))
 
   line-sound : (out : List Pair) (s : Session) (x : Step) → Reached q f t out s → Sound s → Changed f t s x → Sound (x .session)
   line-sound out s x a b (kept e o r) = subst Sound (sym e) b
-  line-sound out s x a b (deeper d e) = subst (λ y. Sound (y .session)) (sym e) (sound-read q f t out s a b size d)
-  line-sound out s x a b (fewer d e) = subst (λ y. Sound (y .session)) (sym e) (sound-take q f t out s a b (gives-some f t s d))
+  line-sound out s x a b (deeper d e) = subst (λ y. Sound (y .session)) (sym e) (sound-read a b size d)
+  line-sound out s x a b (fewer d e) = subst (λ y. Sound (y .session)) (sym e) (sound-take a b (gives-some f t s d))
 
   pub lines-sound : (lines : List Line) (out : List Pair) (s : Session) → Reached q f t out s → Sound s → Follows f t s lines
       → Sound (lastRecord s lines)
@@ -86,7 +86,7 @@ module _ (q : Query) (f t : List ℤ) (g : legal f ≡ true) (h : legal t ≡ tr
   depths s = s .depth .field .0 + s .depth .trim .0
 
   read-deeper : (out : List Pair) (s : Session) → Reached q f t out s → settled f t s ≡ false → depths s < depths (readBlock f t s)
-  read-deeper out s a u = go (fieldNext f t s) (read-raises q f t out s a u size)
+  read-deeper out s a u = go (fieldNext f t s) (read-raises a u size)
     where
       go : (b : Bool) → oldDepth b s < newDepth b s → depths s < depths (readTable b f t s)
       go true k = omega (arith, read-field true f t s, read-trim true f t s)
@@ -136,7 +136,7 @@ settled-take q f t out s a e n = go (eqb (s .out) (s .query .k)) (aTableIsEmpty 
     go false false true false ek ee eb eh w n = eq-eqb (s .held) 0 (omega (arith, ltb-false 0 (s .held) eh))
     go false false false true ek ee eb eh w n =
         clash
-        (every-at (secured f t s) (firstHeld s) (both-true (eqb (s .out + s .held) (s .query .k)) (every (secured f t s) (heldPairs s)) w .1) (first-mem q f t out s a (ltb-true 0 (s .held) eh)))
+        (every-at (secured f t s) (firstHeld s) (both-true (eqb (s .out + s .held) (s .query .k)) (every (secured f t s) (heldPairs s)) w .1) (first-mem a (ltb-true 0 (s .held) eh)))
         n
     go false false false false ek ee eb eh w n =
         absurd

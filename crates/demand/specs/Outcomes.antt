@@ -99,7 +99,7 @@ gives-secured f t s e = both-true (ltb 0 (s .held)) (secured f t s (firstHeld s)
 module _ (q : Query) (f t f′ t′ : List ℤ) (g : legal f′ ≡ true) (h : legal t′ ≡ true) (m : rowCount f′ ≡ rowCount f) (n : rowCount t′ ≡ rowCount t) (out : List Pair) (s : Session) (a : Reached q f t out s) where
   -- a held pair needs rows of both tables
   held-live : 1 ≤ s .held → aTableIsEmpty s ≡ false
-  held-live some = fails (aTableIsEmpty s) (λ e. empty-none q f t out s a e (firstHeld s) (first-inside q f t out s a some .fits))
+  held-live some = fails (aTableIsEmpty s) (λ e. empty-none a e (firstHeld s) (first-inside a some .fits))
 
   same-gives : SameRows (s .depth .field .0) f f′ → SameRows (s .depth .trim .0) t t′ → givesPair f′ t′ s ≡ givesPair f t s
   unfolding givesPair

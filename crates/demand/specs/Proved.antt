@@ -59,15 +59,15 @@ module _ (q : Query) (f t : List ℤ) (g : legal f ≡ true) (h : legal t ≡ tr
   first-brought : (gives : givesPair f t s ≡ true) → Brought q f t before (firstHeld s)
   first-brought gives =
       let some = gives-some f t s gives in
-      let fits : Fits (q .radius) f t (firstHeld s) = first-inside q f t (outs before) s a some .fits in
+      let fits : Fits (q .radius) f t (firstHeld s) = first-inside a some .fits in
       record {
         qualifying = fits-qualifying q f t (firstHeld s) fits;
         own-sum = fits .own-sum;
         new =
-            λ o. first-new q f t (outs before) s a some
+            λ o. first-new a some
             (Memᴰ·cast (fits-named q f t (firstHeld s) fits) (in-mem q f t (firstHeld s .field) (firstHeld s .trim) (outs before) out-fits o));
         highest =
-            λ i j k new. secured-best q f t (outs before) s a g h some (gives-secured f t s gives) (named f t i j) (named-fits q f t i j k)
+            λ i j k new. secured-best a g h some (gives-secured f t s gives) (named f t i j) (named-fits q f t i j k)
             (λ m. new (mem-in (named f t i j) (outs before) m));
       }
 
@@ -89,7 +89,7 @@ module _ (q : Query) (f t : List ℤ) (g : legal f ≡ true) (h : legal t ≡ tr
   call-complete c x w (giving i b d e) = differ cc
   call-complete c x w (finishing i b d k e) =
       ⊎-elim inl (λ all. inr (λ i j k. mem-in (named f t i j) (outs before) (all (named f t i j) (named-fits q f t i j k))))
-      (finished-complete q f t (outs before) s a k)
+      (finished-complete a k)
   call-complete c x w (waiting i b d k e) = differ cc
 
 -- The sequence

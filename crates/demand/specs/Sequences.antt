@@ -56,9 +56,9 @@ module _ (q : Query) (f t : List ℤ) (g : legal f ≡ true) (h : legal t ≡ tr
   line-reached out s x a (kept e b r) = subst₂ (Reached q f t) (sym (append-nil out) ∙ ap (λ o. out ++ o) (sym b)) (sym e) a
   line-reached out s x a (deeper d e) =
       subst (λ x. Reached q f t (out ++ broughtBy (x .answer) []) (x .session)) (sym e)
-      (subst (λ o. Reached q f t o (readBlock f t s)) (sym (append-nil out)) (read-reached (fieldNext f t s) q f t g h size out s a))
+      (subst (λ o. Reached q f t o (readBlock f t s)) (sym (append-nil out)) (read-reached (fieldNext f t s) a g h size))
   line-reached out s x a (fewer d e) =
-      subst (λ x. Reached q f t (out ++ broughtBy (x .answer) []) (x .session)) (sym e) (take-reached q f t out s a (gives-some f t s d))
+      subst (λ x. Reached q f t (out ++ broughtBy (x .answer) []) (x .session)) (sym e) (take-reached a (gives-some f t s d))
 
   module _ (out : List Pair) (s : Session) (l : Line) (lines : List Line) (a : Reached q f t out s) (w : Follows f t s (l ∷ lines)) where
     line-happened : Happened f t s (l .call) (l .gave)
@@ -105,7 +105,7 @@ module _ (q : Query) (f t : List ℤ) (g : legal f ≡ true) (h : legal t ≡ tr
     line-within : (out : List Pair) (s : Session) (x : Step) → Reached q f t out s → Within s → Changed f t s x → Within (x .session)
     unfolding movedOut
     line-within out s x a v (kept e b r) = subst Within (sym e) v
-    line-within out s x a v (deeper d e) = subst (λ y. Within (y .session)) (sym e) (read-limit q f t g h wanted out s a d m n sure v)
+    line-within out s x a v (deeper d e) = subst (λ y. Within (y .session)) (sym e) (read-limit a g h wanted d m n sure v)
     line-within out s x a v (fewer d e) = subst (λ y. Within (y .session)) (sym e) v
 
     pub lines-within : (lines : List Line) (out : List Pair) (s : Session) → Reached q f t out s → Within s → Follows f t s lines

@@ -38,11 +38,11 @@ read-grows true f t s h k = (omega (arith, read-field true f t s), omega (arith,
 read-grows false f t s h k = (omega (arith, read-field false f t s), omega (arith, read-trim false f t s))
 
 -- an unsettled read stays below max(p, q) + block, as both depths did
-pub read-limit : (q : Query) (f t : List ℤ) → legal f ≡ true → legal t ≡ true → 1 ≤ q .k → (out : List Pair) (s : Session) → Reached q f t out s
+pub read-limit : {q : Query} {f t : List ℤ} {out : List Pair} {s : Session} → Reached q f t out s → legal f ≡ true → legal t ≡ true → 1 ≤ q .k
     → settled f t s ≡ false → (m : FieldRows) (n : TrimRows) → Sure (q .k) (q .radius) f t m n
     → (s .depth .field .0 ≤ max (m .0) (n .0) + q .block - 1) × (s .depth .trim .0 ≤ max (m .0) (n .0) + q .block - 1)
     → (readBlock f t s .depth .field .0 ≤ max (m .0) (n .0) + q .block - 1) × (readBlock f t s .depth .trim .0 ≤ max (m .0) (n .0) + q .block - 1)
-read-limit q f t g h wanted out s a u m n sure l = go (fieldNext f t s) refl
+read-limit {q} {f} {t} {out} {s} a g h wanted u m n sure l = go (fieldNext f t s) refl
   where
     size : s .query .block ≡ q .block
     size = ap (λ q. q .block) (a .query)
@@ -50,6 +50,6 @@ read-limit q f t g h wanted out s a u m n sure l = go (fieldNext f t s) refl
     go : (b : Bool) → fieldNext f t s ≡ b
         → (readTable b f t s .depth .field .0 ≤ max (m .0) (n .0) + q .block - 1) × (readTable b f t s .depth .trim .0 ≤ max (m .0) (n .0) + q .block - 1)
     go true e =
-        let k = field-limit q f t g h wanted out s a u m n sure e in (omega (arith, size, read-field true f t s, l), omega (arith, read-trim true f t s, l))
+        let k = field-limit a g h wanted u m n sure e in (omega (arith, size, read-field true f t s, l), omega (arith, read-trim true f t s, l))
     go false e =
-        let k = trim-limit q f t g h wanted out s a u m n sure e in (omega (arith, read-field false f t s, l), omega (arith, size, read-trim false f t s, l))
+        let k = trim-limit a g h wanted u m n sure e in (omega (arith, read-field false f t s, l), omega (arith, size, read-trim false f t s, l))

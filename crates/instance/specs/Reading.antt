@@ -155,8 +155,8 @@ module _ (field : Bool) (f t : List ℤ) (g : legal f ≡ true) (h : legal t ≡
     };
   }
 
-pub read-reached : (field : Bool) (q : Query) (f t : List ℤ) → legal f ≡ true → legal t ≡ true → 1 ≤ q .block → (out : List Pair) (s : Session)
-    → Reached q f t out s → Reached q f t out (readTable field f t s)
-read-reached field q f t g h size out s a =
+pub read-reached : (field : Bool) {q : Query} {f t : List ℤ} {out : List Pair} {s : Session} → Reached q f t out s → legal f ≡ true → legal t ≡ true
+    → 1 ≤ q .block → Reached q f t out (readTable field f t s)
+read-reached field {q} {f} {t} {out} {s} a g h size =
     subst (λ q. Reached q f t out (readTable field f t s)) (a .query)
     (read-same-query field f t g h out s (subst (λ q. 1 ≤ q .block) (sym (a .query)) size) (subst (λ q. Reached q f t out s) (sym (a .query)) a))

@@ -66,7 +66,7 @@ secured-high f t s p hd he h =
     go true = refl
     go false = refl
 
-module _ (q : Query) (f t : List ℤ) (out : List Pair) (s : Session) (a : Reached q f t out s) where
+module _ {q : Query} {f t : List ℤ} {out : List Pair} {s : Session} (a : Reached q f t out s) where
   abbrev d : ℕ
   d = s .depth .field .0
 
@@ -129,17 +129,17 @@ module _ (q : Query) (f t : List ℤ) (out : List Pair) (s : Session) (a : Reach
     secured-best some z p m new = go (decLe (p .field) d) (decLe (p .trim) e)
       where
         first : Region (q .radius) f t d e (firstHeld s)
-        first = first-inside q f t out s a some
+        first = first-inside a some
 
         beyond : (d < p .field) ⊎ (e < p .trim) → p .sum ≤ firstHeld s .sum
         beyond o =
-            ⊎-elim (λ b. first-best q f t out s a some p (read-out-region q f t out s a b p m) new)
+            ⊎-elim (λ b. first-best a some p (read-out-region a b p m) new)
             (λ c. omega (arith, outside (omega (arith, first .field-part)) (omega (arith, first .trim-part)) p m o))
             (secured-cases f t s (firstHeld s) z)
 
         go : Dec (p .field ≤ d) → Dec (p .trim ≤ e) → p .sum ≤ firstHeld s .sum
         go (yes i) (yes j) =
-            first-best q f t out s a some p (record { fits = m; field-part = omega (arith, m .field-row); trim-part = omega (arith, m .trim-row) })
+            first-best a some p (record { fits = m; field-part = omega (arith, m .field-row); trim-part = omega (arith, m .trim-row) })
             new
         go (yes i) (no j) = beyond (inr (omega arith))
         go (no i) (yes j) = beyond (inl (omega arith))

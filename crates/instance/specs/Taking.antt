@@ -32,7 +32,7 @@ places-first (suc n) (x ∷ l) e h =
     let j : suc n - 1 ≡ n = omega arith in
     (take n l, refl, ap (λ i. take i (l ++ (noPair ∷ []))) j ∙ take-append-le n l (noPair ∷ []) (omega (arith, length-take n l)), omega arith)
 
-module _ (q : Query) (f t : List ℤ) (out : List Pair) (s : Session) (a : Reached q f t out s) where
+module _ {q : Query} {f t : List ℤ} {out : List Pair} {s : Session} (a : Reached q f t out s) where
   abbrev R : Pair → Type 0
   R = Region (q .radius) f t (s .depth .field .0) (s .depth .trim .0)
 

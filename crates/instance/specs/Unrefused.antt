@@ -186,12 +186,12 @@ module _ (s r : Session) (h : Sound s) (size : 1 ≤ s .query .block) (cleared :
         (product-next (counted (s .depth .trim .0)) (counted (newDepth false s)) (counted (s .depth .field .0)) (s .joined) (r .joined) (subst (λ n. s .joined ≤ n) (mul-comm (counted (s .depth .field .0)) (counted (s .depth .trim .0))) (h .joined)) (count-next (s .query .block) size (s .depth .trim .0) (newDepth false s) (whole-unread (s .query .block) (s .rows .trim .0) (s .depth .trim .0) (omega arith) (h .trim-whole)) k) j);
   }
 
-module _ (q : Query) (f t : List ℤ) (out : List Pair) (s : Session) (a : Reached q f t out s) (h : Sound s) where
+module _ {q : Query} {f t : List ℤ} {out : List Pair} {s : Session} (a : Reached q f t out s) (h : Sound s) where
   pub sound-read : 1 ≤ q .block → settled f t s ≡ false → Sound (readBlock f t s)
   unfolding readTable
   sound-read size u =
       subst (λ r. Sound (readTo field (newDepth field s) r)) (sym (same-held s r (blocks-same field s new (cond field t f) depth n)))
-      (sound-raised s r h (subst (λ q. 1 ≤ q .block) (sym (a .query)) size) (blocks-cleared field s new (cond field t f) depth n (h .cleared)) field (read-raises q f t out s a u size) (blocks-joined field s new (cond field t f) depth n))
+      (sound-raised s r h (subst (λ q. 1 ≤ q .block) (sym (a .query)) size) (blocks-cleared field s new (cond field t f) depth n (h .cleared)) field (read-raises a u size) (blocks-joined field s new (cond field t f) depth n))
     where
       field : Bool
       field = fieldNext f t s
