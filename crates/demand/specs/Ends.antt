@@ -1,5 +1,5 @@
 -- Fact 6, it gets there: over the two tables no call is refused, reads are few, and in a settled session a take answers a pair or finished. Assumes legal tables.
-use mathlib.Core.Path.{_≡_, refl, sym, ap, subst, subst₂, _∙_}
+use mathlib.Core.Path.{_≡_, refl, sym, ap, ap₂, subst, _∙_}
 use mathlib.Core.Bool.{Bool, true, false, cond, _&&_, _||_}
 use mathlib.Core.List.{List, [], _∷_, _++_}
 use Prim.Native.Nat.{ℕ, _+_, _≤_, _<_}
@@ -29,12 +29,12 @@ use Rattle.instance.specs.Unrefused.{sound-open, sound-read, sound-take, reache
 use Rattle.instance.specs.Choosing.{read-raises}
 use Rattle.instance.specs.Depths.{read-field, read-trim}
 use Rattle.instance.specs.Accepting.{call-accepted, new-block-accepted}
-use Rattle.demand.specs.Demand.{Call, reading, taking, Line, promised, Sequence, Follows, broughtBy, outs, lastRecord}
+use Rattle.demand.specs.Demand.{Call, reading, taking, Line, promised, isAccepted, Sequence, Follows, lastRecord}
 use Rattle.demand.specs.GetsThere.{GetsThere}
 use Rattle.demand.specs.Steps.{Happened, refused, settling, going, giving, finishing, waiting, readsOf, Changed, kept, deeper, fewer}
 use Rattle.demand.specs.Outcomes.{differ, gives-some}
 use Rattle.demand.specs.Openings.{query-wanted, opening-query, opening-is}
-use Rattle.demand.specs.Sequences.{follows-before, line-changed, next-reached, lines-reached, reached, reached-before}
+use Rattle.demand.specs.Sequences.{follows-before, line-changed, next-reached, lines-reached, lines-keep, reached, reached-before}
 
 -- No call is refused
 
@@ -57,27 +57,24 @@ module _ (f t : List ℤ) (s : Session) (a : callCode f t s ≡ 0) where
       go false false = refl
 
 module _ (q : Query) (f t : List ℤ) (g : legal f ≡ true) (h : legal t ≡ true) (size : 1 ≤ q .block) where
-  pub call-unrefused : queryCode q ≡ 0 → (out : List Pair) (s : Session) → Reached q f t out s → Sound s → (c : Call)
+  call-unrefused : queryCode q ≡ 0 → {out : List Pair} {s : Session} → Reached q f t out s → Sound s → (c : Call)
       → eqb (number (promised c f t s .answer)) 0 ≡ true
-  call-unrefused k out s a b reading =
-      read-accepted f t s
-      (call-accepted f t s g h (a .field-rows) (a .trim-rows) (a .field-depth) (a .trim-depth) (reached-fits a b g h k))
-      (new-block-accepted f t s g h (a .field-rows) (a .trim-rows) (a .field-depth) (a .trim-depth))
-  call-unrefused k out s a b taking =
-      take-accepted f t s
-      (call-accepted f t s g h (a .field-rows) (a .trim-rows) (a .field-depth) (a .trim-depth) (reached-fits a b g h k))
+  call-unrefused k {out} {s} a b c = go c
+    where
+      accepted : callCode f t s ≡ 0
+      accepted = call-accepted f t s g h (a .field-rows) (a .trim-rows) (a .field-depth) (a .trim-depth) (reached-fits a b g h k)
 
-  line-sound : (out : List Pair) (s : Session) (x : Step) → Reached q f t out s → Sound s → Changed f t s x → Sound (x .session)
-  line-sound out s x a b (kept e o r) = subst Sound (sym e) b
-  line-sound out s x a b (deeper d e) = subst (λ y. Sound (y .session)) (sym e) (sound-read a b size d)
-  line-sound out s x a b (fewer d e) = subst (λ y. Sound (y .session)) (sym e) (sound-take a b (gives-some f t s d))
+      go : (c : Call) → eqb (number (promised c f t s .answer)) 0 ≡ true
+      go reading = read-accepted f t s accepted (new-block-accepted f t s g h (a .field-rows) (a .trim-rows) (a .field-depth) (a .trim-depth))
+      go taking = take-accepted f t s accepted
 
-  pub lines-sound : (lines : List Line) (out : List Pair) (s : Session) → Reached q f t out s → Sound s → Follows f t s lines
-      → Sound (lastRecord s lines)
-  lines-sound [] out s a b w = b
-  lines-sound (l ∷ lines) out s a b w =
-      lines-sound lines (out ++ broughtBy (l .gave .answer) []) (l .gave .session) (next-reached q f t g h size out s l lines a w)
-      (line-sound out s (l .gave) a b (line-changed q f t g h size out s l lines a w)) (w .2)
+  line-sound : {out : List Pair} {s : Session} (x : Step) → Reached q f t out s → Sound s → Changed f t s x → Sound (x .session)
+  line-sound x a b (kept e o r) = subst Sound (sym e) b
+  line-sound x a b (deeper d e) = subst (λ y. Sound (y .session)) (sym e) (sound-read a b size d)
+  line-sound {s = s} x a b (fewer d e) = subst (λ y. Sound (y .session)) (sym e) (sound-take a b (gives-some f t s d))
+
+  lines-sound : (lines : List Line) {out : List Pair} {s : Session} → Reached q f t out s → Sound s → Follows f t s lines → Sound (lastRecord s lines)
+  lines-sound lines a b w = lines-keep q f t g h size Sound (λ out s. line-sound {out = out} {s = s}) lines a b w
 
   -- Reads are few
 
@@ -85,27 +82,27 @@ module _ (q : Query) (f t : List ℤ) (g : legal f ≡ true) (h : legal t ≡ tr
   abbrev depths : Session → ℕ
   depths s = s .depth .field .0 + s .depth .trim .0
 
-  read-deeper : (out : List Pair) (s : Session) → Reached q f t out s → settled f t s ≡ false → depths s < depths (readBlock f t s)
-  read-deeper out s a u = go (fieldNext f t s) (read-raises a u size)
+  read-deeper : {out : List Pair} {s : Session} → Reached q f t out s → settled f t s ≡ false → depths s < depths (readBlock f t s)
+  read-deeper {s = s} a u = go (fieldNext f t s) (read-raises a u size)
     where
       go : (b : Bool) → oldDepth b s < newDepth b s → depths s < depths (readTable b f t s)
       go true k = omega (arith, read-field true f t s, read-trim true f t s)
       go false k = omega (arith, read-field false f t s, read-trim false f t s)
 
-  line-reads : (out : List Pair) (s : Session) (x : Step) → Reached q f t out s → Changed f t s x
+  line-reads : {out : List Pair} {s : Session} (x : Step) → Reached q f t out s → Changed f t s x
       → depths s + readsOf (x .answer) ≤ depths (x .session)
   unfolding movedOut
-  line-reads out s x a (kept e o r) = omega (arith, r, ap depths e)
-  line-reads out s x a (deeper d e) = subst (λ y. depths s + readsOf (y .answer) ≤ depths (y .session)) (sym e) (omega (arith, read-deeper out s a d))
-  line-reads out s x a (fewer d e) = subst (λ y. depths s + readsOf (y .answer) ≤ depths (y .session)) (sym e) (omega arith)
+  line-reads x a (kept e o r) = omega (arith, r, ap depths e)
+  line-reads {s = s} x a (deeper d e) = subst (λ y. depths s + readsOf (y .answer) ≤ depths (y .session)) (sym e) (omega (arith, read-deeper a d))
+  line-reads {s = s} x a (fewer d e) = subst (λ y. depths s + readsOf (y .answer) ≤ depths (y .session)) (sym e) (omega arith)
 
-  lines-reads : (lines : List Line) (out : List Pair) (s : Session) → Reached q f t out s → Follows f t s lines
+  lines-reads : (lines : List Line) {out : List Pair} {s : Session} → Reached q f t out s → Follows f t s lines
       → depths s + total (λ l. readsOf (l .gave .answer)) lines ≤ depths (lastRecord s lines)
   unfolding total
-  lines-reads [] out s a w = omega arith
-  lines-reads (l ∷ lines) out s a w =
-      let x = line-reads out s (l .gave) a (line-changed q f t g h size out s l lines a w) in
-      let y = lines-reads lines (out ++ broughtBy (l .gave .answer) []) (l .gave .session) (next-reached q f t g h size out s l lines a w) (w .2) in
+  lines-reads [] a w = omega arith
+  lines-reads (l ∷ lines) a w =
+      let x = line-reads (l .gave) a (line-changed q f t g h size a l lines w) in
+      let y = lines-reads lines (next-reached q f t g h size a l lines w) (w .2) in
       omega arith
 
 -- In a settled session
@@ -120,13 +117,19 @@ read-out-secured f t s p e b =
     (eqb-true (s .depth .field .0) (s .rows .field .0) (ends .0), eqb-true (s .depth .trim .0) (s .rows .trim .0) (ends .1), rows .0, rows .1, eq-eqb (s .rows .field .0) (s .rows .field .0) refl, eq-eqb (s .rows .trim .0) (s .rows .trim .0) refl)
 
 -- the take has a secured pair to give, or the list is complete
-settled-take : (q : Query) (f t : List ℤ) (out : List Pair) (s : Session) → Reached q f t out s → settled f t s ≡ true → givesPair f t s ≡ false
+settled-take : {q : Query} {f t : List ℤ} {out : List Pair} {s : Session} → Reached q f t out s → settled f t s ≡ true → givesPair f t s ≡ false
     → finished s ≡ true
 unfolding settled givesPair finished
-settled-take q f t out s a e n = go (eqb (s .out) (s .query .k)) (aTableIsEmpty s) (bothReadOut s) (ltb 0 (s .held)) refl refl refl refl e n
+settled-take {q} {f} {t} {out} {s} a e n =
+    go (eqb (s .out) (s .query .k)) (aTableIsEmpty s) (bothReadOut s) (ltb 0 (s .held)) refl refl refl refl e n
   where
     full : Bool
     full = eqb (s .out + s .held) (s .query .k) && every (secured f t s) (heldPairs s)
+
+    full-parts : full ≡ true → (s .out + s .held ≡ s .query .k) × (every (secured f t s) (heldPairs s) ≡ true)
+    full-parts w =
+        let b = both-true (eqb (s .out + s .held) (s .query .k)) (every (secured f t s) (heldPairs s)) w in
+        (eqb-true (s .out + s .held) (s .query .k) (b .0), b .1)
 
     go : (k e b h : Bool) → eqb (s .out) (s .query .k) ≡ k → aTableIsEmpty s ≡ e → bothReadOut s ≡ b → ltb 0 (s .held) ≡ h
         → (e || (b || (k || full))) ≡ true → (h && secured f t s (firstHeld s)) ≡ false → (k || (e || (b && eqb (s .held) 0))) ≡ true
@@ -135,48 +138,48 @@ settled-take q f t out s a e n = go (eqb (s .out) (s .query .k)) (aTableIsEmpty 
     go false false true true ek ee eb eh w n = clash (read-out-secured f t s (firstHeld s) ee eb) n
     go false false true false ek ee eb eh w n = eq-eqb (s .held) 0 (omega (arith, ltb-false 0 (s .held) eh))
     go false false false true ek ee eb eh w n =
-        clash
-        (every-at (secured f t s) (firstHeld s) (both-true (eqb (s .out + s .held) (s .query .k)) (every (secured f t s) (heldPairs s)) w .1) (first-mem a (ltb-true 0 (s .held) eh)))
-        n
+        clash (every-at (secured f t s) (firstHeld s) (full-parts w .1) (first-mem a (ltb-true 0 (s .held) eh))) n
     go false false false false ek ee eb eh w n =
-        absurd
-        (eqb-false (s .out) (s .query .k) ek (omega (arith, ltb-false 0 (s .held) eh, eqb-true (s .out + s .held) (s .query .k) (both-true (eqb (s .out + s .held) (s .query .k)) (every (secured f t s) (heldPairs s)) w .0))))
+        absurd (eqb-false (s .out) (s .query .k) ek (omega (arith, ltb-false 0 (s .held) eh, full-parts w .0)))
 
-call-waits : (q : Query) (f t : List ℤ) (out : List Pair) (s : Session) → Reached q f t out s → (c : Call) (x : Step) → settled f t s ≡ true
+call-waits : {q : Query} {f t : List ℤ} {out : List Pair} {s : Session} → Reached q f t out s → (c : Call) (x : Step) → settled f t s ≡ true
     → x .answer ≡ NotYet → Happened f t s c x → ⊥
-call-waits q f t out s a c x e w (refused n z i) = differ cc
-call-waits q f t out s a c x e w (settling i b d j) = differ cc
-call-waits q f t out s a c x e w (going i b d k j) = differ cc
-call-waits q f t out s a c x e w (giving i b d j) = differ cc
-call-waits q f t out s a c x e w (finishing i b d k j) = differ cc
-call-waits q f t out s a c x e w (waiting i b d k j) = clash (settled-take q f t out s a e d) k
+call-waits a c x e w (refused n z i) = differ cc
+call-waits a c x e w (settling i b d j) = differ cc
+call-waits a c x e w (going i b d k j) = differ cc
+call-waits a c x e w (giving i b d j) = differ cc
+call-waits a c x e w (finishing i b d k j) = differ cc
+call-waits a c x e w (waiting i b d k j) = clash (settled-take a e d) k
 
 -- Of the whole sequence
 
 pub gets-there : (q : Query) (f t : List ℤ) (opening : Step) (lines : List Line) → Sequence q f t opening lines → GetsThere q f t opening lines
 gets-there q f t opening lines w = record {
-  unrefused =
-      λ before after l e u v. let r = reached-before q f t opening lines w before after l e in let c = follows-before f t before (l ∷ after) (opening .session) (subst (Follows f t (opening .session)) e (w .calls)) in ap (λ x. eqb (number (x .answer)) 0) (c .1 .0 ∙ subst₂ (λ f′ t′. promised (l .call) (l .field) (l .trim) (lastRecord (opening .session) before) ≡ promised (l .call) f′ t′ (lastRecord (opening .session) before)) u v refl)
-      ∙ call-unrefused q f t (w .field-legal) (w .trim-legal) size query (outs before) (lastRecord (opening .session) before) (r .0)
-      (lines-sound q f t (w .field-legal) (w .trim-legal) size before [] (opening .session) start sound (c .0)) (l .call);
+  unrefused = unrefused;
   few-reads =
-      let x = lines-reads q f t (w .field-legal) (w .trim-legal) size lines [] (opening .session) start (w .calls) in
-      let y = lines-reached q f t (w .field-legal) (w .trim-legal) size lines [] (opening .session) start (w .calls) in
+      let x = lines-reads q f t g h size lines (reached w) (w .calls) in
+      let y = lines-reached q f t g h size lines (reached w) (w .calls) in
       omega (arith, y .field-depth, y .trim-depth);
-  never-waits =
-      λ before after l e s y. let r = reached-before q f t opening lines w before after l e in call-waits q f t (outs before) (lastRecord (opening .session) before) (r .0) (l .call) (l .gave) s y (r .1);
+  never-waits = λ before after l e s y. let r = reached-before w before after l e in call-waits (r .0) (l .call) (l .gave) s y (r .1);
 }
   where
-    query : queryCode q ≡ 0
-    query = opening-query q f t opening lines w
+    g : legal f ≡ true
+    g = w .field-legal
+
+    h : legal t ≡ true
+    h = w .trim-legal
 
     size : 1 ≤ q .block
-    size = query-wanted q query .1
-
-    start : Reached q f t [] (opening .session)
-    start = reached q f t opening lines w
+    size = query-wanted q (opening-query w) .1
 
     sound : Sound (opening .session)
-    sound =
-        subst (λ x. Sound (x .session)) (sym (opening-is q f t opening lines w))
-        (sound-open q (record { 0 = rowCount f }) (record { 0 = rowCount t }))
+    sound = subst (λ x. Sound (x .session)) (sym (opening-is w)) (sound-open q (record { 0 = rowCount f }) (record { 0 = rowCount t }))
+
+    unrefused : (before after : List Line) (l : Line) → lines ≡ before ++ l ∷ after → l .field ≡ f → l .trim ≡ t → isAccepted l ≡ true
+    unrefused before after l e u v =
+        let s : Session = lastRecord (opening .session) before in
+        let c = follows-before f t before (l ∷ after) (opening .session) (subst (Follows f t (opening .session)) e (w .calls)) in
+        let gave : l .gave ≡ promised (l .call) f t s = c .1 .0 ∙ ap₂ (λ f t. promised (l .call) f t s) u v in
+        ap (λ x. eqb (number (x .answer)) 0) gave
+        ∙ call-unrefused q f t g h size (opening-query w) (reached-before w before after l e .0)
+        (lines-sound q f t g h size before (reached w) sound (c .0)) (l .call)

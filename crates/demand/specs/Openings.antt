@@ -25,7 +25,8 @@ module _ (q : Query) (f t : List ℤ) where
   opened-code e = go (eqb (openCode q f t) 0) refl e
     where
       go : (b : Bool) → eqb (openCode q f t) 0 ≡ b
-          → cond b (step Opened (opened q (record { 0 = rowCount f }) (record { 0 = rowCount t }))) (step (Refused (openCode q f t)) zeros) .answer ≡ Opened
+          → cond b (step Opened (opened q (record { 0 = rowCount f }) (record { 0 = rowCount t }))) (step (Refused (openCode q f t)) zeros) .answer
+          ≡ Opened
           → openCode q f t ≡ 0
       go true z e = eqb-true (openCode q f t) 0 z
       go false z e = ap number e
@@ -51,7 +52,7 @@ query-wanted q e =
 
 -- The opening of a sequence
 
-module _ (q : Query) (f t : List ℤ) (opening : Step) (lines : List Line) (w : Sequence q f t opening lines) where
+module _ {q : Query} {f t : List ℤ} {opening : Step} {lines : List Line} (w : Sequence q f t opening lines) where
   pub opening-query : queryCode q ≡ 0
   opening-query = opened-query q f t (ap (λ x. x .answer) (sym (w .opening-promised)) ∙ w .opening-accepted)
 

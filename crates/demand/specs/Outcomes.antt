@@ -38,7 +38,8 @@ unfolding readCall
 read-outcome f t s = go (eqb (callCode f t s) 0) (settled f t s) (eqb (newBlockCode f t s) 0) refl refl refl
   where
     go : (x y z : Bool) → eqb (callCode f t s) 0 ≡ x → settled f t s ≡ y → eqb (newBlockCode f t s) 0 ≡ z
-        → Happened f t s reading (cond x (cond y (step Settled s) (cond z (step Read (readBlock f t s)) (step (Refused (newBlockCode f t s)) s))) (step (Refused (callCode f t s)) s))
+        → Happened f t s reading
+        (cond x (cond y (step Settled s) (cond z (step Read (readBlock f t s)) (step (Refused (newBlockCode f t s)) s))) (step (Refused (callCode f t s)) s))
     go true true z a b c = settling refl (eqb-true (callCode f t s) 0 a) b refl
     go true false true a b c = going refl (eqb-true (callCode f t s) 0 a) b (eqb-true (newBlockCode f t s) 0 c) refl
     go true false false a b c = refused (newBlockCode f t s) (eqb-false (newBlockCode f t s) 0 c) refl
@@ -49,7 +50,8 @@ unfolding takeCall
 take-outcome f t s = go (eqb (callCode f t s) 0) (givesPair f t s) (finished s) refl refl refl
   where
     go : (x y z : Bool) → eqb (callCode f t s) 0 ≡ x → givesPair f t s ≡ y → finished s ≡ z
-        → Happened f t s taking (cond x (cond y (step (Given (firstHeld s)) (movedOut s)) (cond z (step Finished s) (step NotYet s))) (step (Refused (callCode f t s)) s))
+        → Happened f t s taking
+        (cond x (cond y (step (Given (firstHeld s)) (movedOut s)) (cond z (step Finished s) (step NotYet s))) (step (Refused (callCode f t s)) s))
     go true true z a b c = giving refl (eqb-true (callCode f t s) 0 a) b refl
     go true false true a b c = finishing refl (eqb-true (callCode f t s) 0 a) b c refl
     go true false false a b c = waiting refl (eqb-true (callCode f t s) 0 a) b c refl
@@ -96,7 +98,7 @@ gives-secured f t s e = both-true (ltb 0 (s .held)) (secured f t s (firstHeld s)
 
 -- Over tables alike in the rows read
 
-module _ (q : Query) (f t f′ t′ : List ℤ) (g : legal f′ ≡ true) (h : legal t′ ≡ true) (m : rowCount f′ ≡ rowCount f) (n : rowCount t′ ≡ rowCount t) (out : List Pair) (s : Session) (a : Reached q f t out s) where
+module _ {q : Query} {f t : List ℤ} {out : List Pair} {s : Session} (a : Reached q f t out s) (f′ t′ : List ℤ) (g : legal f′ ≡ true) (h : legal t′ ≡ true) (m : rowCount f′ ≡ rowCount f) (n : rowCount t′ ≡ rowCount t) where
   -- a held pair needs rows of both tables
   held-live : 1 ≤ s .held → aTableIsEmpty s ≡ false
   held-live some = fails (aTableIsEmpty s) (λ e. empty-none a e (firstHeld s) (first-inside a some .fits))

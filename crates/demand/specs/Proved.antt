@@ -19,7 +19,7 @@ use Rattle.instance.specs.Pairs.{Fits}
 use Rattle.instance.specs.Keeping.{Reached}
 use Rattle.instance.specs.Taking.{first-inside, first-new, finished-complete}
 use Rattle.instance.specs.Securing.{secured-best}
-use Rattle.demand.specs.Demand.{Call, Line, Qualifying, sumOf, outs, IsIn, lastRecord, byRules, over, Brought, Complete, Statement}
+use Rattle.demand.specs.Demand.{Call, Line, Qualifying, sumOf, outs, IsIn, byRules, over, Brought, Complete, Statement}
 use Rattle.demand.specs.Steps.{Happened, refused, settling, going, giving, finishing, waiting}
 use Rattle.demand.specs.Outcomes.{differ, gives-some, gives-secured}
 use Rattle.demand.specs.Openings.{query-wanted, opening-query, opening-is, opens-alike}
@@ -52,7 +52,7 @@ in-mem q f t i j (x ∷ l) h (inr m) = List·Memᴰ·tail (in-mem q f t i j l (�
 
 -- One call, the record reached before it
 
-module _ (q : Query) (f t : List ℤ) (g : legal f ≡ true) (h : legal t ≡ true) (before : List Line) (s : Session) (a : Reached q f t (outs before) s) where
+module _ {q : Query} {f t : List ℤ} (g : legal f ≡ true) (h : legal t ≡ true) (before : List Line) {s : Session} (a : Reached q f t (outs before) s) where
   out-fits : (p : Pair) → List·Memᴰ p (outs before) → Fits (q .radius) f t p
   out-fits p m = a .keeping .holds .inside p (inl m) .fits
 
@@ -98,15 +98,15 @@ pub demand3 : Statement
 unfolding opened
 demand3 q f t opening lines w = record {
   brought =
-      λ before after l p e y. let r = reached-before q f t opening lines w before after l e in call-brought q f t g h before (lastRecord (opening .session) before) (r .0) (l .call) (l .gave) p y (r .1);
+      λ before after l p e y. let r = reached-before w before after l e in call-brought g h before (r .0) (l .call) (l .gave) p y (r .1);
   finished =
-      λ before after l e y. let r = reached-before q f t opening lines w before after l e in call-complete q f t g h before (lastRecord (opening .session) before) (r .0) (l .call) (l .gave) y (r .1);
+      λ before after l e y. let r = reached-before w before after l e in call-complete g h before (r .0) (l .call) (l .gave) y (r .1);
   row-limit =
-      λ m n sure. lines-within q f t g h size (query-wanted q query .0) m n sure lines [] (opening .session) start
+      λ m n sure. lines-within q f t g h size (query-wanted q query .0) m n sure lines start
       (nothing-read (max (m .0) (n .0) + q .block - 1)) (w .calls);
   same-answers = λ f′ t′ u v.
-      let e = opens-alike q f t opening lines w f′ t′ (u .lawful) (v .lawful) (u .count) (v .count) in
-      (ap (λ x. x .answer) e, ap (λ x. map (λ y. y .answer) (byRules (x .session) (map (over f′ t′) lines))) e ∙ lines-same q f t g h size f′ t′ (u .lawful) (v .lawful) (u .count) (v .count) lines [] (opening .session) start (w .calls) (u .rows) (v .rows));
+      let e = opens-alike w f′ t′ (u .lawful) (v .lawful) (u .count) (v .count) in
+      (ap (λ x. x .answer) e, ap (λ x. map (λ y. y .answer) (byRules (x .session) (map (over f′ t′) lines))) e ∙ lines-same q f t g h size f′ t′ (u .lawful) (v .lawful) (u .count) (v .count) lines start (w .calls) (u .rows) (v .rows));
   by-rules =
       (w .opening-promised, follows-rules f t (opening .session) lines (w .calls) ∙ ap (λ x. byRules (x .session) lines) (w .opening-promised));
 }
@@ -118,14 +118,14 @@ demand3 q f t opening lines w = record {
     h = w .trim-legal
 
     query : queryCode q ≡ 0
-    query = opening-query q f t opening lines w
+    query = opening-query w
 
     size : 1 ≤ q .block
     size = query-wanted q query .1
 
     start : Reached q f t [] (opening .session)
-    start = reached q f t opening lines w
+    start = reached w
 
     nothing-read : (n : ℕ) → (opening .session .depth .field .0 ≤ n) × (opening .session .depth .trim .0 ≤ n)
     nothing-read n =
-        subst (λ x. (x .session .depth .field .0 ≤ n) × (x .session .depth .trim .0 ≤ n)) (sym (opening-is q f t opening lines w)) (omega arith)
+        subst (λ x. (x .session .depth .field .0 ≤ n) × (x .session .depth .trim .0 ≤ n)) (sym (opening-is w)) (omega arith)

@@ -11,8 +11,8 @@ use lib.IntN.{ℤ}
 use Rattle.join.specs.HeldLaws.{holds-same}
 use Rattle.rules.specs.declared.Pair.{Pair}
 use Rattle.rules.specs.declared.Session.{Session}
-use Rattle.rules.specs.Tables.{rowCount, legal, ahead, Block, qualifying}
-use Rattle.rules.specs.Session.{heldPairs, firstScore}
+use Rattle.rules.specs.Tables.{rowCount, legal, Block, qualifying}
+use Rattle.rules.specs.Session.{firstScore}
 use Rattle.rules.specs.Read.{rowsBetween, blockCount, blockAt, meet, meetBlocks}
 use Rattle.instance.specs.Pairs.{Between}
 use Rattle.instance.specs.PairsLaws.{pair-rank, mem-qualifying, between-low}
@@ -46,14 +46,17 @@ abbrev pub otherPart : Bool → List ℤ → List ℤ → ℕ → ℕ → Block
 otherPart field f t c d = rowsBetween (cond field t f) c d
 
 pub mem-met : (field : Bool) (radius : ℕ) (f t : List ℤ) (a b c d : ℕ) → b ≤ rowCount (cond field f t) → d ≤ rowCount (cond field t f) → (p : Pair)
-    → List·Memᴰ p (qualifying radius (cond field (ownPart field f t a b) (otherPart field f t c d)) (cond field (otherPart field f t c d) (ownPart field f t a b))) ↔ Met field radius f t a b c d p
+    → List·Memᴰ p
+    (qualifying radius (cond field (ownPart field f t a b) (otherPart field f t c d)) (cond field (otherPart field f t c d) (ownPart field f t a b)))
+    ↔ Met field radius f t a b c d p
 mem-met true radius f t a b c d hb hd p =
     let m = mem-qualifying radius f t a b c d hb hd p in let e = between-met radius f t a b c d p in (λ i. e .0 (m .0 i), λ i. m .1 (e .1 i))
 mem-met false radius f t a b c d hb hd p =
     let m = mem-qualifying radius f t c d a b hd hb p in let e = between-met-trim radius f t a b c d p in (λ i. e .0 (m .0 i), λ i. m .1 (e .1 i))
 
 pub met-low : (field : Bool) (radius : ℕ) (f t : List ℤ) (a b c d : ℕ) → legal f ≡ true → legal t ≡ true → (p : Pair) → Met field radius f t a b c d p
-    → p .sum ≤ firstScore (cond field (ownPart field f t a b) (otherPart field f t c d) .rows) + firstScore (cond field (otherPart field f t c d) (ownPart field f t a b) .rows)
+    → p .sum ≤ firstScore (cond field (ownPart field f t a b) (otherPart field f t c d) .rows) + firstScore
+    (cond field (otherPart field f t c d) (ownPart field f t a b) .rows)
 met-low true radius f t a b c d g h p m = between-low radius f t a b c d g h p (between-met radius f t a b c d p .1 m)
 met-low false radius f t a b c d g h p m = between-low radius f t c d a b g h p (between-met-trim radius f t a b c d p .1 m)
 

@@ -48,7 +48,8 @@ read-limit {q} {f} {t} {out} {s} a g h wanted u m n sure l = go (fieldNext f t s
     size = ap (λ q. q .block) (a .query)
 
     go : (b : Bool) → fieldNext f t s ≡ b
-        → (readTable b f t s .depth .field .0 ≤ max (m .0) (n .0) + q .block - 1) × (readTable b f t s .depth .trim .0 ≤ max (m .0) (n .0) + q .block - 1)
+        → (readTable b f t s .depth .field .0 ≤ max (m .0) (n .0) + q .block - 1)
+        × (readTable b f t s .depth .trim .0 ≤ max (m .0) (n .0) + q .block - 1)
     go true e =
         let k = field-limit a g h wanted u m n sure e in (omega (arith, size, read-field true f t s, l), omega (arith, read-trim true f t s, l))
     go false e =

@@ -130,7 +130,8 @@ module _ (field : Bool) (f t : List ℤ) (g : legal f ≡ true) (h : legal t ≡
       (all-blocks-keep field f t g h s (cond field d e) b (cond field e d) b-within (other-within field f t d e (a .field-depth) (a .trim-depth)) Old (region-own field (s .query .radius) f t (cond field d e) b (cond field e d)) out keeps-old size)
     where
       same-region : (p : Pair)
-          → (Old p ⊎ Met field (s .query .radius) f t (cond field d e) b 0 (cond field e d) p) ↔ Region (s .query .radius) f t (cond field b d) (cond field e b) p
+          → (Old p ⊎ Met field (s .query .radius) f t (cond field d e) b 0 (cond field e d) p) ↔ Region (s .query .radius) f t (cond field b d)
+          (cond field e b) p
       same-region p =
           let more = met-more field (s .query .radius) f t (cond field d e) b (cond field e d) p b-grows in
           let new = region-read field (s .query .radius) f t b d e p in

@@ -30,7 +30,8 @@ legal-size t g = both-true (sizeFits t) (every (λ i. rowInRange t i && rowInOrd
 pub legal-four : (t : List ℤ) → legal t ≡ true → length t ≡ 4 * rowCount t
 unfolding sizeFits
 legal-four t g =
-    let e : length t % 4 ≡ 0 = eqb-true (length t % 4) 0 (both-true (eqb (length t % 4) 0) (leb (rowCount t) 65535) (legal-size t g) .0) in omega arith
+    let e : length t % 4 ≡ 0 =
+    eqb-true (length t % 4) 0 (both-true (eqb (length t % 4) 0) (leb (rowCount t) 65535) (legal-size t g) .0) in omega arith
 
 pub legal-most : (t : List ℤ) → legal t ≡ true → rowCount t ≤ 65535
 unfolding sizeFits
@@ -74,7 +75,8 @@ pos-nat low n (pos m) h = refl
 pos-nat low n (negsuc m) h = clash h refl
 
 range-parts : (p s a b : ℤ) → inRange p s a b ≡ true
-    → (within (pos 1) (pos 999999) p ≡ true) × (within (pos 0) (pos 9999) s ≡ true) × ((within (negsuc 12799) (pos 12700) a && within (negsuc 12799) (pos 12700) b) ≡ true)
+    → (within (pos 1) (pos 999999) p ≡ true) × (within (pos 0) (pos 9999) s ≡ true)
+    × ((within (negsuc 12799) (pos 12700) a && within (negsuc 12799) (pos 12700) b) ≡ true)
 unfolding inRange
 range-parts p s a b h =
     let shades : Bool = within (negsuc 12799) (pos 12700) a && within (negsuc 12799) (pos 12700) b in

@@ -97,7 +97,8 @@ module _ (f t f′ t′ : List ℤ) (s : Session) (ef : SameRows (s .depth .fiel
   same-secured live p = go (aDepthIsZero s) refl
     where
       go : (b : Bool) → aDepthIsZero s ≡ b
-          → cond (b && not (aTableIsEmpty s)) false (cond (bothReadOut s) true (leb (ceiling f′ t′ s) (p .sum))) ≡ cond (b && not (aTableIsEmpty s)) false (cond (bothReadOut s) true (leb (ceiling f t s) (p .sum)))
+          → cond (b && not (aTableIsEmpty s)) false (cond (bothReadOut s) true (leb (ceiling f′ t′ s) (p .sum))) ≡ cond (b && not (aTableIsEmpty s))
+          false (cond (bothReadOut s) true (leb (ceiling f t s) (p .sum)))
       go true z = rw live
       go false z = ap (λ c. cond (bothReadOut s) true (leb c (p .sum))) (same-ceiling (some-field z) (some-trim z))
 
@@ -106,7 +107,8 @@ module _ (f t f′ t′ : List ℤ) (s : Session) (ef : SameRows (s .depth .fiel
   same-settled = go (aTableIsEmpty s) refl
     where
       go : (b : Bool) → aTableIsEmpty s ≡ b
-          → (b || (bothReadOut s || (eqb (s .out) (s .query .k) || (eqb (s .out + s .held) (s .query .k) && every (secured f′ t′ s) (heldPairs s))))) ≡ (b || (bothReadOut s || (eqb (s .out) (s .query .k) || (eqb (s .out + s .held) (s .query .k) && every (secured f t s) (heldPairs s)))))
+          → (b || (bothReadOut s || (eqb (s .out) (s .query .k) || (eqb (s .out + s .held) (s .query .k) && every (secured f′ t′ s) (heldPairs s)))))
+          ≡ (b || (bothReadOut s || (eqb (s .out) (s .query .k) || (eqb (s .out + s .held) (s .query .k) && every (secured f t s) (heldPairs s)))))
       go true z = refl
       go false z =
           ap (λ w. bothReadOut s || (eqb (s .out) (s .query .k) || (eqb (s .out + s .held) (s .query .k) && w)))

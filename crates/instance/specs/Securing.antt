@@ -21,7 +21,7 @@ use Rattle.join.specs.HeldLaws.{held-cover}
 use Rattle.rules.specs.declared.Pair.{Pair}
 use Rattle.rules.specs.declared.Query.{Query}
 use Rattle.rules.specs.declared.Session.{Session}
-use Rattle.rules.specs.Tables.{rowCount, legal, Row, row, part, ahead, pairSum, qualifying}
+use Rattle.rules.specs.Tables.{rowCount, legal, Row, row, part, pairSum, qualifying}
 use Rattle.rules.specs.Session.{heldPairs, firstScore, lastScore, fieldReadOut, trimReadOut, bothReadOut, aTableIsEmpty, aDepthIsZero, ceiling, secured, settled}
 use Rattle.rules.specs.Read.{rowsBetween}
 use Rattle.rules.specs.Take.{firstHeld}
@@ -181,5 +181,7 @@ module _ {q : Query} {f t : List ℤ} {out : List Pair} {s : Session} (a : Reach
 
           go : (b : Bool) → leb (s .query .k) (atLeast (ceiling f t s) sums) ≡ b → atLeast (ceiling f t s) sums < s .query .k
           go true z =
-              let c = covered (leb-true (s .query .k) (atLeast (ceiling f t s) sums) z) in clash (rw (eq-eqb (s .out + s .held) (s .query .k) (c .0)) (c .1)) last
+              let c =
+              covered (leb-true (s .query .k) (atLeast (ceiling f t s) sums) z) in clash
+              (rw (eq-eqb (s .out + s .held) (s .query .k) (c .0)) (c .1)) last
           go false z = leb-false (s .query .k) (atLeast (ceiling f t s) sums) z

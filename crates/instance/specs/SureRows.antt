@@ -37,7 +37,8 @@ sums-rows radius x y =
     meets i j = near radius (row (x .rows) i) (row (y .rows) j)
 
     line : (i : ℕ)
-        → map (λ p. p .sum) (map (pairAt x y i) (keep (meets i) js)) ≡ map (λ b. row (x .rows) i .score + b .score) (keep (near radius (row (x .rows) i)) (map (row (y .rows)) js))
+        → map (λ p. p .sum) (map (pairAt x y i) (keep (meets i) js)) ≡ map (λ b. row (x .rows) i .score + b .score)
+        (keep (near radius (row (x .rows) i)) (map (row (y .rows)) js))
     line i =
         map-map (λ p. p .sum) (pairAt x y i) (keep (meets i) js)
         ∙ sym (map-map (λ b. row (x .rows) i .score + b .score) (row (y .rows)) (keep (meets i) js))

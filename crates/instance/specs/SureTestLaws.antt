@@ -38,7 +38,8 @@ module _ (f t : List ℤ) (g : legal f ≡ true) (h : legal t ≡ true) (p : Fie
   ceiling-at = rw (length-rows f, length-rows t, weight-at f g 0, weight-at f g (p .0 - 1), weight-at t h 0, weight-at t h (q .0 - 1))
 
   reading-sums : (radius : ℕ)
-      → qualifyingSums radius (take (4 * p .0) f) (take (4 * q .0) t) ≡ sumsOf side side (near radius) (take (p .0) (rowsOf f)) (take (q .0) (rowsOf t))
+      → qualifyingSums radius (take (4 * p .0) f) (take (4 * q .0) t) ≡ sumsOf side side (near radius) (take (p .0) (rowsOf f))
+      (take (q .0) (rowsOf t))
   unfolding qualifyingSums
   reading-sums radius =
       sums-rows radius (whole (take (4 * p .0) f)) (whole (take (4 * q .0) t))

@@ -21,7 +21,7 @@ use Rattle.rules.specs.declared.TrimRows.{TrimRows}
 use Rattle.rules.specs.declared.Query.{Query}
 use Rattle.rules.specs.declared.Pair.{Pair}
 use Rattle.rules.specs.declared.Session.{Session}
-use Rattle.rules.specs.Tables.{legal, pairSum, ahead, Block, qualifying}
+use Rattle.rules.specs.Tables.{legal, pairSum, Block, qualifying}
 use Rattle.rules.specs.Session.{noPair, places, opened, heldPairs, settled}
 use Rattle.rules.specs.Read.{fieldNext, rowsBetween, blockCount, blockAt, skipped, bestHeld, holding, meet, meetBlocks, readTo, oldDepth, newDepth, readTable, readBlock}
 use Rattle.rules.specs.Take.{movedOut}
