@@ -1,5 +1,5 @@
 -- Meeting blocks keeps what is held, skipped ones or not. Assumes legal tables.
-use mathlib.Core.Path.{_≡_, refl, sym, ap, subst}
+use mathlib.Core.Path.{_≡_, refl, sym, ap, subst₂, _∙_}
 use mathlib.Core.Bool.{Bool, true, false, cond}
 use mathlib.Core.List.{List, [], _∷_, _++_, List·Memᴰ, List·Memᴰ·cases-cons, List·Memᴰ·not-nil}
 use mathlib.Core.Logic.{_⊎_, inl, inr, ⊎-elim, _↔_}
@@ -82,34 +82,26 @@ module _ (s : Session) (x y : Block) where
   pub meet-keeps : (R R′ M : Pair → Type 0) (out : List Pair) → Keeping R out s → ((p : Pair) → List·Memᴰ p (qualifying (s .query .radius) x y) ↔ M p)
       → ((p : Pair) → M p → p .sum ≤ firstScore (x .rows) + firstScore (y .rows)) → ((p : Pair) → M p → R p → ⊥) → ((p : Pair) → R′ p ↔ (R p ⊎ M p))
       → Keeping R′ out (meet s x y)
-  unfolding meet bestHeld
-  meet-keeps R R′ M out h in-met low new more = go (skipped s x y) refl
+  unfolding bestHeld
+  meet-keeps R R′ M out h in-met low new more = record {
+    counted = meet-same .out ∙ h .counted;
+    stored = meet-stored (h .stored) (held-ranked pair-rank (h .holds)) (λ p m. low p (in-met p .0 m));
+    rest = sort ahead (h .rest ++ met);
+    holds = subst₂ (λ k l. Holds ahead k R′ out (sort ahead (h .rest ++ met)) l) wanted held joined;
+  }
     where
       met : List Pair
       met = qualifying (s .query .radius) x y
 
-      rest : List Pair
-      rest = sort ahead (h .rest ++ met)
-
-      joined : Holds ahead (s .query .k) R′ out rest (take (s .query .k - length out) (sort ahead (heldPairs s ++ met)))
+      joined : Holds ahead (s .query .k) R′ out (sort ahead (h .rest ++ met)) (take (s .query .k - length out) (sort ahead (heldPairs s ++ met)))
       joined =
-          holds-join pair-rank R′ met (h .holds)
-          (qualifying-distinct (s .query .radius) x y) (λ p m. new p (in-met p .0 m))
+          holds-join pair-rank R′ met (h .holds) (qualifying-distinct (s .query .radius) x y) (λ p m. new p (in-met p .0 m))
           (λ p. (λ r. ⊎-elim inl (λ m. inr (in-met p .1 m)) (more p .0 r), λ r. more p .1 (⊎-elim inl (λ m. inr (in-met p .0 m)) r)))
 
-      best : Holds ahead (s .query .k) R′ out rest (bestHeld s met)
-      best = subst (λ n. Holds ahead (s .query .k) R′ out rest (take (s .query .k - n) (sort ahead (heldPairs s ++ met)))) (sym (h .counted)) joined
+      wanted : s .query .k ≡ meet s x y .query .k
+      wanted = ap (λ q. q .k) (sym (meet-same .query))
 
-      go : (b : Bool) → skipped s x y ≡ b → Keeping R′ out (cond b s (holding s (bestHeld s met)))
-      go true e = record {
-        counted = h .counted;
-        stored = h .stored;
-        rest = rest;
-        holds =
-            subst (Holds ahead (s .query .k) R′ out rest)
-            (skipped-same (h .stored) (held-ranked pair-rank (h .holds)) (λ p m. low p (in-met p .0 m)) e)
-            best;
-      }
-      go false e =
-          unfold holding in record
-          { counted = h .counted; stored = ap length (held-holding s (bestHeld s met)); rest = rest; holds = subst (Holds ahead (s .query .k) R′ out rest) (sym (held-holding s (bestHeld s met))) best }
+      held : take (s .query .k - length out) (sort ahead (heldPairs s ++ met)) ≡ heldPairs (meet s x y)
+      held =
+          ap (λ n. take (s .query .k - n) (sort ahead (heldPairs s ++ met))) (sym (h .counted))
+          ∙ sym (meet-held (h .stored) (held-ranked pair-rank (h .holds)) (λ p m. low p (in-met p .0 m)))
