@@ -113,8 +113,14 @@ unfolding secured
 read-out-secured f t s p e b =
     let rows = none-true (eqb (s .rows .field .0) 0) (eqb (s .rows .trim .0) 0) e in
     let ends = both-true (eqb (s .depth .field .0) (s .rows .field .0)) (eqb (s .depth .trim .0) (s .rows .trim .0)) b in
-    rw
-    (eqb-true (s .depth .field .0) (s .rows .field .0) (ends .0), eqb-true (s .depth .trim .0) (s .rows .trim .0) (ends .1), rows .0, rows .1, eq-eqb (s .rows .field .0) (s .rows .field .0) refl, eq-eqb (s .rows .trim .0) (s .rows .trim .0) refl)
+    rw (
+      eqb-true (s .depth .field .0) (s .rows .field .0) (ends .0),
+      eqb-true (s .depth .trim .0) (s .rows .trim .0) (ends .1),
+      rows .0,
+      rows .1,
+      eq-eqb (s .rows .field .0) (s .rows .field .0) refl,
+      eq-eqb (s .rows .trim .0) (s .rows .trim .0) refl,
+    )
 
 -- the take has a secured pair to give, or the list is complete
 settled-take : {q : Query} {f t : List ℤ} {out : List Pair} {s : Session} → Reached q f t out s → settled f t s ≡ true → givesPair f t s ≡ false

@@ -47,8 +47,11 @@ query-wanted q e =
     let radius : ℕ = unless (leb (q .radius) 40000) 3 in
     let block : ℕ = unless (between 1 1024 (q .block)) 2 in
     let a = first-passed (unless (between 1 64 (q .k)) 1) (first block radius) e in
-    let b = first-passed block radius (a .1) in
-    (leb-true 1 (q .k) (both-true (leb 1 (q .k)) (leb (q .k) 64) (unless-passed (between 1 64 (q .k)) 1 (omega arith) (a .0)) .0), leb-true 1 (q .block) (both-true (leb 1 (q .block)) (leb (q .block) 1024) (unless-passed (between 1 1024 (q .block)) 2 (omega arith) (b .0)) .0))
+    let b = first-passed block radius (a .1) in (
+      leb-true 1 (q .k) (both-true (leb 1 (q .k)) (leb (q .k) 64) (unless-passed (between 1 64 (q .k)) 1 (omega arith) (a .0)) .0),
+      leb-true 1 (q .block)
+          (both-true (leb 1 (q .block)) (leb (q .block) 1024) (unless-passed (between 1 1024 (q .block)) 2 (omega arith) (b .0)) .0),
+    )
 
 -- The opening of a sequence
 

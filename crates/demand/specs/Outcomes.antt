@@ -39,7 +39,8 @@ read-outcome f t s = go (eqb (callCode f t s) 0) (settled f t s) (eqb (newBlockC
   where
     go : (x y z : Bool) → eqb (callCode f t s) 0 ≡ x → settled f t s ≡ y → eqb (newBlockCode f t s) 0 ≡ z
         → Happened f t s reading
-        (cond x (cond y (step Settled s) (cond z (step Read (readBlock f t s)) (step (Refused (newBlockCode f t s)) s))) (step (Refused (callCode f t s)) s))
+        (cond x (cond y (step Settled s) (cond z (step Read (readBlock f t s)) (step (Refused (newBlockCode f t s)) s)))
+        (step (Refused (callCode f t s)) s))
     go true true z a b c = settling refl (eqb-true (callCode f t s) 0 a) b refl
     go true false true a b c = going refl (eqb-true (callCode f t s) 0 a) b (eqb-true (newBlockCode f t s) 0 c) refl
     go true false false a b c = refused (newBlockCode f t s) (eqb-false (newBlockCode f t s) 0 c) refl
@@ -98,7 +99,8 @@ gives-secured f t s e = both-true (ltb 0 (s .held)) (secured f t s (firstHeld s)
 
 -- Over tables alike in the rows read
 
-module _ {q : Query} {f t : List ℤ} {out : List Pair} {s : Session} (a : Reached q f t out s) (f′ t′ : List ℤ) (g : legal f′ ≡ true) (h : legal t′ ≡ true) (m : rowCount f′ ≡ rowCount f) (n : rowCount t′ ≡ rowCount t) where
+module _ {q : Query} {f t : List ℤ} {out : List Pair} {s : Session} (a : Reached q f t out s) (f′ t′ : List ℤ) (g : legal f′ ≡ true)
+    (h : legal t′ ≡ true) (m : rowCount f′ ≡ rowCount f) (n : rowCount t′ ≡ rowCount t) where
   -- a held pair needs rows of both tables
   held-live : 1 ≤ s .held → aTableIsEmpty s ≡ false
   held-live some = fails (aTableIsEmpty s) (λ e. empty-none a e (firstHeld s) (first-inside a some .fits))
@@ -130,7 +132,10 @@ module _ {q : Query} {f t : List ℤ} {out : List Pair} {s : Session} (a : Reach
     unfolding readCall
     read-going ef et d =
         rw (eq-eqb (callCode f′ t′ s) 0 (same-accepted b), same-settled f t f′ t′ s df dt, d, eq-eqb (newBlockCode f′ t′ s) 0 same-new)
-        (ap (step Read) (ap (λ b. readTable b f′ t′ s) (same-next f t f′ t′ s df dt) ∙ same-read (fieldNext f t s) f t f′ t′ s (subst (λ d. SameRows d f f′) (read-field (fieldNext f t s) f t s) ef) (subst (λ d. SameRows d t t′) (read-trim (fieldNext f t s) f t s) et)))
+        (ap (step Read)
+        (ap (λ b. readTable b f′ t′ s) (same-next f t f′ t′ s df dt)
+        ∙ same-read (fieldNext f t s) f t f′ t′ s (subst (λ d. SameRows d f f′) (read-field (fieldNext f t s) f t s) ef)
+        (subst (λ d. SameRows d t t′) (read-trim (fieldNext f t s) f t s) et)))
       where
         grows : (s .depth .field .0 ≤ readBlock f t s .depth .field .0) × (s .depth .trim .0 ≤ readBlock f t s .depth .trim .0)
         grows = read-grows (fieldNext f t s) f t s (omega (arith, a .field-depth, a .field-rows)) (omega (arith, a .trim-depth, a .trim-rows))

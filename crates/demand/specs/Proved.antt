@@ -52,7 +52,8 @@ in-mem q f t i j (x ∷ l) h (inr m) = List·Memᴰ·tail (in-mem q f t i j l (�
 
 -- One call, the record reached before it
 
-module _ {q : Query} {f t : List ℤ} (g : legal f ≡ true) (h : legal t ≡ true) (before : List Line) {s : Session} (a : Reached q f t (outs before) s) where
+module _ {q : Query} {f t : List ℤ} (g : legal f ≡ true) (h : legal t ≡ true) (before : List Line) {s : Session}
+    (a : Reached q f t (outs before) s) where
   out-fits : (p : Pair) → List·Memᴰ p (outs before) → Fits (q .radius) f t p
   out-fits p m = a .keeping .holds .inside p (inl m) .fits
 
@@ -105,8 +106,11 @@ demand3 q f t opening lines w = record {
       λ m n sure. lines-within q f t g h size (query-wanted q query .0) m n sure lines start
       (nothing-read (max (m .0) (n .0) + q .block - 1)) (w .calls);
   same-answers = λ f′ t′ u v.
-      let e = opens-alike w f′ t′ (u .lawful) (v .lawful) (u .count) (v .count) in
-      (ap (λ x. x .answer) e, ap (λ x. map (λ y. y .answer) (byRules (x .session) (map (over f′ t′) lines))) e ∙ lines-same q f t g h size f′ t′ (u .lawful) (v .lawful) (u .count) (v .count) lines start (w .calls) (u .rows) (v .rows));
+      let e = opens-alike w f′ t′ (u .lawful) (v .lawful) (u .count) (v .count) in (
+        ap (λ x. x .answer) e,
+        ap (λ x. map (λ y. y .answer) (byRules (x .session) (map (over f′ t′) lines))) e
+            ∙ lines-same q f t g h size f′ t′ (u .lawful) (v .lawful) (u .count) (v .count) lines start (w .calls) (u .rows) (v .rows),
+      );
   by-rules =
       (w .opening-promised, follows-rules f t (opening .session) lines (w .calls) ∙ ap (λ x. byRules (x .session) lines) (w .opening-promised));
 }

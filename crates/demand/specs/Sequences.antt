@@ -158,5 +158,7 @@ module _ {q : Query} {f t : List ℤ} {opening : Step} {lines : List Line} (w : 
       → Reached q f t (outs before) (lastRecord (opening .session) before) × Happened f t (lastRecord (opening .session) before) (l .call) (l .gave)
   reached-before before after l e =
       let c = follows-before f t before (l ∷ after) (opening .session) (subst (Follows f t (opening .session)) e (w .calls)) in
-      let size : 1 ≤ q .block = query-wanted q (opening-query w) .1 in
-      (lines-reached q f t (w .field-legal) (w .trim-legal) size before reached (c .0), happened f t (l .field) (l .trim) (lastRecord (opening .session) before) (l .call) (l .gave) (c .1 .0) (c .1 .1))
+      let size : 1 ≤ q .block = query-wanted q (opening-query w) .1 in (
+        lines-reached q f t (w .field-legal) (w .trim-legal) size before reached (c .0),
+        happened f t (l .field) (l .trim) (lastRecord (opening .session) before) (l .call) (l .gave) (c .1 .0) (c .1 .1),
+      )

@@ -31,12 +31,16 @@ keeping-same R R′ out s e k = record {
 -- One block pair, whichever table is read
 
 pub between-met : (radius : ℕ) (f t : List ℤ) (a b c d : ℕ) (p : Pair) → Between radius f t a b c d p ↔ Met true radius f t a b c d p
-between-met radius f t a b c d p =
-    (λ h. record { fits = h .fits; own-part = h .field-part; other-part = h .trim-part }, λ h. record { fits = h .fits; field-part = h .own-part; trim-part = h .other-part })
+between-met radius f t a b c d p = (
+  λ h. record { fits = h .fits; own-part = h .field-part; other-part = h .trim-part },
+  λ h. record { fits = h .fits; field-part = h .own-part; trim-part = h .other-part },
+)
 
 pub between-met-trim : (radius : ℕ) (f t : List ℤ) (a b c d : ℕ) (p : Pair) → Between radius f t c d a b p ↔ Met false radius f t a b c d p
-between-met-trim radius f t a b c d p =
-    (λ h. record { fits = h .fits; own-part = h .trim-part; other-part = h .field-part }, λ h. record { fits = h .fits; field-part = h .other-part; trim-part = h .own-part })
+between-met-trim radius f t a b c d p = (
+  λ h. record { fits = h .fits; own-part = h .trim-part; other-part = h .field-part },
+  λ h. record { fits = h .fits; field-part = h .other-part; trim-part = h .own-part },
+)
 
 -- rows a + 1 to b of the table that is read, and rows c + 1 to d of the other one
 abbrev pub ownPart : Bool → List ℤ → List ℤ → ℕ → ℕ → Block
@@ -63,8 +67,11 @@ met-low false radius f t a b c d g h p m = between-low radius f t c d a b g h p 
 -- the other table's rows up to m + size, of c, are those up to m and the next ones
 met-split : (field : Bool) (radius : ℕ) (f t : List ℤ) (a b m size c : ℕ) (p : Pair)
     → Met field radius f t a b 0 (min (m + size) c) p ↔ (Met field radius f t a b 0 (min m c) p ⊎ Met field radius f t a b m (min (m + size) c) p)
-met-split field radius f t a b m size c p =
-    (λ h. go h (decLe (otherRow field p) m), ⊎-elim (λ h. record { fits = h .fits; own-part = h .own-part; other-part = omega (arith, h .other-part) }) (λ h. record { fits = h .fits; own-part = h .own-part; other-part = omega (arith, h .other-part) }))
+met-split field radius f t a b m size c p = (
+  λ h. go h (decLe (otherRow field p) m),
+  ⊎-elim (λ h. record { fits = h .fits; own-part = h .own-part; other-part = omega (arith, h .other-part) })
+      (λ h. record { fits = h .fits; own-part = h .own-part; other-part = omega (arith, h .other-part) }),
+)
   where
     go : Met field radius f t a b 0 (min (m + size) c) p → Dec (otherRow field p ≤ m)
         → Met field radius f t a b 0 (min m c) p ⊎ Met field radius f t a b m (min (m + size) c) p
@@ -85,7 +92,9 @@ blocks-same field s new t depth (suc n) =
     same-trans s r (meet r (cond field new old) (cond field old new)) (blocks-same field s new t depth n)
     (meet-same r (cond field new old) (cond field old new))
 
-module _ (field : Bool) (f t : List ℤ) (g : legal f ≡ true) (h : legal t ≡ true) (s : Session) (a b c : ℕ) (hb : b ≤ rowCount (cond field f t)) (hc : c ≤ rowCount (cond field t f)) (R : Pair → Type 0) (old : (p : Pair) → R p → ownRow field p ≤ a) (out : List Pair) (k : Keeping R out s) where
+module _ (field : Bool) (f t : List ℤ) (g : legal f ≡ true) (h : legal t ≡ true) (s : Session) (a b c : ℕ) (hb : b ≤ rowCount (cond field f t))
+    (hc : c ≤ rowCount (cond field t f)) (R : Pair → Type 0) (old : (p : Pair) → R p → ownRow field p ≤ a) (out : List Pair)
+    (k : Keeping R out s) where
   abbrev after : ℕ → Session
   after n = meetBlocks field s (rowsBetween (cond field f t) a b) (cond field t f) c n
 
@@ -126,13 +135,16 @@ module _ (field : Bool) (f t : List ℤ) (g : legal f ≡ true) (h : legal t ≡
       new p m (inr r) = omega (arith, m .other-part, r .other-part)
 
       more : (p : Pair) → Joined (min (suc n * B) c) p ↔ (Joined low p ⊎ Met field (s .query .radius) f t a b (n * B) high p)
-      more p =
-          (λ r. ⊎-elim (λ i. inl (inl i)) (λ m. ⊎-elim (λ i. inl (inr i)) inr (split .0 m)) r, λ r. ⊎-elim (λ i. ⊎-elim inl (λ m. inr (split .1 (inl m))) i) (λ m. inr (split .1 (inr m))) r)
+      more p = (
+        λ r. ⊎-elim (λ i. inl (inl i)) (λ m. ⊎-elim (λ i. inl (inr i)) inr (split .0 m)) r,
+        λ r. ⊎-elim (λ i. ⊎-elim inl (λ m. inr (split .1 (inl m))) i) (λ m. inr (split .1 (inr m))) r,
+      )
         where
           split : Met field (s .query .radius) f t a b 0 (min (suc n * B) c) p ↔ (Met field (s .query .radius) f t a b 0 low p ⊎ Met field (s .query .radius) f t a b (n * B) high p)
           split =
               subst
-              (λ m. Met field (s .query .radius) f t a b 0 (min m c) p ↔ (Met field (s .query .radius) f t a b 0 low p ⊎ Met field (s .query .radius) f t a b (n * B) high p))
+              (λ m. Met field (s .query .radius) f t a b 0 (min m c) p
+              ↔ (Met field (s .query .radius) f t a b 0 low p ⊎ Met field (s .query .radius) f t a b (n * B) high p))
               (sym (suc-mul n B)) (met-split field (s .query .radius) f t a b (n * B) B c p)
 
   blocks-keep : (n : ℕ) → Keeping (Joined (min (n * s .query .block) c)) out (after n)

@@ -74,12 +74,18 @@ module _ {q : Query} {f t : List ℤ} {out : List Pair} {s : Session} (a : Reach
       go false false true false l m ez ew ex ey el em n = inr (trim-some ez ew, field-ended a ∙ ey, inl (trim-ended a ∙ ex))
       go false false false true l m ez ew ex ey el em n = clash n refl
       go false false false false true m ez ew ex ey el em n =
-          inr
-          (trim-some ez ew, field-ended a ∙ ey, inr (inl (omega (arith, ltb-true (scoreDrop f d) (scoreDrop t e) el, field-drop ez ew, trim-drop ez ew))))
+          inr (
+            trim-some ez ew,
+            field-ended a ∙ ey,
+            inr (inl (omega (arith, ltb-true (scoreDrop f d) (scoreDrop t e) el, field-drop ez ew, trim-drop ez ew))),
+          )
       go false false false false false true ez ew ex ey el em n = clash n refl
       go false false false false false false ez ew ex ey el em n =
-          inr
-          (trim-some ez ew, field-ended a ∙ ey, inr (inr (omega (arith, ltb-false (scoreDrop t e) (scoreDrop f d) em, field-drop ez ew, trim-drop ez ew), leb-true d e n)))
+          inr (
+            trim-some ez ew,
+            field-ended a ∙ ey,
+            inr (inr (omega (arith, ltb-false (scoreDrop t e) (scoreDrop f d) em, field-drop ez ew, trim-drop ez ew), leb-true d e n)),
+          )
 
   chosen-trim : fieldNext f t s ≡ false → Chosen side side (rowsOf t) e (rowsOf f) d
   unfolding fieldNext
@@ -95,11 +101,18 @@ module _ {q : Query} {f t : List ℤ} {out : List Pair} {s : Session} (a : Reach
       go false false false true l m ez ew ex ey el em n = inr (field-some ez ew, trim-ended a ∙ ex, inl (field-ended a ∙ ey))
       go false false false false true m ez ew ex ey el em n = clash refl n
       go false false false false false true ez ew ex ey el em n =
-          inr
-          (field-some ez ew, trim-ended a ∙ ex, inr (inl (omega (arith, ltb-true (scoreDrop t e) (scoreDrop f d) em, field-drop ez ew, trim-drop ez ew))))
+          inr (
+            field-some ez ew,
+            trim-ended a ∙ ex,
+            inr (inl (omega (arith, ltb-true (scoreDrop t e) (scoreDrop f d) em, field-drop ez ew, trim-drop ez ew))),
+          )
       go false false false false false false ez ew ex ey el em n =
-          inr
-          (field-some ez ew, trim-ended a ∙ ex, inr (inr (omega (arith, ltb-false (scoreDrop f d) (scoreDrop t e) el, field-drop ez ew, trim-drop ez ew), omega (arith, leb-false d e n))))
+          inr (
+            field-some ez ew,
+            trim-ended a ∙ ex,
+            inr
+                (inr (omega (arith, ltb-false (scoreDrop f d) (scoreDrop t e) el, field-drop ez ew, trim-drop ez ew), omega (arith, leb-false d e n))),
+          )
 
 -- An unsettled session
 
@@ -107,12 +120,14 @@ module _ {q : Query} {f t : List ℤ} {out : List Pair} {s : Session} (a : Reach
   live : leb (length (rowsOf f)) 0 ≡ false
   live =
       lt-leb (length (rowsOf f)) 0
-      (let z = eqb-false (s .rows .field .0) 0 (none-true (eqb (s .rows .field .0) 0) (eqb (s .rows .trim .0) 0) (unsettled f t s u .0) .0) in omega (arith, length-rows f, a .field-rows))
+      (let z = eqb-false (s .rows .field .0) 0 (none-true (eqb (s .rows .field .0) 0) (eqb (s .rows .trim .0) 0) (unsettled f t s u .0) .0) in
+      omega (arith, length-rows f, a .field-rows))
 
   live-trim : leb (length (rowsOf t)) 0 ≡ false
   live-trim =
       lt-leb (length (rowsOf t)) 0
-      (let z = eqb-false (s .rows .trim .0) 0 (none-true (eqb (s .rows .field .0) 0) (eqb (s .rows .trim .0) 0) (unsettled f t s u .0) .1) in omega (arith, length-rows t, a .trim-rows))
+      (let z = eqb-false (s .rows .trim .0) 0 (none-true (eqb (s .rows .field .0) 0) (eqb (s .rows .trim .0) 0) (unsettled f t s u .0) .1) in
+      omega (arith, length-rows t, a .trim-rows))
 
   unended : (side .ended (rowsOf f) (s .depth .field .0) && side .ended (rowsOf t) (s .depth .trim .0)) ≡ false
   unended = rw (field-ended a, trim-ended a) (unsettled f t s u .1)
@@ -133,7 +148,8 @@ module _ {q : Query} {f t : List ℤ} {out : List Pair} {s : Session} (a : Reach
   read-raises size = omega (arith, next-unread (fieldNext f t s) refl, ap (λ q. q .block) (a .query))
 
 -- fact 5 of a session: an unsettled read goes on from a depth below every sure reading's
-module _ {q : Query} {f t : List ℤ} {out : List Pair} {s : Session} (a : Reached q f t out s) (g : legal f ≡ true) (h : legal t ≡ true) (wanted : 1 ≤ q .k) (u : settled f t s ≡ false) (m : FieldRows) (n : TrimRows) (sure : Sure (q .k) (q .radius) f t m n) where
+module _ {q : Query} {f t : List ℤ} {out : List Pair} {s : Session} (a : Reached q f t out s) (g : legal f ≡ true) (h : legal t ≡ true)
+    (wanted : 1 ≤ q .k) (u : settled f t s ≡ false) (m : FieldRows) (n : TrimRows) (sure : Sure (q .k) (q .radius) f t m n) where
   pub field-limit : fieldNext f t s ≡ true → s .depth .field .0 < max (m .0) (n .0)
   field-limit c =
       row-limit side side (near (q .radius)) (laws (q .radius)) (rowsOf f) (rowsOf t) (legal-rows f g) (legal-rows t h) (q .k) (m .0) (n .0)

@@ -39,8 +39,12 @@ module _ (t : List ℤ) (n : ℕ) (fits : n ≤ rowCount t) where
   cut-range : (i : ℕ) → i < n → rowInRange t i ≡ true → rowInRange (take (4 * n) t) i ≡ true
   unfolding rowInRange
   cut-range i h e =
-      rw
-      (same-num n t (take (4 * n) t) cut-same i 0 h (lit≤ tt), same-num n t (take (4 * n) t) cut-same i 1 h (lit≤ tt), same-num n t (take (4 * n) t) cut-same i 2 h (lit≤ tt), same-num n t (take (4 * n) t) cut-same i 3 h (lit≤ tt))
+      rw (
+        same-num n t (take (4 * n) t) cut-same i 0 h (lit≤ tt),
+        same-num n t (take (4 * n) t) cut-same i 1 h (lit≤ tt),
+        same-num n t (take (4 * n) t) cut-same i 2 h (lit≤ tt),
+        same-num n t (take (4 * n) t) cut-same i 3 h (lit≤ tt),
+      )
       e
 
   cut-order : (i : ℕ) → i < n → rowInOrder t i ≡ true → rowInOrder (take (4 * n) t) i ≡ true
@@ -51,7 +55,8 @@ module _ (t : List ℤ) (n : ℕ) (fits : n ≤ rowCount t) where
   pub cut-legal : n ≤ 65535 → ((i : ℕ) → i < n → GoodAt t i) → legal (take (4 * n) t) ≡ true
   cut-legal m good =
       legal-of (take (4 * n) t) (omega (arith, cut-length)) (omega (arith, cut-count))
-      (λ i h. let r = good i (omega (arith, cut-count)) in (cut-range i (omega (arith, cut-count)) (r .0), cut-order i (omega (arith, cut-count)) (r .1)))
+      (λ i h.
+      let r = good i (omega (arith, cut-count)) in (cut-range i (omega (arith, cut-count)) (r .0), cut-order i (omega (arith, cut-count)) (r .1)))
 
 -- What a record that passes 5 keeps, of its tables' counts and its held pairs
 
@@ -79,13 +84,15 @@ size-parts : (n : ℕ) (t : List ℤ) → sameSizeCode n t ≡ 0 → n ≡ rowCo
 unfolding sameSizeCode
 size-parts n t e =
     sym
-    (eqb-true (rowCount t) n (both-true (sizeFits t) (eqb (rowCount t) n) (unless-passed (sizeFits t && eqb (rowCount t) n) tableSize (omega arith) e) .1))
+    (eqb-true (rowCount t) n
+    (both-true (sizeFits t) (eqb (rowCount t) n) (unless-passed (sizeFits t && eqb (rowCount t) n) tableSize (omega arith) e) .1))
 
 query-most : (q : Query) → queryCode q ≡ 0 → q .k ≤ 64
 unfolding queryCode
 query-most q e =
     leb-true (q .k) 64
-    (both-true (leb 1 (q .k)) (leb (q .k) 64) (unless-passed (between 1 64 (q .k)) 1 (omega arith) (first-passed (unless (between 1 64 (q .k)) 1) (first (unless (between 1 1024 (q .block)) 2) (unless (leb (q .radius) 40000) 3)) e .0)) .1)
+    (both-true (leb 1 (q .k)) (leb (q .k) 64)
+    (unless-passed (between 1 64 (q .k)) 1 (omega arith) (first-passed (unless (between 1 64 (q .k)) 1) (first (unless (between 1 1024 (q .block)) 2) (unless (leb (q .radius) 40000) 3)) e .0)) .1)
 
 pub passed : (f t : List ℤ) (s : Session) → callCode f t s ≡ 0 → Passed f t s
 unfolding callCode lentCode recordFits

@@ -23,13 +23,17 @@ module _ (field : Bool) (f t : List ℤ) (s : Session) where
   unfolding readTable readTo
   read-field =
       ap (λ c. cond field (newDepth field s) (c .field .0))
-      (blocks-same field s (rowsBetween (cond field f t) (oldDepth field s) (newDepth field s)) (cond field t f) (cond field (s .depth .trim .0) (s .depth .field .0)) (blockCount (s .query .block) (cond field (s .depth .trim .0) (s .depth .field .0))) .depth)
+      (blocks-same field s (rowsBetween (cond field f t) (oldDepth field s) (newDepth field s)) (cond field t f)
+      (cond field (s .depth .trim .0) (s .depth .field .0))
+      (blockCount (s .query .block) (cond field (s .depth .trim .0) (s .depth .field .0))) .depth)
 
   pub read-trim : readTable field f t s .depth .trim .0 ≡ cond field (s .depth .trim .0) (newDepth field s)
   unfolding readTable readTo
   read-trim =
       ap (λ c. cond field (c .trim .0) (newDepth field s))
-      (blocks-same field s (rowsBetween (cond field f t) (oldDepth field s) (newDepth field s)) (cond field t f) (cond field (s .depth .trim .0) (s .depth .field .0)) (blockCount (s .query .block) (cond field (s .depth .trim .0) (s .depth .field .0))) .depth)
+      (blocks-same field s (rowsBetween (cond field f t) (oldDepth field s) (newDepth field s)) (cond field t f)
+      (cond field (s .depth .trim .0) (s .depth .field .0))
+      (blockCount (s .query .block) (cond field (s .depth .trim .0) (s .depth .field .0))) .depth)
 
 -- neither depth falls
 pub read-grows : (field : Bool) (f t : List ℤ) (s : Session) → s .depth .field .0 ≤ s .rows .field .0 → s .depth .trim .0 ≤ s .rows .trim .0

@@ -49,7 +49,8 @@ module _ (s : Session) (x y : Block) where
       (λ p q m n. omega (arith, lowest-least p (heldPairs s) m, low q n))
 
   -- "Skipping never changes them": a block pair met holds the best of those held and its own, skipped or not
-  module _ (stored : length (heldPairs s) ≡ s .held) (r : ranked ahead (heldPairs s) ≡ true) (low : (p : Pair) → List·Memᴰ p (qualifying (s .query .radius) x y) → p .sum ≤ firstScore (x .rows) + firstScore (y .rows)) where
+  module _ (stored : length (heldPairs s) ≡ s .held) (r : ranked ahead (heldPairs s) ≡ true)
+      (low : (p : Pair) → List·Memᴰ p (qualifying (s .query .radius) x y) → p .sum ≤ firstScore (x .rows) + firstScore (y .rows)) where
     pub meet-held : heldPairs (meet s x y) ≡ bestHeld s (qualifying (s .query .radius) x y)
     unfolding meet
     meet-held = go (skipped s x y) refl

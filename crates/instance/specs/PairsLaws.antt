@@ -53,7 +53,8 @@ unfolding qualifying pairAt
 qualifying-distinct radius x y =
     each-distinct (λ i. map (pairAt x y i) (keep (meets i) js)) (λ p. p .field - 1 - x .start)
     (λ i p m. let r = Memᴰ·of-map (pairAt x y i) (keep (meets i) js) m in omega (arith, ap (λ p. p .field) (r .2)))
-    (λ i. map-distinct (pairAt x y i) (λ p. p .trim - 1 - y .start) (λ j. omega arith) (keep (meets i) js) (keep-distinct (meets i) js (range-distinct 0 (rowCount (y .rows)))))
+    (λ i. map-distinct (pairAt x y i) (λ p. p .trim - 1 - y .start) (λ j. omega arith) (keep (meets i) js)
+    (keep-distinct (meets i) js (range-distinct 0 (rowCount (y .rows)))))
     (range 0 (rowCount (x .rows))) (range-distinct 0 (rowCount (x .rows)))
   where
     js : List ℕ
@@ -111,7 +112,11 @@ module _ (radius : ℕ) (f t : List ℤ) (a b c d : ℕ) where
       between : (i j : ℕ) → i < b - a → j < d - c → meets i j ≡ true → pairAt x y i j ≡ p → Between radius f t a b c d p
       between i j h k m e =
           subst (Between radius f t a b c d) (sym (at-pair i j h k) ∙ e)
-          (record { fits = fits-of radius f t (a + i) (c + j) (omega arith) (omega arith) (sym (meets-at i j h k) ∙ m); field-part = omega arith; trim-part = omega arith })
+          (record {
+            fits = fits-of radius f t (a + i) (c + j) (omega arith) (omega arith) (sym (meets-at i j h k) ∙ m);
+            field-part = omega arith;
+            trim-part = omega arith;
+          })
 
       there : List·Memᴰ p (each pairs (range 0 (rowCount (x .rows)))) → Between radius f t a b c d p
       there m =
@@ -144,8 +149,12 @@ module _ (radius : ℕ) (f t : List ℤ) (a b c d : ℕ) where
       ap (λ r. r .score) (row-part f a (b - a) 0 (omega (arith, m .field-part))) ∙ ap (λ i. row f i .score) zero-right in
       let v : row (y .rows) 0 .score ≡ row t c .score =
       ap (λ r. r .score) (row-part t c (d - c) 0 (omega (arith, m .trim-part))) ∙ ap (λ i. row t i .score) zero-right in
-      omega
-      (arith, m .fits .own-sum, scores-fall f g a (p .field - 1) (omega (arith, m .field-part)) (omega (arith, m .fits .field-row)), scores-fall t h c (p .trim - 1) (omega (arith, m .trim-part)) (omega (arith, m .fits .trim-row)))
+      omega (
+        arith,
+        m .fits .own-sum,
+        scores-fall f g a (p .field - 1) (omega (arith, m .field-part)) (omega (arith, m .fits .field-row)),
+        scores-fall t h c (p .trim - 1) (omega (arith, m .trim-part)) (omega (arith, m .fits .trim-row)),
+      )
     where
       zero-right : {n : ℕ} → n + 0 ≡ n
       zero-right {n} = omega arith

@@ -66,8 +66,11 @@ module _ (field : Bool) (radius : ℕ) (f t : List ℤ) (a b c : ℕ) (p : Pair)
   region-own h = h .own-part .1
 
   met-more : a ≤ b → (Met field radius f t 0 a 0 c p ⊎ Met field radius f t a b 0 c p) ↔ Met field radius f t 0 b 0 c p
-  met-more h =
-      (⊎-elim (λ r. record { fits = r .fits; own-part = omega (arith, r .own-part); other-part = r .other-part }) (λ r. record { fits = r .fits; own-part = omega (arith, r .own-part); other-part = r .other-part }), λ r. go r (decLe (ownRow field p) a))
+  met-more h = (
+    ⊎-elim (λ r. record { fits = r .fits; own-part = omega (arith, r .own-part); other-part = r .other-part })
+        (λ r. record { fits = r .fits; own-part = omega (arith, r .own-part); other-part = r .other-part }),
+    λ r. go r (decLe (ownRow field p) a),
+  )
     where
       go : Met field radius f t 0 b 0 c p → Dec (ownRow field p ≤ a) → Met field radius f t 0 a 0 c p ⊎ Met field radius f t a b 0 c p
       go r (yes k) = inl (record { fits = r .fits; own-part = (r .own-part .0, k); other-part = r .other-part })
@@ -87,7 +90,8 @@ region-read false radius f t b d e p = between-met-trim radius f t 0 b 0 d p
 
 -- The record after a read
 
-module _ (field : Bool) (f t : List ℤ) (g : legal f ≡ true) (h : legal t ≡ true) (out : List Pair) (s : Session) (size : 1 ≤ s .query .block) (a : Reached (s .query) f t out s) where
+module _ (field : Bool) (f t : List ℤ) (g : legal f ≡ true) (h : legal t ≡ true) (out : List Pair) (s : Session) (size : 1 ≤ s .query .block)
+    (a : Reached (s .query) f t out s) where
   abbrev d : ℕ
   d = s .depth .field .0
 
@@ -127,7 +131,8 @@ module _ (field : Bool) (f t : List ℤ) (g : legal f ≡ true) (h : legal t ≡
   met-keeps =
       keeping-same (λ p. Old p ⊎ Met field (s .query .radius) f t (cond field d e) b 0 (cond field e d) p)
       (Region (s .query .radius) f t (cond field b d) (cond field e b)) out met same-region
-      (all-blocks-keep field f t g h s (cond field d e) b (cond field e d) b-within (other-within field f t d e (a .field-depth) (a .trim-depth)) Old (region-own field (s .query .radius) f t (cond field d e) b (cond field e d)) out keeps-old size)
+      (all-blocks-keep field f t g h s (cond field d e) b (cond field e d) b-within (other-within field f t d e (a .field-depth) (a .trim-depth)) Old
+      (region-own field (s .query .radius) f t (cond field d e) b (cond field e d)) out keeps-old size)
     where
       same-region : (p : Pair)
           → (Old p ⊎ Met field (s .query .radius) f t (cond field d e) b 0 (cond field e d) p) ↔ Region (s .query .radius) f t (cond field b d)
@@ -151,7 +156,8 @@ module _ (field : Bool) (f t : List ℤ) (g : legal f ≡ true) (h : legal t ≡
       rest = met-keeps .rest;
       holds =
           subst
-          (λ c. Holds ahead (met .query .k) (Region (s .query .radius) f t (cond field b (c .field .0)) (cond field (c .trim .0) b)) out (met-keeps .rest) (heldPairs met))
+          (λ c. Holds ahead (met .query .k) (Region (s .query .radius) f t (cond field b (c .field .0)) (cond field (c .trim .0) b)) out
+          (met-keeps .rest) (heldPairs met))
           (sym (same .depth)) (met-keeps .holds);
     };
   }

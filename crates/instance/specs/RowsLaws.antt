@@ -56,7 +56,8 @@ pub legal-of : (t : List ℤ) → length t ≡ 4 * rowCount t → rowCount t ≤
 unfolding legal sizeFits
 legal-of t e m h =
     rw (eq-eqb (length t % 4) 0 (omega arith), le-leb (rowCount t) 65535 m)
-    (every-of (λ i. rowInRange t i && rowInOrder t i) (range 0 (rowCount t)) (λ i k. let r = h i (omega (arith, mem-range i 0 (rowCount t) .0 k)) in rw (r .0) (r .1)))
+    (every-of (λ i. rowInRange t i && rowInOrder t i) (range 0 (rowCount t))
+    (λ i k. let r = h i (omega (arith, mem-range i 0 (rowCount t) .0 k)) in rw (r .0) (r .1)))
 
 -- The rows of a table
 
@@ -117,7 +118,8 @@ score-falls t g i h =
     let b : suc i - 1 ≡ i = omega arith in
     let c : leZ (num t (suc i) 1) (num t i 1) ≡ true = subst (λ j. leZ (num t (suc i) 1) (num t j 1) ≡ true) b a in
     leb-true (row t (suc i) .score) (row t i .score)
-    (subst₂ (λ x y. leZ x y ≡ true) (sym (score-kept t (suc i) (legal-range t g (suc i) h))) (sym (score-kept t i (legal-range t g i (omega arith)))) c)
+    (subst₂ (λ x y. leZ x y ≡ true) (sym (score-kept t (suc i) (legal-range t g (suc i) h))) (sym (score-kept t i (legal-range t g i (omega arith))))
+    c)
 
 pub scores-fall : (t : List ℤ) → legal t ≡ true → (i j : ℕ) → i ≤ j → j < rowCount t → row t j .score ≤ row t i .score
 scores-fall t g i j h =
@@ -129,7 +131,9 @@ legal-rows t g = record {
   short = omega (arith, length-rows t, legal-most t g);
   good = λ i h. let k : i < rowCount t = omega (arith, length-rows t) in subst GoodRow (sym (rows-at t i k)) (row-good t i (legal-range t g i k));
   falls =
-      λ i h. let k : suc i < rowCount t = omega (arith, length-rows t) in omega (arith, ap (λ x. x .score) (rows-at t (suc i) k), ap (λ x. x .score) (rows-at t i (omega arith)), score-falls t g i k);
+      λ i h.
+      let k : suc i < rowCount t = omega (arith, length-rows t) in
+      omega (arith, ap (λ x. x .score) (rows-at t (suc i) k), ap (λ x. x .score) (rows-at t i (omega arith)), score-falls t g i k);
 }
 
 -- Rows written out
@@ -224,7 +228,11 @@ pub flat-legal : (l : List Row) → PlainLegal rows l → legal (flat l) ≡ tru
 unfolding rowInRange cell
 flat-legal l g =
     legal-of (flat l) (omega (arith, length-flat l)) (omega (arith, count-flat l, g .short))
-    (λ i h. (rw (num-flat l i 0 (lit≤ tt), num-flat l i 1 (lit≤ tt), num-flat l i 2 (lit≤ tt), num-flat l i 3 (lit≤ tt)) (g .good i (omega (arith, count-flat l))), flat-order l g i (omega (arith, count-flat l))))
+    (λ i h. (
+      rw (num-flat l i 0 (lit≤ tt), num-flat l i 1 (lit≤ tt), num-flat l i 2 (lit≤ tt), num-flat l i 3 (lit≤ tt))
+          (g .good i (omega (arith, count-flat l))),
+      flat-order l g i (omega (arith, count-flat l)),
+    ))
 
 -- The laws of the join
 

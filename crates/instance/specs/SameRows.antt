@@ -155,7 +155,10 @@ pub same-read : (field : Bool) (f t f′ t′ : List ℤ) (s : Session) → Same
 unfolding readTable
 same-read field f t f′ t′ s h k =
     ap (readTo field b)
-    (ap (λ new. meetBlocks field s new (cond field t′ f′) c n) (same-part b (cond field f t) (cond field f′ t′) (same-own field f t f′ t′ b d e h k) (oldDepth field s) b (omega arith)) ∙ same-blocks field s (rowsBetween (cond field f t) (oldDepth field s) b) (cond field t f) (cond field t′ f′) c n (same-other field f t f′ t′ b d e h k))
+    (ap (λ new. meetBlocks field s new (cond field t′ f′) c n)
+    (same-part b (cond field f t) (cond field f′ t′) (same-own field f t f′ t′ b d e h k) (oldDepth field s) b (omega arith))
+    ∙ same-blocks field s (rowsBetween (cond field f t) (oldDepth field s) b) (cond field t f) (cond field t′ f′) c n
+    (same-other field f t f′ t′ b d e h k))
   where
     d : ℕ
     d = s .depth .field .0

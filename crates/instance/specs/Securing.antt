@@ -162,8 +162,11 @@ module _ {q : Query} {f t : List ℤ} {out : List Pair} {s : Session} (a : Reach
           let c =
           held-cover pair-rank (a .keeping .holds) (ceiling f t s) l (qualifying-distinct (q .radius) (rowsBetween f 0 d) (rowsBetween t 0 e))
           (λ p m. mem-qualifying (q .radius) f t 0 d 0 e (a .field-depth) (a .trim-depth) p .0 m)
-          (subst (λ m. s .query .k ≤ atLeast (ceiling f t s) m) (sym region-sums) enough) in
-          (omega (arith, c .0, a .keeping .counted, a .keeping .stored), every-of (secured f t s) (heldPairs s) (λ p m. secured-high f t s p hd he (all-at (λ n. ceiling f t s ≤ n) (p .sum) (c .1) (Memᴰ·map (λ p. p .sum) m))))
+          (subst (λ m. s .query .k ≤ atLeast (ceiling f t s) m) (sym region-sums) enough) in (
+            omega (arith, c .0, a .keeping .counted, a .keeping .stored),
+            every-of (secured f t s) (heldPairs s)
+                (λ p m. secured-high f t s p hd he (all-at (λ n. ceiling f t s ≤ n) (p .sum) (c .1) (Memᴰ·map (λ p. p .sum) m))),
+          )
 
       pub unsettled-short : settled f t s ≡ false → region side side (near (q .radius)) (Join.ceiling side side F d T e) F d T e < q .k
       unfolding settled

@@ -59,7 +59,11 @@ module _ (n : ℕ) (t : List ℤ) (g : legal t ≡ true) where
     rows =
         sym (rows-flat (take n (rowsOf t)))
         ∙ ap rowsOf
-        (sym (flat-take n (rowsOf t)) ∙ ap (take (4 * n)) (flat-rows t g) ∙ sym (b .alike) ∙ ap (take (4 * n)) (sym (flat-rows u (b .lawful))) ∙ flat-take n (rowsOf u))
+        (sym (flat-take n (rowsOf t))
+        ∙ ap (take (4 * n)) (flat-rows t g)
+        ∙ sym (b .alike)
+        ∙ ap (take (4 * n)) (sym (flat-rows u (b .lawful)))
+        ∙ flat-take n (rowsOf u))
         ∙ rows-flat (take n (rowsOf u));
     ends = λ h. ap rowsOf (b .ends (omega (arith, length-rows t)));
   }
@@ -69,8 +73,17 @@ pub sure-rows : (k radius : ℕ) (f t : List ℤ) (p : FieldRows) (q : TrimRows)
     → Sure k radius f t p q ↔ Join.Sure side side (near radius) k (rowsOf f) (p .0) (rowsOf t) (q .0)
 unfolding Sure qualifyingSums
 sure-rows k radius f t p q g h = (
-  λ s. record { same = λ F₁ F₂ T₁ T₂ a b c d. sym (sums F₁ T₁) ∙ s (flat F₁) (flat F₂) (flat T₁) (flat T₂) (begins-flat (p .0) f g F₁ a) (begins-flat (p .0) f g F₂ b) (begins-flat (q .0) t h T₁ c) (begins-flat (q .0) t h T₂ d) ∙ sums F₂ T₂ },
-  λ s. λ f₁ f₂ t₁ t₂ a b c d. ap (best k) (sums-rows radius (whole f₁) (whole t₁)) ∙ s .same (rowsOf f₁) (rowsOf f₂) (rowsOf t₁) (rowsOf t₂) (begins-rows (p .0) f g f₁ a) (begins-rows (p .0) f g f₂ b) (begins-rows (q .0) t h t₁ c) (begins-rows (q .0) t h t₂ d) ∙ ap (best k) (sym (sums-rows radius (whole f₂) (whole t₂))),
+  λ s. record {
+    same =
+        λ F₁ F₂ T₁ T₂ a b c d. sym (sums F₁ T₁)
+        ∙ s (flat F₁) (flat F₂) (flat T₁) (flat T₂) (begins-flat (p .0) f g F₁ a) (begins-flat (p .0) f g F₂ b) (begins-flat (q .0) t h T₁ c)
+        (begins-flat (q .0) t h T₂ d)
+        ∙ sums F₂ T₂;
+  },
+  λ s. λ f₁ f₂ t₁ t₂ a b c d. ap (best k) (sums-rows radius (whole f₁) (whole t₁))
+      ∙ s .same (rowsOf f₁) (rowsOf f₂) (rowsOf t₁) (rowsOf t₂) (begins-rows (p .0) f g f₁ a) (begins-rows (p .0) f g f₂ b)
+      (begins-rows (q .0) t h t₁ c) (begins-rows (q .0) t h t₂ d)
+      ∙ ap (best k) (sym (sums-rows radius (whole f₂) (whole t₂))),
 )
   where
     sums : (F T : List Row)

@@ -86,8 +86,10 @@ module _ {q : Query} {f t : List ℤ} {out : List Pair} {s : Session} (a : Reach
 
   pub read-out : bothReadOut s ≡ true → (s .depth .field .0 ≡ rowCount f) × (s .depth .trim .0 ≡ rowCount t)
   read-out e =
-      let b = both-true (fieldReadOut s) (trimReadOut s) e in
-      (eqb-true (s .depth .field .0) (s .rows .field .0) (b .0) ∙ a .field-rows, eqb-true (s .depth .trim .0) (s .rows .trim .0) (b .1) ∙ a .trim-rows)
+      let b = both-true (fieldReadOut s) (trimReadOut s) e in (
+        eqb-true (s .depth .field .0) (s .rows .field .0) (b .0) ∙ a .field-rows,
+        eqb-true (s .depth .trim .0) (s .rows .trim .0) (b .1) ∙ a .trim-rows,
+      )
 
   -- read out, the region has every pair
   pub read-out-region : bothReadOut s ≡ true → (p : Pair) → Fits (q .radius) f t p → R p
@@ -103,7 +105,8 @@ module _ {q : Query} {f t : List ℤ} {out : List Pair} {s : Session} (a : Reach
   unfolding finished
   finished-complete e =
       ⊎-elim (λ z. inl (sym (a .keeping .counted) ∙ eqb-true (s .out) (s .query .k) z ∙ wanted))
-      (λ z. ⊎-elim (λ n. inr (λ p h. absurd (empty-none n p h))) (λ n. none (both-true (bothReadOut s) (eqb (s .held) 0) n)) (one-true (aTableIsEmpty s) (bothReadOut s && eqb (s .held) 0) z))
+      (λ z. ⊎-elim (λ n. inr (λ p h. absurd (empty-none n p h))) (λ n. none (both-true (bothReadOut s) (eqb (s .held) 0) n))
+      (one-true (aTableIsEmpty s) (bothReadOut s && eqb (s .held) 0) z))
       (one-true (eqb (s .out) (s .query .k)) (aTableIsEmpty s || (bothReadOut s && eqb (s .held) 0)) e)
     where
       wanted : s .query .k ≡ q .k
@@ -112,4 +115,5 @@ module _ {q : Query} {f t : List ℤ} {out : List Pair} {s : Session} (a : Reach
       none : (bothReadOut s ≡ true) × (eqb (s .held) 0 ≡ true) → (length out ≡ q .k) ⊎ ((p : Pair) → Fits (q .radius) f t p → List·Memᴰ p out)
       none n =
           ⊎-elim (λ z. inl (z ∙ wanted)) (λ z. inr (λ p h. z p (read-out-region (n .0) p h)))
-          (none-held pair-rank (subst (λ m. Holds ahead (s .query .k) R out (a .keeping .rest) (take m (s .pairs))) (eqb-true (s .held) 0 (n .1)) (a .keeping .holds)))
+          (none-held pair-rank
+          (subst (λ m. Holds ahead (s .query .k) R out (a .keeping .rest) (take m (s .pairs))) (eqb-true (s .held) 0 (n .1)) (a .keeping .holds)))

@@ -173,7 +173,8 @@ module _ (s r : Session) (h : Sound s) (size : 1 ≤ s .query .block) (cleared :
     cleared = cleared;
     joined =
         product-next (counted (s .depth .field .0)) (counted (newDepth true s)) (counted (s .depth .trim .0)) (s .joined) (r .joined) (h .joined)
-        (count-next (s .query .block) size (s .depth .field .0) (newDepth true s) (whole-unread (s .query .block) (s .rows .field .0) (s .depth .field .0) (omega arith) (h .field-whole)) k)
+        (count-next (s .query .block) size (s .depth .field .0) (newDepth true s)
+        (whole-unread (s .query .block) (s .rows .field .0) (s .depth .field .0) (omega arith) (h .field-whole)) k)
         j;
   }
   sound-raised false k j = record {
@@ -183,7 +184,10 @@ module _ (s r : Session) (h : Sound s) (size : 1 ≤ s .query .block) (cleared :
     cleared = cleared;
     joined =
         subst (λ n. r .joined ≤ n) (mul-comm (counted (newDepth false s)) (counted (s .depth .field .0)))
-        (product-next (counted (s .depth .trim .0)) (counted (newDepth false s)) (counted (s .depth .field .0)) (s .joined) (r .joined) (subst (λ n. s .joined ≤ n) (mul-comm (counted (s .depth .field .0)) (counted (s .depth .trim .0))) (h .joined)) (count-next (s .query .block) size (s .depth .trim .0) (newDepth false s) (whole-unread (s .query .block) (s .rows .trim .0) (s .depth .trim .0) (omega arith) (h .trim-whole)) k) j);
+        (product-next (counted (s .depth .trim .0)) (counted (newDepth false s)) (counted (s .depth .field .0)) (s .joined) (r .joined)
+        (subst (λ n. s .joined ≤ n) (mul-comm (counted (s .depth .field .0)) (counted (s .depth .trim .0))) (h .joined))
+        (count-next (s .query .block) size (s .depth .trim .0) (newDepth false s)
+        (whole-unread (s .query .block) (s .rows .trim .0) (s .depth .trim .0) (omega arith) (h .trim-whole)) k) j);
   }
 
 module _ {q : Query} {f t : List ℤ} {out : List Pair} {s : Session} (a : Reached q f t out s) (h : Sound s) where
@@ -191,7 +195,8 @@ module _ {q : Query} {f t : List ℤ} {out : List Pair} {s : Session} (a : Reach
   unfolding readTable
   sound-read size u =
       subst (λ r. Sound (readTo field (newDepth field s) r)) (sym (same-held s r (blocks-same field s new (cond field t f) depth n)))
-      (sound-raised s r h (subst (λ q. 1 ≤ q .block) (sym (a .query)) size) (blocks-cleared field s new (cond field t f) depth n (h .cleared)) field (read-raises a u size) (blocks-joined field s new (cond field t f) depth n))
+      (sound-raised s r h (subst (λ q. 1 ≤ q .block) (sym (a .query)) size) (blocks-cleared field s new (cond field t f) depth n (h .cleared)) field
+      (read-raises a u size) (blocks-joined field s new (cond field t f) depth n))
     where
       field : Bool
       field = fieldNext f t s
@@ -232,15 +237,35 @@ module _ {q : Query} {f t : List ℤ} {out : List Pair} {s : Session} (a : Reach
   pair-fits : legal f ≡ true → legal t ≡ true → (p : Pair) → Region (q .radius) f t (s .depth .field .0) (s .depth .trim .0) p → pairFits s p ≡ true
   unfolding pairFits pairSum
   pair-fits x y p m =
-      rw
-      (le-leb 1 (p .field) (m .fits .field-row .0), le-leb (p .field) (s .depth .field .0) (m .field-part .1), le-leb 1 (p .trim) (m .fits .trim-row .0), le-leb (p .trim) (s .depth .trim .0) (m .trim-part .1))
-      (le-leb (p .sum) 19998 (omega (arith, m .fits .own-sum, score-most f x (p .field - 1) (omega (arith, m .fits .field-row)), score-most t y (p .trim - 1) (omega (arith, m .fits .trim-row)))))
+      rw (
+        le-leb 1 (p .field) (m .fits .field-row .0),
+        le-leb (p .field) (s .depth .field .0) (m .field-part .1),
+        le-leb 1 (p .trim) (m .fits .trim-row .0),
+        le-leb (p .trim) (s .depth .trim .0) (m .trim-part .1),
+      )
+      (le-leb (p .sum) 19998
+      (omega (
+        arith,
+        m .fits .own-sum,
+        score-most f x (p .field - 1) (omega (arith, m .fits .field-row)),
+        score-most t y (p .trim - 1) (omega (arith, m .fits .trim-row)),
+      )))
 
   pub reached-fits : legal f ≡ true → legal t ≡ true → queryCode q ≡ 0 → recordFits s ≡ true
   unfolding recordFits
   reached-fits x y c =
-      rw
-      (eq-eqb (queryCode (s .query)) 0 (ap queryCode (a .query) ∙ c), counts-fit (s .query .block) (s .rows .field .0) (s .depth .field .0) (omega (arith, legal-most f x, a .field-rows)) (omega (arith, a .field-depth, a .field-rows)) (h .field-whole), counts-fit (s .query .block) (s .rows .trim .0) (s .depth .trim .0) (omega (arith, legal-most t y, a .trim-rows)) (omega (arith, a .trim-depth, a .trim-rows)) (h .trim-whole), le-leb (s .out + s .held) (s .query .k) (omega (arith, held-room pair-rank (a .keeping .holds), a .keeping .counted, a .keeping .stored)), every-of (pairFits s) (heldPairs s) (λ p m. pair-fits x y p (held-inside pair-rank (a .keeping .holds) p m)), held-ranked pair-rank (a .keeping .holds), h .mark, h .cleared)
+      rw (
+        eq-eqb (queryCode (s .query)) 0 (ap queryCode (a .query) ∙ c),
+        counts-fit (s .query .block) (s .rows .field .0) (s .depth .field .0) (omega (arith, legal-most f x, a .field-rows))
+            (omega (arith, a .field-depth, a .field-rows)) (h .field-whole),
+        counts-fit (s .query .block) (s .rows .trim .0) (s .depth .trim .0) (omega (arith, legal-most t y, a .trim-rows))
+            (omega (arith, a .trim-depth, a .trim-rows)) (h .trim-whole),
+        le-leb (s .out + s .held) (s .query .k) (omega (arith, held-room pair-rank (a .keeping .holds), a .keeping .counted, a .keeping .stored)),
+        every-of (pairFits s) (heldPairs s) (λ p m. pair-fits x y p (held-inside pair-rank (a .keeping .holds) p m)),
+        held-ranked pair-rank (a .keeping .holds),
+        h .mark,
+        h .cleared,
+      )
       (le-leb (s .joined) (blockCount (s .query .block) (s .depth .field .0) * blockCount (s .query .block) (s .depth .trim .0)) (h .joined))
     where
       R : Pair → Type 0

@@ -36,7 +36,8 @@ record Unskipping (field : Bool) (a m : ℕ) (l : List Pair) (r : Session) : Typ
   seen : (p : Pair) → List·Memᴰ p (heldPairs r) → (ownRow field p ≤ a) ⊎ (otherRow field p ≤ m)
   same : heldPairs r ≡ l
 
-module _ (field : Bool) (f t : List ℤ) (g : legal f ≡ true) (h : legal t ≡ true) (s : Session) (a b c : ℕ) (hb : b ≤ rowCount (cond field f t)) (hc : c ≤ rowCount (cond field t f)) where
+module _ (field : Bool) (f t : List ℤ) (g : legal f ≡ true) (h : legal t ≡ true) (s : Session) (a b c : ℕ) (hb : b ≤ rowCount (cond field f t))
+    (hc : c ≤ rowCount (cond field t f)) where
   abbrev new : Block
   new = rowsBetween (cond field f t) a b
 
@@ -53,11 +54,15 @@ module _ (field : Bool) (f t : List ℤ) (g : legal f ≡ true) (h : legal t ≡
     stored = meet-stored (after n) x y (u .stored) (u .in-rank) low;
     in-rank =
         subst (λ l. ranked ahead l ≡ true) (sym held)
-        (ranked-take ahead (pair-rank .order) room (sort ahead (heldPairs (after n) ++ met)) (sort-ranked ahead (pair-rank .order) (heldPairs (after n) ++ met) (append-distinct (heldPairs (after n)) met (ranked-distinct ahead (pair-rank .order) (heldPairs (after n)) (u .in-rank)) (qualifying-distinct (after n .query .radius) x y) fresh)));
+        (ranked-take ahead (pair-rank .order) room (sort ahead (heldPairs (after n) ++ met))
+        (sort-ranked ahead (pair-rank .order) (heldPairs (after n) ++ met)
+        (append-distinct (heldPairs (after n)) met (ranked-distinct ahead (pair-rank .order) (heldPairs (after n)) (u .in-rank))
+        (qualifying-distinct (after n .query .radius) x y) fresh)));
     seen =
         λ p m. ⊎-elim (λ k. ⊎-elim inl (λ z. inr (omega (arith, suc-mul n B))) (u .seen p k))
         (λ k. inr (omega (arith, suc-mul n B, inside p k .other-part)))
-        (List·Memᴰ·append-cases (heldPairs (after n)) (mem-sort ahead p (heldPairs (after n) ++ met) .0 (mem-take room p (sort ahead (heldPairs (after n) ++ met)) (subst (List·Memᴰ p) held m))));
+        (List·Memᴰ·append-cases (heldPairs (after n))
+        (mem-sort ahead p (heldPairs (after n) ++ met) .0 (mem-take room p (sort ahead (heldPairs (after n) ++ met)) (subst (List·Memᴰ p) held m))));
     same =
         held
         ∙ ap₂ (λ k l. take k (sort ahead l)) (ap₂ (λ q o. q .k - o) (kept .query) (kept .out))
@@ -97,7 +102,8 @@ module _ (field : Bool) (f t : List ℤ) (g : legal f ≡ true) (h : legal t ≡
       fresh : (p : Pair) → List·Memᴰ p (heldPairs (after n)) → List·Memᴰ p met → ⊥
       fresh p i j = ⊎-elim (λ z. omega (arith, inside p j .own-part)) (λ z. omega (arith, inside p j .other-part)) (u .seen p i)
 
-  module _ (stored : length (heldPairs s) ≡ s .held) (in-rank : ranked ahead (heldPairs s) ≡ true) (seen : (p : Pair) → List·Memᴰ p (heldPairs s) → ownRow field p ≤ a) where
+  module _ (stored : length (heldPairs s) ≡ s .held) (in-rank : ranked ahead (heldPairs s) ≡ true)
+      (seen : (p : Pair) → List·Memᴰ p (heldPairs s) → ownRow field p ≤ a) where
     unskipping : (n : ℕ) → Unskipping field a (n * s .query .block) (unskipped n) (after n)
     unfolding meetBlocks heldUnskipped
     unskipping zero = record { stored = stored; in-rank = in-rank; seen = λ p m. inl (seen p m); same = refl }
@@ -171,7 +177,8 @@ fits-own field s p e =
     go true h k = h
     go false h k = k
 
-module _ (field : Bool) (f t : List ℤ) (s : Session) (a : Passed f t s) (new : rowsCode (cond field f t) (oldDepth field s) (newDepth field s - oldDepth field s) ≡ 0) (places : length (s .pairs) ≡ 64) where
+module _ (field : Bool) (f t : List ℤ) (s : Session) (a : Passed f t s)
+    (new : rowsCode (cond field f t) (oldDepth field s) (newDepth field s - oldDepth field s) ≡ 0) (places : length (s .pairs) ≡ 64) where
   abbrev m : ℕ
   m = cond field (newDepth field s) (s .depth .field .0)
 

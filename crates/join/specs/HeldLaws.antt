@@ -90,7 +90,8 @@ module _ {P : Type 0} {ahead : P → P → Bool} {sum : P → ℕ} (rank : Rank 
     apart = λ p a b. ⊎-elim (h .apart p a) (λ m. new p m (h .inside p (inl a))) (List·Memᴰ·append-cases rest (mem-sort ahead p (rest ++ met) .0 b));
     inside =
         λ p m. more p .1
-        (⊎-elim (λ a. inl (h .inside p (inl a))) (λ b. ⊎-elim (λ a. inl (h .inside p (inr a))) inr (List·Memᴰ·append-cases rest (mem-sort ahead p (rest ++ met) .0 b))) m);
+        (⊎-elim (λ a. inl (h .inside p (inl a)))
+        (λ b. ⊎-elim (λ a. inl (h .inside p (inr a))) inr (List·Memᴰ·append-cases rest (mem-sort ahead p (rest ++ met) .0 b))) m);
     known =
         λ p r. ⊎-elim (λ a. ⊎-elim inl (λ b. inr (mem-sort ahead p (rest ++ met) .1 (Memᴰ·append-left met b))) (h .known p a))
         (λ m. inr (mem-sort ahead p (rest ++ met) .1 (Memᴰ·append-right rest m))) (more p .0 r);
@@ -181,7 +182,11 @@ module _ {P : Type 0} {ahead : P → P → Bool} {sum : P → ℕ} (rank : Rank 
       pub first-highest : (p : P) → R p → (List·Memᴰ p out → ⊥) → sum p ≤ sum x
       first-highest p r n =
           ⊎-elim (λ m. absurd (n m))
-          (λ m. ⊎-elim (λ e. omega (arith, ap sum e)) (λ i. ahead-sum x p (all-at (λ y. ahead x y ≡ true) p (ranked-first ahead (rank .order) x (c .0) (subst (λ r. ranked ahead r ≡ true) (c .1) (h .in-rank))) i)) (List·Memᴰ·cases-cons (subst (List·Memᴰ p) (c .1) m)))
+          (λ m. ⊎-elim (λ e. omega (arith, ap sum e))
+          (λ i. ahead-sum x p
+          (all-at (λ y. ahead x y ≡ true) p
+          (ranked-first ahead (rank .order) x (c .0) (subst (λ r. ranked ahead r ≡ true) (c .1) (h .in-rank))) i))
+          (List·Memᴰ·cases-cons (subst (List·Memᴰ p) (c .1) m)))
           (h .known p r)
         where
           c : (m : List P) × (rest ≡ x ∷ m) × (l ≡ take (k - length out - 1) m) × (1 ≤ k - length out)
@@ -205,7 +210,8 @@ module _ {P : Type 0} {ahead : P → P → Bool} {sum : P → ℕ} (rank : Rank 
                 (List·Memᴰ·append-cases out a);
             inside =
                 λ p a. ⊎-elim
-                (λ o. ⊎-elim (λ i. h .inside p (inl i)) (λ i. h .inside p (inr (at p (List·Memᴰ·head (List·Memᴰ·eq-of-singleton i))))) (List·Memᴰ·append-cases out o))
+                (λ o. ⊎-elim (λ i. h .inside p (inl i)) (λ i. h .inside p (inr (at p (List·Memᴰ·head (List·Memᴰ·eq-of-singleton i)))))
+                (List·Memᴰ·append-cases out o))
                 (λ i. h .inside p (inr (at p (List·Memᴰ·tail i)))) a;
             known =
                 λ p i. ⊎-elim (λ o. inl (Memᴰ·append-left (x ∷ []) o))

@@ -99,7 +99,8 @@ module _ {A B : Type 0} where
           → List·Memᴰ y (f x ++ each f l) ↔ ((z : A) × List·Memᴰ z (x ∷ l) × List·Memᴰ y (f z))
       go g = (
         λ m. ⊎-elim (λ k. (x, List·Memᴰ·head refl, k)) (λ k. let r = g .0 k in (r .0, List·Memᴰ·tail (r .1), r .2)) (List·Memᴰ·append-cases (f x) m),
-        λ h. ⊎-elim (λ e. Memᴰ·append-left (each f l) (subst (λ z. List·Memᴰ y (f z)) e (h .2))) (λ k. Memᴰ·append-right (f x) (g .1 (h .0, k, h .2))) (List·Memᴰ·cases-cons (h .1)),
+        λ h. ⊎-elim (λ e. Memᴰ·append-left (each f l) (subst (λ z. List·Memᴰ y (f z)) e (h .2))) (λ k. Memᴰ·append-right (f x) (g .1 (h .0, k, h .2)))
+            (List·Memᴰ·cases-cons (h .1)),
       )
 
   pub each-distinct : (f : A → List B) (key : B → A) → ((x : A) (y : B) → List·Memᴰ y (f x) → key y ≡ x) → ((x : A) → Distinct (f x)) → (l : List A)
