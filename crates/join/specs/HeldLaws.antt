@@ -8,7 +8,7 @@ use native.Mathlib.Omega.{arith}
 use lib.Dec.{leb, ltb}
 use lib.ListN.{length, take, length-append, length-take, length-map}
 use lib.Seq.{take-nil, take-at}
-use borrow.Author.Tests.{ltb-true, ltb-false}
+use borrow.Author.Tests.{leb-true, ltb-true, ltb-false}
 use Rattle.lists.specs.Lists.{keep, sort, ranked, atLeast}
 use Rattle.lists.specs.Bools.{clash}
 use Rattle.lists.specs.Words.{All, Ordered, Distinct}
@@ -106,14 +106,19 @@ module _ {P : Type 0} {ahead : P → P → Bool} {sum : P → ℕ} (rank : Rank 
   unfolding atLeast
   count-keep c l = ap length (keep-map sum (leb c) l) ∙ length-map (keep (λ p. leb c (sum p)) l) sum
 
-  -- distinct pairs of m count no more than m's
-  count-inside : (c : ℕ) (l m : List P) → Distinct l → ((p : P) → List·Memᴰ p l → List·Memᴰ p m) → atLeast c (map sum l) ≤ atLeast c (map sum m)
-  count-inside c l m d h =
+  -- where all pairs of l that pass c are in m, m has no fewer of them
+  pub count-among : (c : ℕ) (l m : List P) → Distinct l → ((p : P) → List·Memᴰ p l → c ≤ sum p → List·Memᴰ p m)
+      → atLeast c (map sum l) ≤ atLeast c (map sum m)
+  count-among c l m d h =
       let test : P → Bool = λ p. leb c (sum p) in
       let few : length (keep test l) ≤ length (keep test m) =
       pigeonhole (keep test l) (keep test m) (keep-distinct test l d)
-      (λ p i. let j = mem-keep test p l .0 i in mem-keep test p m .1 (h p (j .0), j .1)) in
+      (λ p i. let j = mem-keep test p l .0 i in mem-keep test p m .1 (h p (j .0) (leb-true c (sum p) (j .1)), j .1)) in
       omega (arith, count-keep c l, count-keep c m)
+
+  -- distinct pairs of m count no more than m's
+  pub count-inside : (c : ℕ) (l m : List P) → Distinct l → ((p : P) → List·Memᴰ p l → List·Memᴰ p m) → atLeast c (map sum l) ≤ atLeast c (map sum m)
+  count-inside c l m d h = count-among c l m d (λ p i k. h p i)
 
   module _ {k : ℕ} {R : P → Type 0} {out rest : List P} where
     held-rest : {held : List P} → Holds ahead k R out rest held → (p : P) → List·Memᴰ p held → List·Memᴰ p rest

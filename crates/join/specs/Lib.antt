@@ -8,3 +8,5 @@ pub mod PlainLaws
 pub mod Example
 pub mod Held
 pub mod HeldLaws
+pub mod BestFirst
+pub mod BestFirstLaws

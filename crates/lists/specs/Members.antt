@@ -60,6 +60,23 @@ module _ {A : Type 0} (ahead : A → A → Bool) where
   sort-distinct (x ∷ l) d = ins-distinct x (sort ahead l) (λ m. d .0 (mem-sort x l .0 m)) (sort-distinct l (d .1))
 
 module _ {A : Type 0} (ahead : A → A → Bool) (order : Strict ahead) where
+  -- whether x stands in a list
+  pub member : (x : A) (l : List A) → List·Memᴰ x l ⊎ (List·Memᴰ x l → ⊥)
+  member x [] = inr List·Memᴰ·not-nil
+  member x (y ∷ l) = go (ahead x y) (ahead y x) refl refl (member x l)
+    where
+      other : (x ≡ y → ⊥) → List·Memᴰ x l ⊎ (List·Memᴰ x l → ⊥) → List·Memᴰ x (y ∷ l) ⊎ (List·Memᴰ x (y ∷ l) → ⊥)
+      other n (inl m) = inl (List·Memᴰ·tail m)
+      other n (inr m) = inr (λ k. ⊎-elim n m (List·Memᴰ·cases-cons k))
+
+      not-self : (z : A) → ahead z z ≡ true → ⊥
+      not-self z e = clash e (order .asym z z e)
+
+      go : (a b : Bool) → ahead x y ≡ a → ahead y x ≡ b → List·Memᴰ x l ⊎ (List·Memᴰ x l → ⊥) → List·Memᴰ x (y ∷ l) ⊎ (List·Memᴰ x (y ∷ l) → ⊥)
+      go true b e f r = other (λ g. not-self y (ap (λ z. ahead z y) (sym g) ∙ e)) r
+      go false true e f r = other (λ g. not-self x (ap (λ z. ahead z x) g ∙ f)) r
+      go false false e f r = inl (List·Memᴰ·head (order .tri x y e f))
+
   -- two that differ and of which the second is not ahead
   apart : (x y : A) → ahead y x ≡ false → (x ≡ y → ⊥) → ahead x y ≡ true
   apart x y e n = go (ahead x y) refl

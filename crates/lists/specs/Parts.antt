@@ -19,6 +19,11 @@ module _ {A : Type 0} where
   append-distinct (x ∷ l) m d e h =
       (λ k. ⊎-elim (d .0) (h x (List·Memᴰ·head refl)) (List·Memᴰ·append-cases l k), append-distinct l m (d .1) e (λ y a b. h y (List·Memᴰ·tail a) b))
 
+  -- what stands in the one part of a list without repeats does not stand in the other
+  pub append-apart : (l m : List A) → Distinct (l ++ m) → (x : A) → List·Memᴰ x l → List·Memᴰ x m → ⊥
+  append-apart (y ∷ l) m d x (List·Memᴰ·head e) k = d .0 (Memᴰ·append-right l (Memᴰ·cast (sym e) k))
+  append-apart (y ∷ l) m d x (List·Memᴰ·tail i) k = append-apart l m (d .1) x i k
+
 -- range
 
 pub mem-range : (x a n : ℕ) → List·Memᴰ x (range a n) ↔ ((a ≤ x) × (x < a + n))
