@@ -27,7 +27,7 @@ use Rattle.instance.specs.Sound.{Sound}
 use Rattle.instance.specs.Taking.{first-mem}
 use Rattle.instance.specs.Unrefused.{sound-open, sound-read, sound-take, reached-fits}
 use Rattle.instance.specs.Choosing.{read-raises}
-use Rattle.instance.specs.Depths.{read-field, read-trim}
+use Rattle.instance.specs.Depths.{depths, read-deeper}
 use Rattle.instance.specs.Accepting.{call-accepted, new-block-accepted}
 use Rattle.demand.specs.Demand.{Call, reading, taking, Line, promised, isAccepted, Sequence, Follows, lastRecord}
 use Rattle.demand.specs.GetsThere.{GetsThere}
@@ -78,22 +78,11 @@ module _ (q : Query) (f t : List ℤ) (g : legal f ≡ true) (h : legal t ≡ tr
 
   -- Reads are few
 
-  -- the rows read of both tables
-  abbrev depths : Session → ℕ
-  depths s = s .depth .field .0 + s .depth .trim .0
-
-  read-deeper : {out : List Pair} {s : Session} → Reached q f t out s → settled f t s ≡ false → depths s < depths (readBlock f t s)
-  read-deeper {s = s} a u = go (fieldNext f t s) (read-raises a u size)
-    where
-      go : (b : Bool) → oldDepth b s < newDepth b s → depths s < depths (readTable b f t s)
-      go true k = omega (arith, read-field true f t s, read-trim true f t s)
-      go false k = omega (arith, read-field false f t s, read-trim false f t s)
-
   line-reads : {out : List Pair} {s : Session} (x : Step) → Reached q f t out s → Changed f t s x
       → depths s + readsOf (x .answer) ≤ depths (x .session)
   unfolding movedOut
   line-reads x a (kept e o r) = omega (arith, r, ap depths e)
-  line-reads {s = s} x a (deeper d e) = subst (λ y. depths s + readsOf (y .answer) ≤ depths (y .session)) (sym e) (omega (arith, read-deeper a d))
+  line-reads {s = s} x a (deeper d e) = subst (λ y. depths s + readsOf (y .answer) ≤ depths (y .session)) (sym e) (omega (arith, read-deeper a size d))
   line-reads {s = s} x a (fewer d e) = subst (λ y. depths s + readsOf (y .answer) ≤ depths (y .session)) (sym e) (omega arith)
 
   lines-reads : (lines : List Line) {out : List Pair} {s : Session} → Reached q f t out s → Follows f t s lines

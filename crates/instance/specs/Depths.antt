@@ -2,7 +2,7 @@
 use mathlib.Core.Path.{_≡_, refl, ap}
 use mathlib.Core.Bool.{Bool, true, false, cond}
 use mathlib.Core.List.{List}
-use Prim.Native.Nat.{_+_, _-_, _≤_, max}
+use Prim.Native.Nat.{ℕ, _+_, _-_, _≤_, _<_, max}
 use native.Mathlib.Omega.{arith}
 use lib.IntN.{ℤ}
 use Rattle.rules.specs.declared.FieldRows.{FieldRows}
@@ -16,7 +16,7 @@ use Rattle.rules.specs.Read.{fieldNext, rowsBetween, blockCount, readTo, oldDep
 use Rattle.rules.specs.Sure.{Sure}
 use Rattle.instance.specs.Keeping.{Reached}
 use Rattle.instance.specs.Blocks.{blocks-same}
-use Rattle.instance.specs.Choosing.{field-limit, trim-limit}
+use Rattle.instance.specs.Choosing.{field-limit, trim-limit, read-raises}
 
 module _ (field : Bool) (f t : List ℤ) (s : Session) where
   pub read-field : readTable field f t s .depth .field .0 ≡ cond field (newDepth field s) (s .depth .field .0)
@@ -58,3 +58,16 @@ read-limit {q} {f} {t} {out} {s} a g h wanted u m n sure l = go (fieldNext f t s
         let k = field-limit a g h wanted u m n sure e in (omega (arith, size, read-field true f t s, l), omega (arith, read-trim true f t s, l))
     go false e =
         let k = trim-limit a g h wanted u m n sure e in (omega (arith, read-field false f t s, l), omega (arith, size, read-trim false f t s, l))
+
+-- the rows read of both tables
+abbrev pub depths : Session → ℕ
+depths s = s .depth .field .0 + s .depth .trim .0
+
+-- an unsettled read reads a row at least
+pub read-deeper : {q : Query} {f t : List ℤ} {out : List Pair} {s : Session} → Reached q f t out s → 1 ≤ q .block → settled f t s ≡ false
+    → depths s < depths (readBlock f t s)
+read-deeper {f = f} {t = t} {s = s} a size u = go (fieldNext f t s) (read-raises a u size)
+  where
+    go : (b : Bool) → oldDepth b s < newDepth b s → depths s < depths (readTable b f t s)
+    go true k = omega (arith, read-field true f t s, read-trim true f t s)
+    go false k = omega (arith, read-field false f t s, read-trim false f t s)

@@ -20,3 +20,4 @@ pub mod Unrefused
 pub mod Cutting
 pub mod Unskipped
 pub mod UnskippedLaws
+pub mod WholeList
