@@ -23,17 +23,19 @@ use Rattle.rules.specs.Take.{firstHeld, givesPair, movedOut, finished}
 use Rattle.rules.specs.Numbers.{number}
 use Rattle.rules.specs.Calls.{queryCode, callCode, newBlockCode, step, readCall, takeCall}
 use Rattle.instance.specs.Keeping.{Reached}
+use Rattle.instance.specs.Opening.{query-wanted}
 use Rattle.instance.specs.Sound.{Sound}
-use Rattle.instance.specs.Taking.{first-mem}
+use Rattle.instance.specs.Taking.{gives-some}
 use Rattle.instance.specs.Unrefused.{sound-open, sound-read, sound-take, reached-fits}
 use Rattle.instance.specs.Choosing.{read-raises}
+use Rattle.instance.specs.Settled.{settled-take}
 use Rattle.instance.specs.Depths.{depths, read-deeper}
 use Rattle.instance.specs.Accepting.{call-accepted, new-block-accepted}
 use Rattle.demand.specs.Demand.{Call, reading, taking, Line, promised, isAccepted, Sequence, Follows, lastRecord}
 use Rattle.demand.specs.GetsThere.{GetsThere}
 use Rattle.demand.specs.Steps.{Happened, refused, settling, going, giving, finishing, waiting, readsOf, Changed, kept, deeper, fewer}
-use Rattle.demand.specs.Outcomes.{differ, gives-some}
-use Rattle.demand.specs.Openings.{query-wanted, opening-query, opening-is}
+use Rattle.demand.specs.Outcomes.{differ}
+use Rattle.demand.specs.Openings.{opening-query, opening-is}
 use Rattle.demand.specs.Sequences.{follows-before, line-changed, next-reached, lines-reached, lines-keep, reached, reached-before}
 
 -- No call is refused
@@ -95,47 +97,6 @@ module _ (q : Query) (f t : List ℤ) (g : legal f ≡ true) (h : legal t ≡ tr
       omega arith
 
 -- In a settled session
-
--- read out, all is secured
-read-out-secured : (f t : List ℤ) (s : Session) (p : Pair) → aTableIsEmpty s ≡ false → bothReadOut s ≡ true → secured f t s p ≡ true
-unfolding secured
-read-out-secured f t s p e b =
-    let rows = none-true (eqb (s .rows .field .0) 0) (eqb (s .rows .trim .0) 0) e in
-    let ends = both-true (eqb (s .depth .field .0) (s .rows .field .0)) (eqb (s .depth .trim .0) (s .rows .trim .0)) b in
-    rw (
-      eqb-true (s .depth .field .0) (s .rows .field .0) (ends .0),
-      eqb-true (s .depth .trim .0) (s .rows .trim .0) (ends .1),
-      rows .0,
-      rows .1,
-      eq-eqb (s .rows .field .0) (s .rows .field .0) refl,
-      eq-eqb (s .rows .trim .0) (s .rows .trim .0) refl,
-    )
-
--- the take has a secured pair to give, or the list is complete
-settled-take : {q : Query} {f t : List ℤ} {out : List Pair} {s : Session} → Reached q f t out s → settled f t s ≡ true → givesPair f t s ≡ false
-    → finished s ≡ true
-unfolding settled givesPair finished
-settled-take {q} {f} {t} {out} {s} a e n =
-    go (eqb (s .out) (s .query .k)) (aTableIsEmpty s) (bothReadOut s) (ltb 0 (s .held)) refl refl refl refl e n
-  where
-    full : Bool
-    full = eqb (s .out + s .held) (s .query .k) && every (secured f t s) (heldPairs s)
-
-    full-parts : full ≡ true → (s .out + s .held ≡ s .query .k) × (every (secured f t s) (heldPairs s) ≡ true)
-    full-parts w =
-        let b = both-true (eqb (s .out + s .held) (s .query .k)) (every (secured f t s) (heldPairs s)) w in
-        (eqb-true (s .out + s .held) (s .query .k) (b .0), b .1)
-
-    go : (k e b h : Bool) → eqb (s .out) (s .query .k) ≡ k → aTableIsEmpty s ≡ e → bothReadOut s ≡ b → ltb 0 (s .held) ≡ h
-        → (e || (b || (k || full))) ≡ true → (h && secured f t s (firstHeld s)) ≡ false → (k || (e || (b && eqb (s .held) 0))) ≡ true
-    go true e b h ek ee eb eh w n = refl
-    go false true b h ek ee eb eh w n = refl
-    go false false true true ek ee eb eh w n = clash (read-out-secured f t s (firstHeld s) ee eb) n
-    go false false true false ek ee eb eh w n = eq-eqb (s .held) 0 (omega (arith, ltb-false 0 (s .held) eh))
-    go false false false true ek ee eb eh w n =
-        clash (every-at (secured f t s) (firstHeld s) (full-parts w .1) (first-mem a (ltb-true 0 (s .held) eh))) n
-    go false false false false ek ee eb eh w n =
-        absurd (eqb-false (s .out) (s .query .k) ek (omega (arith, ltb-false 0 (s .held) eh, full-parts w .0)))
 
 call-waits : {q : Query} {f t : List ℤ} {out : List Pair} {s : Session} → Reached q f t out s → (c : Call) (x : Step) → settled f t s ≡ true
     → x .answer ≡ NotYet → Happened f t s c x → ⊥

@@ -88,15 +88,6 @@ changed f t s c g (giving a b d e) = fewer d e
 changed f t s c g (finishing a b d h e) = kept (ap (λ g. g .session) e) (ap (λ g. broughtBy (g .answer) []) e) (ap (λ g. readsOf (g .answer)) e)
 changed f t s c g (waiting a b d h e) = kept (ap (λ g. g .session) e) (ap (λ g. broughtBy (g .answer) []) e) (ap (λ g. readsOf (g .answer)) e)
 
--- a pair is given while one is held
-pub gives-some : (f t : List ℤ) (s : Session) → givesPair f t s ≡ true → 1 ≤ s .held
-unfolding givesPair
-gives-some f t s e = ltb-true 0 (s .held) (both-true (ltb 0 (s .held)) (secured f t s (firstHeld s)) e .0)
-
-pub gives-secured : (f t : List ℤ) (s : Session) → givesPair f t s ≡ true → secured f t s (firstHeld s) ≡ true
-unfolding givesPair
-gives-secured f t s e = both-true (ltb 0 (s .held)) (secured f t s (firstHeld s)) e .1
-
 -- Over tables alike in the rows read
 
 module _ {q : Query} {f t : List ℤ} {out : List Pair} {s : Session} (a : Reached q f t out s) (f′ t′ : List ℤ) (g : legal f′ ≡ true)

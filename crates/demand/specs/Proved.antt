@@ -17,12 +17,13 @@ use Rattle.rules.specs.Take.{firstHeld, givesPair}
 use Rattle.rules.specs.Calls.{queryCode}
 use Rattle.instance.specs.Pairs.{Fits}
 use Rattle.instance.specs.Keeping.{Reached}
-use Rattle.instance.specs.Taking.{first-inside, first-new, finished-complete}
+use Rattle.instance.specs.Opening.{query-wanted}
+use Rattle.instance.specs.Taking.{gives-some, gives-secured, first-inside, first-new, finished-complete}
 use Rattle.instance.specs.Securing.{secured-best}
 use Rattle.demand.specs.Demand.{Call, Line, Qualifying, sumOf, outs, IsIn, byRules, over, Brought, Complete, Statement}
 use Rattle.demand.specs.Steps.{Happened, refused, settling, going, giving, finishing, waiting}
-use Rattle.demand.specs.Outcomes.{differ, gives-some, gives-secured}
-use Rattle.demand.specs.Openings.{query-wanted, opening-query, opening-is, opens-alike}
+use Rattle.demand.specs.Outcomes.{differ}
+use Rattle.demand.specs.Openings.{opening-query, opening-is, opens-alike}
 use Rattle.demand.specs.Sequences.{follows-rules, lines-within, lines-same, reached, reached-before}
 
 -- Pairs by their rows

@@ -18,14 +18,15 @@ use Rattle.rules.specs.Read.{fieldNext, readBlock}
 use Rattle.rules.specs.Take.{movedOut}
 use Rattle.rules.specs.Sure.{Sure}
 use Rattle.instance.specs.Keeping.{Reached}
+use Rattle.instance.specs.Opening.{query-wanted}
 use Rattle.instance.specs.Reading.{open-reached, read-reached}
-use Rattle.instance.specs.Taking.{take-reached}
+use Rattle.instance.specs.Taking.{gives-some, take-reached}
 use Rattle.instance.specs.Depths.{read-grows, read-limit}
 use Rattle.instance.specs.SameRows.{SameRows, same-less}
 use Rattle.demand.specs.Demand.{Line, Sequence, promised, isAccepted, Follows, broughtBy, outs, lastRecord, byRules, over}
 use Rattle.demand.specs.Steps.{Happened, Changed, kept, deeper, fewer}
-use Rattle.demand.specs.Openings.{query-wanted, opening-query, opening-is}
-use Rattle.demand.specs.Outcomes.{gives-some, happened, changed, same-call}
+use Rattle.demand.specs.Openings.{opening-query, opening-is}
+use Rattle.demand.specs.Outcomes.{happened, changed, same-call}
 
 -- Transcripts in parts
 

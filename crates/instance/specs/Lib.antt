@@ -20,4 +20,6 @@ pub mod Unrefused
 pub mod Cutting
 pub mod Unskipped
 pub mod UnskippedLaws
+pub mod Opening
+pub mod Settled
 pub mod WholeList

@@ -1,27 +1,37 @@
 -- A take moves the first held pair out, and finds the list complete. Assumes nothing.
 use mathlib.Core.Path.{_≡_, refl, sym, ap, subst, _∙_}
-use mathlib.Core.Bool.{true, _&&_, _||_}
+use mathlib.Core.Bool.{Bool, true, _&&_, _||_}
 use mathlib.Core.List.{List, [], _∷_, _++_, List·Memᴰ, List·Memᴰ·head}
 use mathlib.Core.Logic.{_⊎_, inl, inr, ⊎-elim}
 use Prim.Native.Nat.{ℕ, zero, suc, _-_, _≤_}
 use native.Mathlib.Omega.{arith}
-use lib.Dec.{eqb}
+use lib.Dec.{eqb, ltb}
 use lib.IntN.{ℤ}
 use lib.ListN.{length, getD, take, drop, length-append, length-take}
 use lib.Seq.{take-append-le}
-use borrow.Author.Tests.{eqb-true}
+use borrow.Author.Tests.{eqb-true, ltb-true}
 use Rattle.lists.specs.Bools.{both-true, one-true}
+use Rattle.lists.specs.Lists.{every}
 use Rattle.join.specs.Held.{Holds}
 use Rattle.join.specs.HeldLaws.{holds-out, first-highest, held-inside, held-new, none-held}
 use Rattle.rules.specs.declared.Pair.{Pair}
 use Rattle.rules.specs.declared.Query.{Query}
 use Rattle.rules.specs.declared.Session.{Session}
 use Rattle.rules.specs.Tables.{rowCount, ahead}
-use Rattle.rules.specs.Session.{noPair, heldPairs, bothReadOut, aTableIsEmpty, fieldReadOut, trimReadOut}
-use Rattle.rules.specs.Take.{firstHeld, movedOut, finished}
+use Rattle.rules.specs.Session.{noPair, heldPairs, bothReadOut, aTableIsEmpty, fieldReadOut, trimReadOut, secured}
+use Rattle.rules.specs.Take.{firstHeld, givesPair, movedOut, finished}
 use Rattle.instance.specs.Pairs.{Fits, Region}
 use Rattle.instance.specs.PairsLaws.{pair-rank}
 use Rattle.instance.specs.Keeping.{Reached}
+
+-- a pair is given while one is held, and secured
+pub gives-some : (f t : List ℤ) (s : Session) → givesPair f t s ≡ true → 1 ≤ s .held
+unfolding givesPair
+gives-some f t s e = ltb-true 0 (s .held) (both-true (ltb 0 (s .held)) (secured f t s (firstHeld s)) e .0)
+
+pub gives-secured : (f t : List ℤ) (s : Session) → givesPair f t s ≡ true → secured f t s (firstHeld s) ≡ true
+unfolding givesPair
+gives-secured f t s e = both-true (ltb 0 (s .held)) (secured f t s (firstHeld s)) e .1
 
 -- the first of n places, and the n - 1 after it when they move up
 places-first : (n : ℕ) (l : List Pair) → length (take n l) ≡ n → 1 ≤ n
@@ -46,6 +56,13 @@ module _ {q : Query} {f t : List ℤ} {out : List Pair} {s : Session} (a : Reach
 
     pub first-mem : List·Memᴰ (firstHeld s) (heldPairs s)
     first-mem = subst (List·Memᴰ (firstHeld s)) (sym (first-held .1)) (List·Memᴰ·head refl)
+
+    -- what holds of each held pair holds of those left
+    pub moved-every : (test : Pair → Bool) → every test (heldPairs s) ≡ true → every test (heldPairs (movedOut s)) ≡ true
+    unfolding every
+    moved-every test e =
+        let b = both-true (test (firstHeld s)) (every test (first-held .0)) (subst (λ l. every test l ≡ true) (first-held .1) e) in
+        subst (λ l. every test l ≡ true) (sym (first-held .2)) (b .1)
 
     -- it is a pair of the region
     pub first-inside : R (firstHeld s)
