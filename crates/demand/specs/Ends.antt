@@ -1,40 +1,37 @@
 -- Fact 6, it gets there: over the two tables no call is refused, reads are few, and in a settled session a take answers a pair or finished. Assumes legal tables.
 use mathlib.Core.Path.{_≡_, refl, sym, ap, ap₂, subst, _∙_}
-use mathlib.Core.Bool.{Bool, true, false, cond, _&&_, _||_}
+use mathlib.Core.Bool.{Bool, true, false, cond}
 use mathlib.Core.List.{List, [], _∷_, _++_}
-use Prim.Native.Nat.{ℕ, _+_, _≤_, _<_}
+use Prim.Native.Nat.{_+_, _≤_}
 use native.Mathlib.Omega.{arith}
-use lib.Dec.{eqb, ltb}
+use lib.Dec.{eqb}
 use lib.IntN.{ℤ}
-use borrow.Author.Tests.{eqb-true, eqb-false, eq-eqb, ltb-true, ltb-false}
-use Rattle.lists.specs.Lists.{every}
+use borrow.Author.Tests.{eq-eqb}
 use Rattle.lists.specs.Words.{total}
-use Rattle.lists.specs.Bools.{clash, both-true, none-true}
-use Rattle.lists.specs.Parts.{every-at}
+use Rattle.lists.specs.Bools.{clash}
 use Rattle.rules.specs.declared.Session.{Session}
 use Rattle.rules.specs.declared.Step.{Step}
 use Rattle.rules.specs.declared.Pair.{Pair}
 use Rattle.rules.specs.declared.Query.{Query}
 use Rattle.rules.specs.declared.Answer.the-variants.{Read, Settled, Given, NotYet, Finished}
 use Rattle.rules.specs.Tables.{rowCount, legal}
-use Rattle.rules.specs.Session.{heldPairs, aTableIsEmpty, bothReadOut, secured, settled}
-use Rattle.rules.specs.Read.{fieldNext, newDepth, oldDepth, readTable, readBlock}
+use Rattle.rules.specs.Session.{settled}
+use Rattle.rules.specs.Read.{readBlock}
 use Rattle.rules.specs.Take.{firstHeld, givesPair, movedOut, finished}
 use Rattle.rules.specs.Numbers.{number}
-use Rattle.rules.specs.Calls.{queryCode, callCode, newBlockCode, step, readCall, takeCall}
+use Rattle.rules.specs.Calls.{queryCode, callCode, newBlockCode, step, openCall, readCall, takeCall}
 use Rattle.instance.specs.Keeping.{Reached}
-use Rattle.instance.specs.Opening.{query-wanted}
+use Rattle.instance.specs.Opening.{legal-opened, query-wanted}
 use Rattle.instance.specs.Sound.{Sound}
 use Rattle.instance.specs.Taking.{gives-some}
 use Rattle.instance.specs.Unrefused.{sound-open, sound-read, sound-take, reached-fits}
-use Rattle.instance.specs.Choosing.{read-raises}
 use Rattle.instance.specs.Settled.{settled-take}
 use Rattle.instance.specs.Depths.{depths, read-deeper}
 use Rattle.instance.specs.Accepting.{call-accepted, new-block-accepted}
 use Rattle.demand.specs.Demand.{Call, reading, taking, Line, promised, isAccepted, Sequence, Follows, lastRecord}
-use Rattle.demand.specs.GetsThere.{GetsThere}
-use Rattle.demand.specs.Steps.{Happened, refused, settling, going, giving, finishing, waiting, readsOf, Changed, kept, deeper, fewer}
-use Rattle.demand.specs.Outcomes.{differ}
+use Rattle.demand.specs.GetsThere.{GetsThere, runOf}
+use Rattle.demand.specs.Steps.{Happened, readsOf, Changed, kept, deeper, fewer}
+use Rattle.demand.specs.Outcomes.{said-not-yet}
 use Rattle.demand.specs.Openings.{opening-query, opening-is}
 use Rattle.demand.specs.Sequences.{follows-before, line-changed, next-reached, lines-reached, lines-keep, reached, reached-before}
 
@@ -84,7 +81,8 @@ module _ (q : Query) (f t : List ℤ) (g : legal f ≡ true) (h : legal t ≡ tr
       → depths s + readsOf (x .answer) ≤ depths (x .session)
   unfolding movedOut
   line-reads x a (kept e o r) = omega (arith, r, ap depths e)
-  line-reads {s = s} x a (deeper d e) = subst (λ y. depths s + readsOf (y .answer) ≤ depths (y .session)) (sym e) (omega (arith, read-deeper a size d))
+  line-reads {s = s} x a (deeper d e) =
+      subst (λ y. depths s + readsOf (y .answer) ≤ depths (y .session)) (sym e) (omega (arith, read-deeper a size d))
   line-reads {s = s} x a (fewer d e) = subst (λ y. depths s + readsOf (y .answer) ≤ depths (y .session)) (sym e) (omega arith)
 
   lines-reads : (lines : List Line) {out : List Pair} {s : Session} → Reached q f t out s → Follows f t s lines
@@ -100,12 +98,7 @@ module _ (q : Query) (f t : List ℤ) (g : legal f ≡ true) (h : legal t ≡ tr
 
 call-waits : {q : Query} {f t : List ℤ} {out : List Pair} {s : Session} → Reached q f t out s → (c : Call) (x : Step) → settled f t s ≡ true
     → x .answer ≡ NotYet → Happened f t s c x → ⊥
-call-waits a c x e w (refused n z i) = differ cc
-call-waits a c x e w (settling i b d j) = differ cc
-call-waits a c x e w (going i b d k j) = differ cc
-call-waits a c x e w (giving i b d j) = differ cc
-call-waits a c x e w (finishing i b d k j) = differ cc
-call-waits a c x e w (waiting i b d k j) = clash (settled-take a e d) k
+call-waits {f = f} {t = t} {s = s} a c x e w o = let d = said-not-yet f t s c x w o in clash (settled-take a e (d .0)) (d .1)
 
 -- Of the whole sequence
 
@@ -139,3 +132,20 @@ gets-there q f t opening lines w = record {
         ap (λ x. eqb (number (x .answer)) 0) gave
         ∙ call-unrefused q f t g h size (opening-query w) (reached-before w before after l e .0)
         (lines-sound q f t g h size before (reached w) sound (c .0)) (l .call)
+
+-- There are such sequences: any calls whatever, over any two legal tables
+
+run-follows : (f t : List ℤ) (s : Session) (calls : List Call) → Follows f t s (runOf f t s calls)
+unfolding runOf
+run-follows f t s [] = tt
+run-follows f t s (c ∷ calls) = (refl, λ e. (refl, refl), run-follows f t (promised c f t s .session) calls)
+
+pub run-sequence : (q : Query) (f t : List ℤ) → legal f ≡ true → legal t ≡ true → queryCode q ≡ 0 → (calls : List Call)
+    → Sequence q f t (openCall q f t) (runOf f t (openCall q f t .session) calls)
+run-sequence q f t g h k calls = record {
+  field-legal = g;
+  trim-legal = h;
+  opening-promised = refl;
+  opening-accepted = ap (λ x. x .answer) (legal-opened q f t k g h);
+  calls = run-follows f t (openCall q f t .session) calls;
+}

@@ -6,3 +6,4 @@ pub mod Sequences
 pub mod Proved
 pub mod GetsThere
 pub mod Ends
+pub mod FinishedBest

@@ -7,7 +7,7 @@ use native.Mathlib.Omega.{arith}
 use lib.Dec.{eqb, ltb}
 use lib.IntN.{ℤ}
 use borrow.Author.Tests.{eqb-true, eqb-false, eq-eqb, ltb-true}
-use Rattle.lists.specs.Bools.{fails, both-true}
+use Rattle.lists.specs.Bools.{fails}
 use Rattle.rules.specs.declared.Session.{Session}
 use Rattle.rules.specs.declared.Step.{Step}
 use Rattle.rules.specs.declared.Pair.{Pair}
@@ -28,7 +28,7 @@ use Rattle.demand.specs.Demand.{Call, reading, taking, promised, brought
 use Rattle.demand.specs.Steps.{Happened, refused, settling, going, giving, finishing, waiting, readsOf, Changed, kept, deeper, fewer}
 
 -- answers of two kinds are never the same: `differ cc`
-pub differ {ℓ} : {C : Type ℓ} → _≡_ {A = ℕ} 0 1 → C
+differ {ℓ} : {C : Type ℓ} → _≡_ {A = ℕ} 0 1 → C
 differ e = absurd (omega arith)
 
 -- From the promise to what happened
@@ -87,6 +87,33 @@ changed f t s c g (going a b d h e) = deeper d e
 changed f t s c g (giving a b d e) = fewer d e
 changed f t s c g (finishing a b d h e) = kept (ap (λ g. g .session) e) (ap (λ g. broughtBy (g .answer) []) e) (ap (λ g. readsOf (g .answer)) e)
 changed f t s c g (waiting a b d h e) = kept (ap (λ g. g .session) e) (ap (λ g. broughtBy (g .answer) []) e) (ap (λ g. readsOf (g .answer)) e)
+
+-- what an answer says
+pub said-given : (f t : List ℤ) (s : Session) (c : Call) (g : Step) (p : Pair) → g .answer ≡ Given p → Happened f t s c g
+    → (givesPair f t s ≡ true) × (firstHeld s ≡ p)
+said-given f t s c g p w (refused n z e) = differ cc
+said-given f t s c g p w (settling i b d e) = differ cc
+said-given f t s c g p w (going i b d k e) = differ cc
+said-given f t s c g p w (giving i b d e) = (d, cc)
+said-given f t s c g p w (finishing i b d k e) = differ cc
+said-given f t s c g p w (waiting i b d k e) = differ cc
+
+pub said-finished : (f t : List ℤ) (s : Session) (c : Call) (g : Step) → g .answer ≡ Finished → Happened f t s c g → finished s ≡ true
+said-finished f t s c g w (refused n z e) = differ cc
+said-finished f t s c g w (settling i b d e) = differ cc
+said-finished f t s c g w (going i b d k e) = differ cc
+said-finished f t s c g w (giving i b d e) = differ cc
+said-finished f t s c g w (finishing i b d k e) = k
+said-finished f t s c g w (waiting i b d k e) = differ cc
+
+pub said-not-yet : (f t : List ℤ) (s : Session) (c : Call) (g : Step) → g .answer ≡ NotYet → Happened f t s c g
+    → (givesPair f t s ≡ false) × (finished s ≡ false)
+said-not-yet f t s c g w (refused n z e) = differ cc
+said-not-yet f t s c g w (settling i b d e) = differ cc
+said-not-yet f t s c g w (going i b d k e) = differ cc
+said-not-yet f t s c g w (giving i b d e) = differ cc
+said-not-yet f t s c g w (finishing i b d k e) = differ cc
+said-not-yet f t s c g w (waiting i b d k e) = (d, k)
 
 -- Over tables alike in the rows read
 

@@ -21,8 +21,8 @@ use Rattle.instance.specs.Opening.{query-wanted}
 use Rattle.instance.specs.Taking.{gives-some, gives-secured, first-inside, first-new, finished-complete}
 use Rattle.instance.specs.Securing.{secured-best}
 use Rattle.demand.specs.Demand.{Call, Line, Qualifying, sumOf, outs, IsIn, byRules, over, Brought, Complete, Statement}
-use Rattle.demand.specs.Steps.{Happened, refused, settling, going, giving, finishing, waiting}
-use Rattle.demand.specs.Outcomes.{differ}
+use Rattle.demand.specs.Steps.{Happened}
+use Rattle.demand.specs.Outcomes.{said-given, said-finished}
 use Rattle.demand.specs.Openings.{opening-query, opening-is, opens-alike}
 use Rattle.demand.specs.Sequences.{follows-rules, lines-within, lines-same, reached, reached-before}
 
@@ -74,25 +74,12 @@ module _ {q : Query} {f t : List ℤ} (g : legal f ≡ true) (h : legal t ≡ tr
       }
 
   call-brought : (c : Call) (x : Step) (p : Pair) → x .answer ≡ Given p → Happened f t s c x → Brought q f t before p
-  call-brought c x p w (refused n z e) = differ cc
-  call-brought c x p w (settling i b d e) = differ cc
-  call-brought c x p w (going i b d k e) = differ cc
-  call-brought c x p w (giving i b d e) = subst (Brought q f t before) same (first-brought d)
-    where
-      same : firstHeld s ≡ p
-      same = cc
-  call-brought c x p w (finishing i b d k e) = differ cc
-  call-brought c x p w (waiting i b d k e) = differ cc
+  call-brought c x p w o = let d = said-given f t s c x p w o in subst (Brought q f t before) (d .1) (first-brought (d .0))
 
   call-complete : (c : Call) (x : Step) → x .answer ≡ Finished → Happened f t s c x → Complete q f t before
-  call-complete c x w (refused n z e) = differ cc
-  call-complete c x w (settling i b d e) = differ cc
-  call-complete c x w (going i b d k e) = differ cc
-  call-complete c x w (giving i b d e) = differ cc
-  call-complete c x w (finishing i b d k e) =
+  call-complete c x w o =
       ⊎-elim inl (λ all. inr (λ i j k. mem-in (named f t i j) (outs before) (all (named f t i j) (named-fits q f t i j k))))
-      (finished-complete a k)
-  call-complete c x w (waiting i b d k e) = differ cc
+      (finished-complete a (said-finished f t s c x w o))
 
 -- The sequence
 

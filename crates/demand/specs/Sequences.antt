@@ -35,7 +35,7 @@ pub follows-before : (f t : List ℤ) (before rest : List Line) (s : Session) �
 follows-before f t [] rest s h = (tt, h)
 follows-before f t (l ∷ before) rest s h = let r = follows-before f t before rest (l .gave .session) (h .2) in ((h .0, h .1, r .0), r .1)
 
-brought-front : (a : Answer) (l : List Pair) → broughtBy a l ≡ broughtBy a [] ++ l
+pub brought-front : (a : Answer) (l : List Pair) → broughtBy a l ≡ broughtBy a [] ++ l
 brought-front (Refused n) l = refl
 brought-front Opened l = refl
 brought-front Read l = refl

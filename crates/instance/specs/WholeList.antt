@@ -1,27 +1,23 @@
 -- One whole query: it reads until settled and takes until finished, and the list's sums are the highest. Assumes legal tables and an accepted query.
-use mathlib.Core.Path.{_≡_, refl, sym, ap, subst, subst₂, _∙_}
-use mathlib.Core.Bool.{Bool, true, false, cond, _&&_, _||_}
+use mathlib.Core.Path.{_≡_, refl, sym, ap, subst, subst₂}
+use mathlib.Core.Bool.{Bool, true, false}
 use mathlib.Core.List.{List, [], _∷_, _++_, map, append-nil, append-assoc, List·Memᴰ}
-use mathlib.Core.Logic.{_⊎_, inl, inr, ⊎-elim, _↔_}
+use mathlib.Core.Logic.{_⊎_, inl, _↔_}
 use Prim.Native.Nat.{ℕ, zero, suc, _+_, _*_, _-_, _≤_, _<_}
 use native.Mathlib.Omega.{arith}
-use lib.Dec.{eqb}
 use lib.IntN.{ℤ}
-use lib.ListN.{length, take, drop, length-append}
+use lib.ListN.{length, length-append}
 use lib.Seq.{take-all}
 use borrow.Author.Tests.{eq-eqb}
 use Rattle.lists.specs.Lists.{best}
 use Rattle.lists.specs.Words.{Distinct}
 use Rattle.join.specs.BestFirst.{BestFirst}
 use Rattle.join.specs.BestFirstLaws.{best-first-sums}
-use Rattle.rules.specs.declared.FieldRows.{FieldRows}
-use Rattle.rules.specs.declared.TrimRows.{TrimRows}
 use Rattle.rules.specs.declared.Pair.{Pair}
 use Rattle.rules.specs.declared.Query.{Query}
 use Rattle.rules.specs.declared.Session.{Session}
-use Rattle.rules.specs.declared.Step.{Step}
-use Rattle.rules.specs.declared.Answer.the-variants.{Refused, Opened, Read, Settled, Given, NotYet, Finished}
-use Rattle.rules.specs.Tables.{rowCount, legal, Block, qualifying}
+use Rattle.rules.specs.declared.Answer.the-variants.{Read, Settled, Given, Finished}
+use Rattle.rules.specs.Tables.{rowCount, legal, qualifying}
 use Rattle.rules.specs.Session.{opened, settled}
 use Rattle.rules.specs.Read.{rowsBetween, fieldNext, readBlock}
 use Rattle.rules.specs.Take.{firstHeld, givesPair, movedOut, finished}
@@ -29,7 +25,7 @@ use Rattle.rules.specs.Calls.{queryCode, callCode, newBlockCode, step, readCall
 use Rattle.rules.specs.Query.{readUntilSettled, takeUntilFinished, settledSession, list}
 use Rattle.rules.specs.Sure.{whole, qualifyingSums}
 use Rattle.instance.specs.RowsLaws.{legal-four}
-use Rattle.instance.specs.Pairs.{Fits, Between}
+use Rattle.instance.specs.Pairs.{Fits}
 use Rattle.instance.specs.PairsLaws.{pair-rank, qualifying-distinct, mem-qualifying}
 use Rattle.instance.specs.Keeping.{Reached}
 use Rattle.instance.specs.Sound.{Sound}
@@ -71,7 +67,8 @@ until-deeper : (n : ℕ) (f t : List ℤ) (s r : Session) → readCall f t s ≡
 unfolding readUntilSettled
 until-deeper n f t s r e = rw (e, readUntilSettled) (ap (λ x. readUntilSettled n f t (x .session)) e)
 
-until-fewer : (n : ℕ) (f t : List ℤ) (s r : Session) (p : Pair) → takeCall f t s ≡ step (Given p) r → takeUntilFinished (suc n) f t s ≡ p ∷ takeUntilFinished n f t r
+until-fewer : (n : ℕ) (f t : List ℤ) (s r : Session) (p : Pair) → takeCall f t s ≡ step (Given p) r
+    → takeUntilFinished (suc n) f t s ≡ p ∷ takeUntilFinished n f t r
 unfolding takeUntilFinished
 until-fewer n f t s r p e = rw (e, takeUntilFinished) (ap (λ x. p ∷ takeUntilFinished n f t (x .session)) e)
 
@@ -149,7 +146,8 @@ listed-none {q} {f} {t} {out} {s} a e =
 
 module _ (q : Query) (f t : List ℤ) (g : legal f ≡ true) (h : legal t ≡ true) (accepted : queryCode q ≡ 0) (size : 1 ≤ q .block) where
   -- at most k pairs come out, so that the bound is never what ends it
-  pub finishes : (n : ℕ) {out : List Pair} {s : Session} → SettledAt q f t out s → q .k < length out + n → Listed q f t out (takeUntilFinished n f t s)
+  pub finishes : (n : ℕ) {out : List Pair} {s : Session} → SettledAt q f t out s → q .k < length out + n
+      → Listed q f t out (takeUntilFinished n f t s)
   finishes zero a k = absurd (omega (arith, a .reached .keeping .holds .room, ap (λ q. q .k) (a .reached .query)))
   finishes (suc n) {out} {s} a k = go (givesPair f t s) refl (λ x y. finishes n x y)
     where
@@ -164,9 +162,14 @@ module _ (q : Query) (f t : List ℤ) (g : legal f ≡ true) (h : legal t ≡ tr
           → Listed q f t out (takeUntilFinished (suc n) f t s)
       go true e next =
           let some : 1 ≤ s .held = gives-some f t s e in
-          let moved : SettledAt q f t (out ++ p ∷ []) (movedOut s) = record { reached = take-reached (a .reached) some; sound = sound-take (a .reached) (a .sound) some; is-settled = settled-moves (a .reached) some (a .is-settled) } in
+          let moved : SettledAt q f t (out ++ p ∷ []) (movedOut s) = record {
+            reached = take-reached (a .reached) some;
+            sound = sound-take (a .reached) (a .sound) some;
+            is-settled = settled-moves (a .reached) some (a .is-settled);
+          } in
           subst (Listed q f t out) (sym (until-fewer n f t s (movedOut s) p (take-gives f t s passes e)))
-          (listed-more p (takeUntilFinished n f t (movedOut s)) (secured-best (a .reached) g h some (gives-secured f t s e)) (next moved (omega (arith, length-append out (p ∷ [])))))
+          (listed-more p (takeUntilFinished n f t (movedOut s)) (secured-best (a .reached) g h some (gives-secured f t s e))
+          (next moved (omega (arith, length-append out (p ∷ [])))))
       go false e next =
           let done : finished s ≡ true = settled-take (a .reached) (a .is-settled) e in
           subst (Listed q f t out) (sym (until-finished n f t s (take-finishes f t s passes e done))) (listed-none (a .reached) done)
@@ -177,6 +180,14 @@ module _ (q : Query) (f t : List ℤ) (g : legal f ≡ true) (h : legal t ≡ tr
 whole-part : (t : List ℤ) → legal t ≡ true → rowsBetween t 0 (rowCount t) ≡ whole t
 whole-part t g = ap (λ l. record { start = 0; rows = l }) (take-all (4 * (rowCount t - 0)) t (omega (arith, legal-four t g)))
 
+-- every pair that fits, once
+pub all-fit : (radius : ℕ) (f t : List ℤ) → legal f ≡ true → legal t ≡ true → (p : Pair)
+    → Fits radius f t p ↔ List·Memᴰ p (qualifying radius (whole f) (whole t))
+all-fit radius f t g h p =
+    let m = mem-qualifying radius f t 0 (rowCount f) 0 (rowCount t) (omega arith) (omega arith) p in
+    subst₂ (λ x y. Fits radius f t p ↔ List·Memᴰ p (qualifying radius x y)) (whole-part f g) (whole-part t h)
+    (λ k. m .1 (record { fits = k; field-part = omega (arith, k .field-row); trim-part = omega (arith, k .trim-row) }), λ i. m .0 i .fits)
+
 module _ (q : Query) (f t : List ℤ) (g : legal f ≡ true) (h : legal t ≡ true) (accepted : queryCode q ≡ 0) where
   size : 1 ≤ q .block
   size = query-wanted q accepted .1
@@ -185,22 +196,20 @@ module _ (q : Query) (f t : List ℤ) (g : legal f ≡ true) (h : legal t ≡ tr
   pub settled-session : SettledAt q f t [] (settledSession q f t)
   unfolding settledSession opened
   settled-session =
-      subst (λ x. SettledAt q f t [] (readUntilSettled (x .session .rows .field .0 + x .session .rows .trim .0 + 1) f t (x .session))) (sym (legal-opened q f t accepted g h))
-      (settles q f t g h accepted size (rowCount f + rowCount t + 1) (open-reached q f t) (sound-open q (record { 0 = rowCount f }) (record { 0 = rowCount t })) (omega arith))
+      subst (λ x. SettledAt q f t [] (readUntilSettled (x .session .rows .field .0 + x .session .rows .trim .0 + 1) f t (x .session)))
+      (sym (legal-opened q f t accepted g h))
+      (settles q f t g h accepted size (rowCount f + rowCount t + 1) (open-reached q f t)
+      (sound-open q (record { 0 = rowCount f }) (record { 0 = rowCount t })) (omega arith))
 
   -- and takes until finished
   pub list-listed : Listed q f t [] (list q f t)
   unfolding list
   list-listed = finishes q f t g h accepted size (q .k + 1) settled-session (omega arith)
 
-  -- every pair that fits, once
-  all-fit : (p : Pair) → Fits (q .radius) f t p ↔ List·Memᴰ p (qualifying (q .radius) (whole f) (whole t))
-  all-fit p =
-      let m = mem-qualifying (q .radius) f t 0 (rowCount f) 0 (rowCount t) (omega arith) (omega arith) p in
-      subst₂ (λ x y. Fits (q .radius) f t p ↔ List·Memᴰ p (qualifying (q .radius) x y)) (whole-part f g) (whole-part t h)
-      (λ k. m .1 (record { fits = k; field-part = omega (arith, k .field-row); trim-part = omega (arith, k .trim-row) }), λ i. m .0 i .fits)
-
   -- the sums of the list are the k highest of all pairs that qualify
   pub list-best : map (λ p. p .sum) (list q f t) ≡ best (q .k) (qualifyingSums (q .radius) f t)
   unfolding qualifyingSums
-  list-best = best-first-sums pair-rank (Fits (q .radius) f t) (q .k) (qualifying (q .radius) (whole f) (whole t)) (list q f t) (qualifying-distinct (q .radius) (whole f) (whole t)) all-fit (list-listed .once) (list-listed .fit) (list-listed .best-first) (list-listed .room) (list-listed .complete)
+  list-best =
+      best-first-sums pair-rank (Fits (q .radius) f t) (q .k) (qualifying (q .radius) (whole f) (whole t)) (list q f t)
+      (qualifying-distinct (q .radius) (whole f) (whole t)) (all-fit (q .radius) f t g h) (list-listed .once) (list-listed .fit)
+      (list-listed .best-first) (list-listed .room) (list-listed .complete)
