@@ -140,37 +140,32 @@ same-blocks field s new t u depth (suc n) e =
     ap₂ (λ r old. meet r (cond field new old) (cond field old new)) (same-blocks field s new t u depth n e)
     (same-part depth t u e (n * s .query .block) (min (n * s .query .block + s .query .block) depth) (omega arith))
 
-pub same-own : (field : Bool) (f t f′ t′ : List ℤ) (b d e : ℕ) → SameRows (cond field b d) f f′ → SameRows (cond field e b) t t′
+same-own : (field : Bool) (f t f′ t′ : List ℤ) (b d e : ℕ) → SameRows (cond field b d) f f′ → SameRows (cond field e b) t t′
     → SameRows b (cond field f t) (cond field f′ t′)
 same-own true f t f′ t′ b d e h k = h
 same-own false f t f′ t′ b d e h k = k
 
-pub same-other : (field : Bool) (f t f′ t′ : List ℤ) (b d e : ℕ) → SameRows (cond field b d) f f′ → SameRows (cond field e b) t t′
+same-other : (field : Bool) (f t f′ t′ : List ℤ) (b d e : ℕ) → SameRows (cond field b d) f f′ → SameRows (cond field e b) t t′
     → SameRows (cond field e d) (cond field t f) (cond field t′ f′)
 same-other true f t f′ t′ b d e h k = k
 same-other false f t f′ t′ b d e h k = h
 
-pub same-read : (field : Bool) (f t f′ t′ : List ℤ) (s : Session) → SameRows (cond field (newDepth field s) (s .depth .field .0)) f f′
-    → SameRows (cond field (s .depth .trim .0) (newDepth field s)) t t′ → readTable field f′ t′ s ≡ readTable field f t s
-unfolding readTable
-same-read field f t f′ t′ s h k =
-    ap (readTo field b)
-    (ap (λ new. meetBlocks field s new (cond field t′ f′) c n)
-    (same-part b (cond field f t) (cond field f′ t′) (same-own field f t f′ t′ b d e h k) (oldDepth field s) b (omega arith))
-    ∙ same-blocks field s (rowsBetween (cond field f t) (oldDepth field s) b) (cond field t f) (cond field t′ f′) c n
-    (same-other field f t f′ t′ b d e h k))
-  where
-    d : ℕ
-    d = s .depth .field .0
+-- the new block and the other table's rows, of tables alike down to the depths after the read
+module _ (field : Bool) (f t f′ t′ : List ℤ) (s : Session) (h : SameRows (cond field (newDepth field s) (s .depth .field .0)) f f′)
+    (k : SameRows (cond field (s .depth .trim .0) (newDepth field s)) t t′) where
+  pub same-new : rowsBetween (cond field f′ t′) (oldDepth field s) (newDepth field s) ≡ rowsBetween (cond field f t) (oldDepth field s) (newDepth field s)
+  same-new =
+      same-part (newDepth field s) (cond field f t) (cond field f′ t′)
+      (same-own field f t f′ t′ (newDepth field s) (s .depth .field .0) (s .depth .trim .0) h k) (oldDepth field s) (newDepth field s) (omega arith)
 
-    e : ℕ
-    e = s .depth .trim .0
+  pub same-old : SameRows (cond field (s .depth .trim .0) (s .depth .field .0)) (cond field t f) (cond field t′ f′)
+  same-old = same-other field f t f′ t′ (newDepth field s) (s .depth .field .0) (s .depth .trim .0) h k
 
-    b : ℕ
-    b = newDepth field s
-
-    c : ℕ
-    c = cond field e d
-
-    n : ℕ
-    n = blockCount (s .query .block) c
+  pub same-read : readTable field f′ t′ s ≡ readTable field f t s
+  unfolding readTable
+  same-read =
+      let c : ℕ = cond field (s .depth .trim .0) (s .depth .field .0) in
+      let n : ℕ = blockCount (s .query .block) c in
+      let new : Block = rowsBetween (cond field f t) (oldDepth field s) (newDepth field s) in
+      ap (readTo field (newDepth field s))
+      (ap (λ new. meetBlocks field s new (cond field t′ f′) c n) same-new ∙ same-blocks field s new (cond field t f) (cond field t′ f′) c n same-old)

@@ -24,7 +24,7 @@ use Rattle.instance.specs.Keeping.{Met, SameButHeld, ownRow, otherRow}
 use Rattle.instance.specs.PairsLaws.{pair-rank, qualifying-distinct}
 use Rattle.instance.specs.Meeting.{meet-held, meet-stored}
 use Rattle.instance.specs.Blocks.{mem-met, met-low, blocks-same}
-use Rattle.instance.specs.SameRows.{SameRows, same-part, same-own, same-other, same-read}
+use Rattle.instance.specs.SameRows.{SameRows, same-part, same-new, same-old, same-read}
 use Rattle.instance.specs.Cutting.{GoodAt, cut-same, cut-count, cut-legal, Passed, passed, read-good}
 use Rattle.instance.specs.Unskipped.{heldUnskipped, readUnskipped}
 
@@ -127,25 +127,11 @@ same-unskipped : (field : Bool) (f t f′ t′ : List ℤ) (s : Session) → Sam
     → SameRows (cond field (s .depth .trim .0) (newDepth field s)) t t′ → readUnskipped field f′ t′ s ≡ readUnskipped field f t s
 unfolding readUnskipped
 same-unskipped field f t f′ t′ s h k =
-    ap (λ new. heldUnskipped field s new (cond field t′ f′) c n)
-    (same-part b (cond field f t) (cond field f′ t′) (same-own field f t f′ t′ b d e h k) (oldDepth field s) b (omega arith))
-    ∙ same-held-unskipped field s (rowsBetween (cond field f t) (oldDepth field s) b) (cond field t f) (cond field t′ f′) c n
-    (same-other field f t f′ t′ b d e h k)
-  where
-    d : ℕ
-    d = s .depth .field .0
-
-    e : ℕ
-    e = s .depth .trim .0
-
-    b : ℕ
-    b = newDepth field s
-
-    c : ℕ
-    c = cond field e d
-
-    n : ℕ
-    n = blockCount (s .query .block) c
+    let c : ℕ = cond field (s .depth .trim .0) (s .depth .field .0) in
+    let n : ℕ = blockCount (s .query .block) c in
+    ap (λ new. heldUnskipped field s new (cond field t′ f′) c n) (same-new field f t f′ t′ s h k)
+    ∙ same-held-unskipped field s (rowsBetween (cond field f t) (oldDepth field s) (newDepth field s)) (cond field t f) (cond field t′ f′) c n
+    (same-old field f t f′ t′ s h k)
 
 to-field : (field : Bool) (d e size m n : ℕ) → d ≤ m → cond field (min (cond field d e + size) (cond field m n)) d ≤ m
 to-field true d e size m n h = omega arith
