@@ -6,7 +6,7 @@ use Prim.Native.Nat.{ℕ, _≤_}
 use native.Mathlib.Omega.{arith}
 use lib.Dec.{eqb, ltb}
 use lib.IntN.{ℤ}
-use borrow.Author.Tests.{eqb-true, eqb-false, eq-eqb, ltb-true}
+use borrow.Author.Tests.{eqb-true, eqb-false, ltb-true}
 use Rattle.lists.specs.Bools.{fails}
 use Rattle.rules.specs.declared.Session.{Session}
 use Rattle.rules.specs.declared.Step.{Step}
@@ -15,14 +15,14 @@ use Rattle.rules.specs.declared.Query.{Query}
 use Rattle.rules.specs.declared.Answer.the-variants.{Refused, Read, Settled, Given, NotYet, Finished}
 use Rattle.rules.specs.Tables.{rowCount, legal}
 use Rattle.rules.specs.Session.{settled, secured, aTableIsEmpty}
-use Rattle.rules.specs.Read.{fieldNext, readTable, readBlock}
+use Rattle.rules.specs.Read.{fieldNext, newDepth, readTable, readBlock}
 use Rattle.rules.specs.Take.{firstHeld, givesPair, movedOut, finished}
 use Rattle.rules.specs.Numbers.{number}
 use Rattle.rules.specs.Calls.{callCode, newBlockCode, step, readCall, takeCall}
 use Rattle.instance.specs.Keeping.{Reached}
 use Rattle.instance.specs.Taking.{first-inside, empty-none}
 use Rattle.instance.specs.Depths.{read-field, read-trim, read-grows}
-use Rattle.instance.specs.Accepting.{call-accepted, accepted-fits, new-block-accepted}
+use Rattle.instance.specs.Accepting.{call-accepted, accepted-fits, new-block-accepted, read-settled, read-goes, take-gives, take-finishes, take-waits}
 use Rattle.instance.specs.SameRows.{SameRows, same-less, same-secured, same-settled, same-next, same-read}
 use Rattle.demand.specs.Demand.{Call, reading, taking, promised, broughtBy}
 use Rattle.demand.specs.Steps.{Happened, refused, settling, going, giving, finishing, waiting, readsOf, Changed, kept, deeper, fewer}
@@ -119,16 +119,20 @@ said-not-yet f t s c g w (waiting i b d k e) = (d, k)
 
 module _ {q : Query} {f t : List ℤ} {out : List Pair} {s : Session} (a : Reached q f t out s) (f′ t′ : List ℤ) (g : legal f′ ≡ true)
     (h : legal t′ ≡ true) (m : rowCount f′ ≡ rowCount f) (n : rowCount t′ ≡ rowCount t) where
+  -- alike in the rows that a record has read
+  abbrev AlikeTo : Session → Type 0
+  AlikeTo r = SameRows (r .depth .field .0) f f′ × SameRows (r .depth .trim .0) t t′
+
   -- a held pair needs rows of both tables
   held-live : 1 ≤ s .held → aTableIsEmpty s ≡ false
   held-live some = fails (aTableIsEmpty s) (λ e. empty-none a e (firstHeld s) (first-inside a some .fits))
 
-  same-gives : SameRows (s .depth .field .0) f f′ → SameRows (s .depth .trim .0) t t′ → givesPair f′ t′ s ≡ givesPair f t s
+  same-gives : AlikeTo s → givesPair f′ t′ s ≡ givesPair f t s
   unfolding givesPair
-  same-gives ef et = go (ltb 0 (s .held)) refl
+  same-gives v = go (ltb 0 (s .held)) refl
     where
       go : (b : Bool) → ltb 0 (s .held) ≡ b → (b && secured f′ t′ s (firstHeld s)) ≡ (b && secured f t s (firstHeld s))
-      go true z = same-secured f t f′ t′ s ef et (held-live (ltb-true 0 (s .held) z)) (firstHeld s)
+      go true z = same-secured f t f′ t′ s (v .0) (v .1) (held-live (ltb-true 0 (s .held) z)) (firstHeld s)
       go false z = refl
 
   same-accepted : callCode f t s ≡ 0 → callCode f′ t′ s ≡ 0
@@ -140,67 +144,45 @@ module _ {q : Query} {f t : List ℤ} {out : List Pair} {s : Session} (a : Reach
   same-new =
       new-block-accepted f′ t′ s g h (a .field-rows ∙ sym m) (a .trim-rows ∙ sym n) (omega (arith, a .field-depth)) (omega (arith, a .trim-depth))
 
-  module _ (b : callCode f t s ≡ 0) where
-    read-settled : SameRows (s .depth .field .0) f f′ → SameRows (s .depth .trim .0) t t′ → settled f t s ≡ true → readCall f′ t′ s ≡ step Settled s
-    unfolding readCall
-    read-settled ef et d = rw (eq-eqb (callCode f′ t′ s) 0 (same-accepted b), same-settled f t f′ t′ s ef et, d)
+  same-going : callCode f t s ≡ 0 → settled f t s ≡ false → AlikeTo (readBlock f t s) → readCall f′ t′ s ≡ step Read (readBlock f t s)
+  same-going b d v =
+      read-goes f′ t′ s (same-accepted b) (same-settled f t f′ t′ s df dt ∙ d) same-new
+      ∙ ap (step Read) (ap (λ b. readTable b f′ t′ s) (same-next f t f′ t′ s df dt) ∙ same-read (fieldNext f t s) f t f′ t′ s nf nt)
+    where
+      grows : (s .depth .field .0 ≤ readBlock f t s .depth .field .0) × (s .depth .trim .0 ≤ readBlock f t s .depth .trim .0)
+      grows = read-grows (fieldNext f t s) f t s (omega (arith, a .field-depth, a .field-rows)) (omega (arith, a .trim-depth, a .trim-rows))
 
-    read-going : SameRows (readBlock f t s .depth .field .0) f f′ → SameRows (readBlock f t s .depth .trim .0) t t′ → settled f t s ≡ false
-        → readCall f′ t′ s ≡ step Read (readBlock f t s)
-    unfolding readCall
-    read-going ef et d =
-        rw (eq-eqb (callCode f′ t′ s) 0 (same-accepted b), same-settled f t f′ t′ s df dt, d, eq-eqb (newBlockCode f′ t′ s) 0 same-new)
-        (ap (step Read)
-        (ap (λ b. readTable b f′ t′ s) (same-next f t f′ t′ s df dt)
-        ∙ same-read (fieldNext f t s) f t f′ t′ s (subst (λ d. SameRows d f f′) (read-field (fieldNext f t s) f t s) ef)
-        (subst (λ d. SameRows d t t′) (read-trim (fieldNext f t s) f t s) et)))
-      where
-        grows : (s .depth .field .0 ≤ readBlock f t s .depth .field .0) × (s .depth .trim .0 ≤ readBlock f t s .depth .trim .0)
-        grows = read-grows (fieldNext f t s) f t s (omega (arith, a .field-depth, a .field-rows)) (omega (arith, a .trim-depth, a .trim-rows))
+      df : SameRows (s .depth .field .0) f f′
+      df = same-less (s .depth .field .0) (readBlock f t s .depth .field .0) f f′ (grows .0) (v .0)
 
-        df : SameRows (s .depth .field .0) f f′
-        df = same-less (s .depth .field .0) (readBlock f t s .depth .field .0) f f′ (grows .0) ef
+      dt : SameRows (s .depth .trim .0) t t′
+      dt = same-less (s .depth .trim .0) (readBlock f t s .depth .trim .0) t t′ (grows .1) (v .1)
 
-        dt : SameRows (s .depth .trim .0) t t′
-        dt = same-less (s .depth .trim .0) (readBlock f t s .depth .trim .0) t t′ (grows .1) et
+      nf : SameRows (cond (fieldNext f t s) (newDepth (fieldNext f t s) s) (s .depth .field .0)) f f′
+      nf = subst (λ d. SameRows d f f′) (read-field (fieldNext f t s) f t s) (v .0)
 
-    module _ (ef : SameRows (s .depth .field .0) f f′) (et : SameRows (s .depth .trim .0) t t′) where
-      take-giving : givesPair f t s ≡ true → takeCall f′ t′ s ≡ step (Given (firstHeld s)) (movedOut s)
-      unfolding takeCall
-      take-giving d = rw (eq-eqb (callCode f′ t′ s) 0 (same-accepted b), same-gives ef et, d)
+      nt : SameRows (cond (fieldNext f t s) (s .depth .trim .0) (newDepth (fieldNext f t s) s)) t t′
+      nt = subst (λ d. SameRows d t t′) (read-trim (fieldNext f t s) f t s) (v .1)
 
-      take-finishing : givesPair f t s ≡ false → finished s ≡ true → takeCall f′ t′ s ≡ step Finished s
-      unfolding takeCall
-      take-finishing d w = rw (eq-eqb (callCode f′ t′ s) 0 (same-accepted b), same-gives ef et, d, w)
-
-      take-waiting : givesPair f t s ≡ false → finished s ≡ false → takeCall f′ t′ s ≡ step NotYet s
-      unfolding takeCall
-      take-waiting d w = rw (eq-eqb (callCode f′ t′ s) 0 (same-accepted b), same-gives ef et, d, w)
-
-  pub same-call : (c : Call) (x : Step) → eqb (number (x .answer)) 0 ≡ true → SameRows (x .session .depth .field .0) f f′
-      → SameRows (x .session .depth .trim .0) t t′ → Happened f t s c x → promised c f′ t′ s ≡ x
+  -- an accepted call gives what it gave
+  pub same-call : (c : Call) (x : Step) → eqb (number (x .answer)) 0 ≡ true → AlikeTo (x .session) → Happened f t s c x → promised c f′ t′ s ≡ x
   unfolding movedOut
-  same-call c x w ef et (refused k z e) = absurd (z (eqb-true k 0 (ap (λ x. eqb (number (x .answer)) 0) (sym e) ∙ w)))
-  same-call c x w ef et (settling i b d e) =
-      ap (λ c. promised c f′ t′ s) i
-      ∙ read-settled b (subst (λ x. SameRows (x .session .depth .field .0) f f′) e ef) (subst (λ x. SameRows (x .session .depth .trim .0) t t′) e et)
-      d
-      ∙ sym e
-  same-call c x w ef et (going i b d k e) =
-      ap (λ c. promised c f′ t′ s) i
-      ∙ read-going b (subst (λ x. SameRows (x .session .depth .field .0) f f′) e ef) (subst (λ x. SameRows (x .session .depth .trim .0) t t′) e et) d
-      ∙ sym e
-  same-call c x w ef et (giving i b d e) =
-      ap (λ c. promised c f′ t′ s) i
-      ∙ take-giving b (subst (λ x. SameRows (x .session .depth .field .0) f f′) e ef) (subst (λ x. SameRows (x .session .depth .trim .0) t t′) e et) d
-      ∙ sym e
-  same-call c x w ef et (finishing i b d k e) =
-      ap (λ c. promised c f′ t′ s) i
-      ∙ take-finishing b (subst (λ x. SameRows (x .session .depth .field .0) f f′) e ef)
-      (subst (λ x. SameRows (x .session .depth .trim .0) t t′) e et) d k
-      ∙ sym e
-  same-call c x w ef et (waiting i b d k e) =
-      ap (λ c. promised c f′ t′ s) i
-      ∙ take-waiting b (subst (λ x. SameRows (x .session .depth .field .0) f f′) e ef) (subst (λ x. SameRows (x .session .depth .trim .0) t t′) e et)
-      d k
-      ∙ sym e
+  same-call c x w v o = go o
+    where
+      at : (y : Step) → x ≡ y → AlikeTo (y .session)
+      at y e = subst (λ y. AlikeTo (y .session)) e v
+
+      gave : (d : Call) (y : Step) → c ≡ d → x ≡ y → promised d f′ t′ s ≡ y → promised c f′ t′ s ≡ x
+      gave d y i e r = ap (λ c. promised c f′ t′ s) i ∙ r ∙ sym e
+
+      go : Happened f t s c x → promised c f′ t′ s ≡ x
+      go (refused k z e) = absurd (z (eqb-true k 0 (ap (λ x. eqb (number (x .answer)) 0) (sym e) ∙ w)))
+      go (settling i b d e) =
+          let u : AlikeTo s = at (step Settled s) e in
+          gave reading (step Settled s) i e (read-settled f′ t′ s (same-accepted b) (same-settled f t f′ t′ s (u .0) (u .1) ∙ d))
+      go (going i b d k e) = gave reading (step Read (readBlock f t s)) i e (same-going b d (at (step Read (readBlock f t s)) e))
+      go (giving i b d e) =
+          let y : Step = step (Given (firstHeld s)) (movedOut s) in gave taking y i e (take-gives f′ t′ s (same-accepted b) (same-gives (at y e) ∙ d))
+      go (finishing i b d k e) =
+          gave taking (step Finished s) i e (take-finishes f′ t′ s (same-accepted b) (same-gives (at (step Finished s) e) ∙ d) k)
+      go (waiting i b d k e) = gave taking (step NotYet s) i e (take-waits f′ t′ s (same-accepted b) (same-gives (at (step NotYet s) e) ∙ d) k)

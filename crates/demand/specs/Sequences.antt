@@ -132,7 +132,7 @@ module _ (q : Query) (f t : List ℤ) (g : legal f ≡ true) (h : legal t ≡ tr
     same-line {s = s} a l lines w ef et = go (isAccepted l) refl
       where
         go : (b : Bool) → isAccepted l ≡ b → promised (l .call) (cond b f′ (l .field)) (cond b t′ (l .trim)) s ≡ l .gave
-        go true z = same-call a f′ t′ g′ h′ m n (l .call) (l .gave) z ef et (line-happened a l lines w)
+        go true z = same-call a f′ t′ g′ h′ m n (l .call) (l .gave) z (ef, et) (line-happened a l lines w)
         go false z = sym (w .0)
 
     pub lines-same : (lines : List Line) {out : List Pair} {s : Session} → Reached q f t out s → Follows f t s lines

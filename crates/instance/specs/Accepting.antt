@@ -10,9 +10,12 @@ use lib.IntN.{ℤ}
 use borrow.Author.Tests.{eqb-true, eqb-false, eq-eqb}
 use Rattle.rules.specs.declared.Session.{Session}
 use Rattle.rules.specs.Tables.{rowCount, rowInRange, rowInOrder, legal}
-use Rattle.rules.specs.Read.{fieldNext, oldDepth, newDepth}
+use Rattle.rules.specs.declared.Answer.the-variants.{Read, Settled, Given, NotYet, Finished}
+use Rattle.rules.specs.Session.{settled}
+use Rattle.rules.specs.Read.{fieldNext, oldDepth, newDepth, readBlock}
+use Rattle.rules.specs.Take.{firstHeld, givesPair, movedOut, finished}
 use Rattle.rules.specs.Numbers.{unless, first, badRecord, rowLimit, rowOrder}
-use Rattle.rules.specs.Calls.{rowCode, rowsCode, sameSizeCode, recordFits, recordCode, lentCode, callCode, newBlockCode}
+use Rattle.rules.specs.Calls.{rowCode, rowsCode, sameSizeCode, recordFits, recordCode, lentCode, callCode, newBlockCode, step, readCall, takeCall}
 use Rattle.instance.specs.RowsLaws.{legal-size, legal-range, legal-order}
 
 -- two checks in order
@@ -99,3 +102,26 @@ new-block-accepted f t s g h a b c d =
   where
     field : Bool
     field = fieldNext f t s
+
+-- The calls, once accepted
+
+module _ (f t : List ℤ) (s : Session) (a : callCode f t s ≡ 0) where
+  pub read-settled : settled f t s ≡ true → readCall f t s ≡ step Settled s
+  unfolding readCall
+  read-settled e = rw (eq-eqb (callCode f t s) 0 a, e)
+
+  pub read-goes : settled f t s ≡ false → newBlockCode f t s ≡ 0 → readCall f t s ≡ step Read (readBlock f t s)
+  unfolding readCall
+  read-goes e b = rw (eq-eqb (callCode f t s) 0 a, e, eq-eqb (newBlockCode f t s) 0 b)
+
+  pub take-gives : givesPair f t s ≡ true → takeCall f t s ≡ step (Given (firstHeld s)) (movedOut s)
+  unfolding takeCall
+  take-gives e = rw (eq-eqb (callCode f t s) 0 a, e)
+
+  pub take-finishes : givesPair f t s ≡ false → finished s ≡ true → takeCall f t s ≡ step Finished s
+  unfolding takeCall
+  take-finishes e b = rw (eq-eqb (callCode f t s) 0 a, e, b)
+
+  pub take-waits : givesPair f t s ≡ false → finished s ≡ false → takeCall f t s ≡ step NotYet s
+  unfolding takeCall
+  take-waits e b = rw (eq-eqb (callCode f t s) 0 a, e, b)

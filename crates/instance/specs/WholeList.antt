@@ -8,7 +8,6 @@ use native.Mathlib.Omega.{arith}
 use lib.IntN.{ℤ}
 use lib.ListN.{length, length-append}
 use lib.Seq.{take-all}
-use borrow.Author.Tests.{eq-eqb}
 use Rattle.lists.specs.Lists.{best}
 use Rattle.lists.specs.Words.{Distinct}
 use Rattle.join.specs.BestFirst.{BestFirst}
@@ -36,26 +35,7 @@ use Rattle.instance.specs.Settled.{settled-take, settled-moves}
 use Rattle.instance.specs.Opening.{legal-opened, query-wanted}
 use Rattle.instance.specs.Unrefused.{sound-open, sound-read, sound-take, reached-fits}
 use Rattle.instance.specs.Depths.{depths, read-deeper}
-use Rattle.instance.specs.Accepting.{call-accepted, new-block-accepted}
-
--- The calls, once accepted
-
-module _ (f t : List ℤ) (s : Session) (a : callCode f t s ≡ 0) where
-  pub read-settled : settled f t s ≡ true → readCall f t s ≡ step Settled s
-  unfolding readCall
-  read-settled e = rw (eq-eqb (callCode f t s) 0 a, e)
-
-  pub read-goes : settled f t s ≡ false → newBlockCode f t s ≡ 0 → readCall f t s ≡ step Read (readBlock f t s)
-  unfolding readCall
-  read-goes e b = rw (eq-eqb (callCode f t s) 0 a, e, eq-eqb (newBlockCode f t s) 0 b)
-
-  pub take-gives : givesPair f t s ≡ true → takeCall f t s ≡ step (Given (firstHeld s)) (movedOut s)
-  unfolding takeCall
-  take-gives e = rw (eq-eqb (callCode f t s) 0 a, e)
-
-  pub take-finishes : givesPair f t s ≡ false → finished s ≡ true → takeCall f t s ≡ step Finished s
-  unfolding takeCall
-  take-finishes e b = rw (eq-eqb (callCode f t s) 0 a, e, b)
+use Rattle.instance.specs.Accepting.{call-accepted, new-block-accepted, read-settled, read-goes, take-gives, take-finishes}
 
 -- The loops
 
