@@ -1,4 +1,4 @@
--- Fact 6, it gets there: over the two tables no call is refused, reads are few, and in a settled session a take answers a pair or finished. Assumes legal tables.
+-- Fact 6, proved: over the two tables no call is refused, reads are few, and a settled session's take has an answer. Assumes legal tables.
 use mathlib.Core.Path.{_≡_, refl, sym, ap, ap₂, subst, _∙_}
 use mathlib.Core.Bool.{Bool, true, false, cond}
 use mathlib.Core.List.{List, [], _∷_, _++_}

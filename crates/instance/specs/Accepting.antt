@@ -1,4 +1,4 @@
--- Over legal tables the checks of rows and sizes pass, so only the record could be refused. Assumes nothing.
+-- Over legal tables the checks of rows and sizes pass, so only the record could be refused; and what accepted calls give. Assumes nothing.
 use mathlib.Core.Path.{_≡_, refl, sym, subst}
 use mathlib.Core.Bool.{Bool, true, false, cond}
 use mathlib.Core.List.{List}

@@ -19,12 +19,10 @@ use Rattle.rules.specs.Session.{heldPairs}
 use Rattle.rules.specs.Read.{blockCount}
 use Rattle.rules.specs.Numbers.{unless, first, tableSize}
 use Rattle.rules.specs.Calls.{between, queryCode, sameSizeCode, rowsCode, countsFit, pairFits, markFits, isZeros, recordFits, recordCode, lentCode, callCode}
+use Rattle.instance.specs.Passed.{GoodAt, Passed}
 use Rattle.instance.specs.RowsLaws.{legal-of}
 use Rattle.instance.specs.Accepting.{first-passed, unless-passed, rows-passed, accepted-fits}
 use Rattle.instance.specs.SameRows.{SameRows, same-num}
-
-abbrev pub GoodAt : List ℤ → ℕ → Type 0
-GoodAt t i = (rowInRange t i ≡ true) × (rowInOrder t i ≡ true)
 
 module _ (t : List ℤ) (n : ℕ) (fits : n ≤ rowCount t) where
   pub cut-same : SameRows n t (take (4 * n) t)
@@ -58,21 +56,7 @@ module _ (t : List ℤ) (n : ℕ) (fits : n ≤ rowCount t) where
       (λ i h.
       let r = good i (omega (arith, cut-count)) in (cut-range i (omega (arith, cut-count)) (r .0), cut-order i (omega (arith, cut-count)) (r .1)))
 
--- What a record that passes 5 keeps, of its tables' counts and its held pairs
-
-pub record Passed (f t : List ℤ) (s : Session) : Type 0 where
-  pub field-count : s .rows .field .0 ≡ rowCount f
-  pub trim-count : s .rows .trim .0 ≡ rowCount t
-  pub field-most : s .rows .field .0 ≤ 65535
-  pub trim-most : s .rows .trim .0 ≤ 65535
-  pub field-depth : s .depth .field .0 ≤ s .rows .field .0
-  pub trim-depth : s .depth .trim .0 ≤ s .rows .trim .0
-  pub wanted : s .query .k ≤ 64
-  pub room : s .out + s .held ≤ s .query .k
-  pub pairs : every (pairFits s) (heldPairs s) ≡ true
-  pub in-rank : ranked ahead (heldPairs s) ≡ true
-  pub field-rows : rowsCode f 0 (s .depth .field .0) ≡ 0
-  pub trim-rows : rowsCode t 0 (s .depth .trim .0) ≡ 0
+-- What the checks have seen
 
 counts-parts : (size rows d : ℕ) → countsFit size rows d ≡ true → (rows ≤ 65535) × (d ≤ rows)
 unfolding countsFit

@@ -17,9 +17,11 @@ pub mod SureTest
 pub mod SureTestLaws
 pub mod Sound
 pub mod Unrefused
+pub mod Passed
 pub mod Cutting
 pub mod Unskipped
 pub mod UnskippedLaws
 pub mod Opening
 pub mod Settled
+pub mod Listed
 pub mod WholeList

@@ -25,7 +25,8 @@ use Rattle.instance.specs.PairsLaws.{pair-rank, qualifying-distinct}
 use Rattle.instance.specs.Meeting.{meet-held, meet-stored}
 use Rattle.instance.specs.Blocks.{mem-met, met-low, blocks-same}
 use Rattle.instance.specs.SameRows.{SameRows, same-part, same-new, same-old, same-read}
-use Rattle.instance.specs.Cutting.{GoodAt, cut-same, cut-count, cut-legal, Passed, passed, read-good}
+use Rattle.instance.specs.Cutting.{cut-same, cut-count, cut-legal, passed, read-good}
+use Rattle.instance.specs.Passed.{GoodAt, Passed}
 use Rattle.instance.specs.Unskipped.{heldUnskipped, readUnskipped}
 
 -- what a record holds while the new block meets the others: ranked, as many as it says, no pair of blocks yet to come, and

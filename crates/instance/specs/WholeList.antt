@@ -10,7 +10,6 @@ use lib.ListN.{length, length-append}
 use lib.Seq.{take-all}
 use Rattle.lists.specs.Lists.{best}
 use Rattle.lists.specs.Words.{Distinct}
-use Rattle.join.specs.BestFirst.{BestFirst}
 use Rattle.join.specs.BestFirstLaws.{best-first-sums}
 use Rattle.rules.specs.declared.Pair.{Pair}
 use Rattle.rules.specs.declared.Query.{Query}
@@ -28,6 +27,7 @@ use Rattle.instance.specs.Pairs.{Fits}
 use Rattle.instance.specs.PairsLaws.{pair-rank, qualifying-distinct, mem-qualifying}
 use Rattle.instance.specs.Keeping.{Reached}
 use Rattle.instance.specs.Sound.{Sound}
+use Rattle.instance.specs.Listed.{SettledAt, Listed}
 use Rattle.instance.specs.Reading.{open-reached, read-reached}
 use Rattle.instance.specs.Taking.{gives-some, gives-secured, take-reached, finished-complete}
 use Rattle.instance.specs.Securing.{secured-best}
@@ -58,11 +58,6 @@ until-finished n f t s e = rw (e, takeUntilFinished)
 
 -- Reading until settled
 
-pub record SettledAt (q : Query) (f t : List ℤ) (out : List Pair) (s : Session) : Type 0 where
-  pub reached : Reached q f t out s
-  pub sound : Sound s
-  pub is-settled : settled f t s ≡ true
-
 module _ (q : Query) (f t : List ℤ) (g : legal f ≡ true) (h : legal t ≡ true) (accepted : queryCode q ≡ 0) (size : 1 ≤ q .block) where
   call-passes : {out : List Pair} {s : Session} → Reached q f t out s → Sound s → callCode f t s ≡ 0
   call-passes {s = s} a b = call-accepted f t s g h (a .field-rows) (a .trim-rows) (a .field-depth) (a .trim-depth) (reached-fits a b g h accepted)
@@ -90,14 +85,6 @@ module _ (q : Query) (f t : List ℤ) (g : legal f ≡ true) (h : legal t ≡ tr
           (next (read-reached (fieldNext f t s) a g h size) (sound-read a b size e) (omega (arith, read-deeper a size e)))
 
 -- Taking until finished
-
--- the pairs of `out` being out, those of l come out: each fits and comes once, the best of those left each time, until k are out or all are
-pub record Listed (q : Query) (f t : List ℤ) (out l : List Pair) : Type 0 where
-  pub fit : (p : Pair) → List·Memᴰ p (out ++ l) → Fits (q .radius) f t p
-  pub once : Distinct (out ++ l)
-  pub room : length (out ++ l) ≤ q .k
-  pub complete : (length (out ++ l) ≡ q .k) ⊎ ((p : Pair) → Fits (q .radius) f t p → List·Memᴰ p (out ++ l))
-  pub best-first : BestFirst (λ p. p .sum) (Fits (q .radius) f t) out l
 
 -- one pair more in front
 listed-more : {q : Query} {f t : List ℤ} {out : List Pair} (p : Pair) (l : List Pair)
