@@ -6,3 +6,7 @@ pub mod Limit
 pub mod Plain
 pub mod PlainLaws
 pub mod Example
+pub mod Held
+pub mod HeldLaws
+pub mod BestFirst
+pub mod BestFirstLaws

@@ -19,3 +19,7 @@ both-true false b e = clash e refl
 pub one-true : (a b : Bool) → (a || b) ≡ true → (a ≡ true) ⊎ (b ≡ true)
 one-true true b e = inl refl
 one-true false b e = inr e
+
+pub none-true : (a b : Bool) → (a || b) ≡ false → (a ≡ false) × (b ≡ false)
+none-true true b e = clash refl e
+none-true false b e = (refl, e)

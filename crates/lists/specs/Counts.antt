@@ -60,6 +60,24 @@ count-falls c d (x ∷ l) h =
     let a = count-falls c d l h in
     omega (arith, one-falls c d x h, count-cons c x l, count-cons d x l)
 
+-- at most all of them pass
+pub count-some : (c : ℕ) (l : List ℕ) → atLeast c l ≤ length l
+count-some c [] = omega (arith, count-none c)
+count-some c (x ∷ l) = go (leb c x) (count-cons c x l) (count-some c l)
+  where
+    go : (t : Bool) → atLeast c (x ∷ l) ≡ one t + atLeast c l → atLeast c l ≤ length l → atLeast c (x ∷ l) ≤ suc (length l)
+    go true e h = omega arith
+    go false e h = omega arith
+
+-- where as many pass as there are, each does
+pub count-all : (c : ℕ) (l : List ℕ) → length l ≤ atLeast c l → All (λ x. c ≤ x) l
+count-all c [] h = tt
+count-all c (x ∷ l) h = go (leb c x) refl (count-cons c x l) (count-all c l)
+  where
+    go : (t : Bool) → leb c x ≡ t → atLeast c (x ∷ l) ≡ one t + atLeast c l → (length l ≤ atLeast c l → All (λ x. c ≤ x) l) → (c ≤ x) × All (λ x. c ≤ x) l
+    go true e f r = (leb-true c x e, r (omega arith))
+    go false e f r = absurd (omega (arith, count-some c l))
+
 -- Counts of the best
 
 pub count-ins : (ahead : ℕ → ℕ → Bool) (c x : ℕ) (l : List ℕ) → atLeast c (ins ahead x l) ≡ one (leb c x) + atLeast c l

@@ -9,7 +9,7 @@ use lib.ListN.{length, take}
 use Rattle.lists.specs.Lists.{ins, sort, ranked}
 use Rattle.lists.specs.Bools.{clash, both-true}
 use Rattle.lists.specs.Words.{All, Strict, Ordered, Distinct}
-use Rattle.lists.specs.Sorts.{all-at, all-map, sort-ordered}
+use Rattle.lists.specs.Sorts.{all-at, all-map, sort-ordered, take-ordered, ranked-ordered}
 
 module _ {A : Type 0} (ahead : A → A → Bool) where
   mem-ins : (x z : A) (l : List A) → List·Memᴰ z (ins ahead x l) → List·Memᴰ z (x ∷ l)
@@ -60,6 +60,23 @@ module _ {A : Type 0} (ahead : A → A → Bool) where
   sort-distinct (x ∷ l) d = ins-distinct x (sort ahead l) (λ m. d .0 (mem-sort x l .0 m)) (sort-distinct l (d .1))
 
 module _ {A : Type 0} (ahead : A → A → Bool) (order : Strict ahead) where
+  -- whether x stands in a list
+  pub member : (x : A) (l : List A) → List·Memᴰ x l ⊎ (List·Memᴰ x l → ⊥)
+  member x [] = inr List·Memᴰ·not-nil
+  member x (y ∷ l) = go (ahead x y) (ahead y x) refl refl (member x l)
+    where
+      other : (x ≡ y → ⊥) → List·Memᴰ x l ⊎ (List·Memᴰ x l → ⊥) → List·Memᴰ x (y ∷ l) ⊎ (List·Memᴰ x (y ∷ l) → ⊥)
+      other n (inl m) = inl (List·Memᴰ·tail m)
+      other n (inr m) = inr (λ k. ⊎-elim n m (List·Memᴰ·cases-cons k))
+
+      not-self : (z : A) → ahead z z ≡ true → ⊥
+      not-self z e = clash e (order .asym z z e)
+
+      go : (a b : Bool) → ahead x y ≡ a → ahead y x ≡ b → List·Memᴰ x l ⊎ (List·Memᴰ x l → ⊥) → List·Memᴰ x (y ∷ l) ⊎ (List·Memᴰ x (y ∷ l) → ⊥)
+      go true b e f r = other (λ g. not-self y (ap (λ z. ahead z y) (sym g) ∙ e)) r
+      go false true e f r = other (λ g. not-self x (ap (λ z. ahead z x) g ∙ f)) r
+      go false false e f r = inl (List·Memᴰ·head (order .tri x y e f))
+
   -- two that differ and of which the second is not ahead
   apart : (x y : A) → ahead y x ≡ false → (x ≡ y → ⊥) → ahead x y ≡ true
   apart x y e n = go (ahead x y) refl
@@ -134,7 +151,7 @@ module _ {A : Type 0} (ahead : A → A → Bool) (order : Strict ahead) where
   pub left-out : (n : ℕ) (x : A) (l : List A) → List·Memᴰ x l → (List·Memᴰ x (take n (sort ahead l)) → ⊥) → (length (take n (sort ahead l)) ≡ n) × ((y : A) → List·Memᴰ y (take n (sort ahead l)) → ahead y x ≡ true)
   left-out n x l m out = ordered-out n x (sort ahead l) (sort-ordered ahead order l) (mem-sort ahead x l .1 m) out
 
--- How many
+-- Fronts
 
 module _ {A : Type 0} where
   pub mem-take : (n : ℕ) (x : A) (l : List A) → List·Memᴰ x (take n l) → List·Memᴰ x l
@@ -147,6 +164,14 @@ module _ {A : Type 0} where
   take-distinct (suc n) [] d = tt
   take-distinct (suc n) (x ∷ l) d = (λ m. d .0 (mem-take n x l m), take-distinct n l (d .1))
 
+module _ {A : Type 0} (ahead : A → A → Bool) (order : Strict ahead) where
+  -- the front of a ranked list is ranked
+  pub ranked-take : (n : ℕ) (l : List A) → ranked ahead l ≡ true → ranked ahead (take n l) ≡ true
+  ranked-take n l h = ordered-ranked ahead order (take n l) (take-ordered ahead n l (ranked-ordered ahead order l h)) (take-distinct n l (ranked-distinct ahead order l h))
+
+-- How many
+
+module _ {A : Type 0} where
   -- m without one x has one element fewer, and all others
   without : (x : A) {m : List A} → List·Memᴰ x m → (m′ : List A) × (length m ≡ suc (length m′)) × ((y : A) → List·Memᴰ y m → (y ≡ x) ⊎ List·Memᴰ y m′)
   without x (List·Memᴰ·head {xs = l} e) = (l, refl, λ y k. ⊎-elim (λ f. inl (f ∙ sym e)) inr (List·Memᴰ·cases-cons k))
