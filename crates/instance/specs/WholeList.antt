@@ -14,13 +14,14 @@ use Rattle.join.specs.BestFirstLaws.{best-first-sums}
 use Rattle.rules.specs.declared.Pair.{Pair}
 use Rattle.rules.specs.declared.Query.{Query}
 use Rattle.rules.specs.declared.Session.{Session}
+use Rattle.rules.specs.declared.Step.{Step}
 use Rattle.rules.specs.declared.Answer.the-variants.{Read, Settled, Given, Finished}
 use Rattle.rules.specs.Tables.{rowCount, legal, qualifying}
 use Rattle.rules.specs.Session.{opened, settled}
 use Rattle.rules.specs.Read.{rowsBetween, fieldNext, readBlock}
 use Rattle.rules.specs.Take.{firstHeld, givesPair, movedOut, finished}
 use Rattle.rules.specs.Calls.{queryCode, callCode, newBlockCode, step, readCall, takeCall}
-use Rattle.rules.specs.Query.{readUntilSettled, takeUntilFinished, settledSession, list}
+use Rattle.rules.specs.Query.{given, wasGiven, readUntilSettled, takeUntilFinished, settledSession, list}
 use Rattle.rules.specs.Sure.{whole, qualifyingSums}
 use Rattle.instance.specs.RowsLaws.{legal-four}
 use Rattle.instance.specs.Pairs.{Fits}
@@ -50,7 +51,10 @@ until-deeper n f t s r e = rw (e, readUntilSettled) (ap (λ x. readUntilSettled 
 until-fewer : (n : ℕ) (f t : List ℤ) (s r : Session) (p : Pair) → takeCall f t s ≡ step (Given p) r
     → takeUntilFinished (suc n) f t s ≡ p ∷ takeUntilFinished n f t r
 unfolding takeUntilFinished
-until-fewer n f t s r p e = rw (e, takeUntilFinished) (ap (λ x. p ∷ takeUntilFinished n f t (x .session)) e)
+until-fewer n f t s r p e = ap next e
+  where
+    next : Step → List Pair
+    next x = elim (wasGiven (x .answer)) [ true ↦ given (x .answer) ++ takeUntilFinished n f t (x .session) | false ↦ [] ]
 
 until-finished : (n : ℕ) (f t : List ℤ) (s : Session) → takeCall f t s ≡ step Finished s → takeUntilFinished (suc n) f t s ≡ []
 unfolding takeUntilFinished
