@@ -46,7 +46,7 @@ digit-range b h =
 
 pub digit-next : (bytes : List ℕ) (i e : ℕ) → i < e → e ≤ length bytes → isDigit (getD bytes i 0) ≡ true → every isDigit (upTo bytes i e) ≡ every isDigit (upTo bytes (i + 1) e)
 unfolding every
-digit-next bytes i e h l d = rw next (rw d)
+digit-next bytes i e h l d = rw (next bytes i e h l, d)
 
 pub no-digit : (bytes : List ℕ) (i e : ℕ) → i < e → e ≤ length bytes → isDigit (getD bytes i 0) ≡ false → every isDigit (upTo bytes i e) ≡ false
 unfolding every
@@ -54,7 +54,7 @@ no-digit bytes i e h l d = rw next (rw d)
 
 pub worth-next : (bytes : List ℕ) (n i e : ℕ) → i < e → e ≤ length bytes → digitsFrom n (upTo bytes i e) ≡ digitsFrom (10 * n + (getD bytes i 0 - 48)) (upTo bytes (i + 1) e)
 unfolding digitsFrom
-worth-next bytes n i e h l = rw next
+worth-next bytes n i e h l = rw (next bytes i e h l)
 
 -- k digits are worth less than 10 ^ k
 pub worth-grows : (n d k : ℕ) → n < 10 ^ k → d ≤ 9 → 10 * n + d < 10 ^ suc k

@@ -2,8 +2,11 @@
 ghost use mathlib.Core.Path.{_≡_};
 ghost use Prim.Native.Nat.{_+_, _-_, _*_, _≤_, _<_};
 ghost use lib.ListN.{length};
-ghost use Rattle.rules.specs.File.{afterBlanks, hasMinus, columns};
+ghost use Rattle.rules.specs.Tables.{natOf};
+ghost use Rattle.rules.specs.File.{afterBlanks, hasMinus, columns, fileTable, rowsLoaded};
 ghost use Rattle.file.specs.Column.{upTo, anyDigits, digitsHeld, plainColumn, minusColumn, columnHeld};
+ghost use Rattle.file.specs.Held.{headerHeld, rowHeld, heldCode, kindHeld, headAnswer};
+use rules::Loaded;
 
 // What a column holds: whether it is formed as a number, and the number (0 where it isn't).
 pub struct Column {
@@ -130,4 +133,129 @@ pub fn column_at(bytes: &[u8], at: usize, width: usize, signed: bool) -> Column
         return negative(digits_at(bytes, first + 1, end));
     }
     plain(digits_at(bytes, first, end))
+}
+
+// A number as one from 0 up: 0 where it is below.
+fn natural(x: i32) -> u32
+    ensures { λ r. ⌜ r ≡ natOf x ⌝ }
+{
+    if 0 <= x {
+        return x as u32;
+    }
+    0
+}
+
+// The header's numbers, and whether its columns and LF are formed as they must be.
+struct Header {
+    fits: bool,
+    count: u32,
+    kind: u32,
+}
+
+fn read_header(bytes: &[u8]) -> Header
+    requires { ⌜ 13 ≤ length (now bytes) ⌝ }
+    ensures { λ r. ⌜ r ≡ headerHeld (now (bytes .entry)) ⌝ }
+{
+    let count = column_at(bytes, 0, 6, false);
+    let kind = column_at(bytes, 6, 6, false);
+    Header {
+        fits: count.fits & (kind.fits & (bytes[12] == 10)),
+        count: natural(count.number),
+        kind: natural(kind.number),
+    }
+}
+
+// Whether the header's kind is the wanted one, and that is 1 or 2.
+fn kind_fits(found: u32, kind: i32) -> bool
+    ensures { λ r. ⌜ r ≡ kindHeld found kind ⌝ }
+{
+    let wanted = natural(kind);
+    ((1 <= wanted) & (wanted <= 2)) & (found == wanted)
+}
+
+// The row count, or what a file is refused by before its rows are looked at.
+fn check_head(bytes: &[u8], kind: i32) -> Loaded
+    ensures { λ r. ⌜ r ≡ headAnswer (now (bytes .entry)) kind ⌝ }
+{
+    if bytes.len() < 13 {
+        return Loaded::Unfit(8, 0);
+    }
+    let header = read_header(bytes);
+    if !header.fits {
+        return Loaded::Unfit(9, 0);
+    }
+    if !kind_fits(header.kind, kind) {
+        return Loaded::Unfit(10, 0);
+    }
+    let count = header.count;
+    if 65535 < count {
+        return Loaded::Unfit(4, 0);
+    }
+    if bytes.len() != 13 + 27 * (count as usize) {
+        return Loaded::Unfit(8, 0);
+    }
+    Loaded::Rows(count)
+}
+
+// A row's numbers, and whether its columns and LF are formed as they must be.
+struct Row {
+    fits: bool,
+    pattern: i32,
+    score: i32,
+    a: i32,
+    b: i32,
+}
+
+// Row i + 1.
+fn read_row(bytes: &[u8], i: usize) -> Row
+    requires { ⌜ (i < 65535) × (13 + 27 * (i + 1) ≤ length (now bytes)) ⌝ }
+    ensures { λ r. ⌜ r ≡ rowHeld (now (bytes .entry)) i ⌝ }
+{
+    let o = 13 + 27 * i;
+    let pattern = column_at(bytes, o, 6, false);
+    let score = column_at(bytes, o + 6, 6, false);
+    let a = column_at(bytes, o + 12, 7, true);
+    let b = column_at(bytes, o + 19, 7, true);
+    Row {
+        fits: pattern.fits & (score.fits & (a.fits & (b.fits & (bytes[o + 26] == 10)))),
+        pattern: pattern.number,
+        score: score.number,
+        a: a.number,
+        b: b.number,
+    }
+}
+
+// What a row is refused by, 9, 6, 7 in this order; 0 where it is not. `before` is the score of the row before.
+fn row_code(row: Row, first: bool, before: i32) -> u32
+    ensures { λ r. ⌜ r ≡ heldCode row first before ⌝ }
+{
+    if !row.fits {
+        return 9;
+    }
+    if !tables::in_range(row.pattern, row.score, row.a, row.b) {
+        return 6;
+    }
+    if !(first | (row.score <= before)) {
+        return 7;
+    }
+    0
+}
+
+// The first `count` rows: their count, or what the first that is refused is refused by.
+fn check_rows(bytes: &[u8], count: usize) -> Loaded
+    requires { ⌜ (count ≤ 65535) × (13 + 27 * count ≤ length (now bytes)) ⌝ }
+    ensures { λ r. ⌜ r ≡ rowsLoaded (now (bytes .entry)) (fileTable (now (bytes .entry)) count) count ⌝ }
+{
+    let mut before: i32 = 0;
+    let mut i: usize = 0;
+    while i < count {
+        let row = read_row(bytes, i);
+        let code = row_code(row, i == 0, before);
+        if code != 0 {
+            return Loaded::Unfit(code, (i + 1) as u32);
+        }
+        before = row.score;
+        i += 1;
+    }
+    Loaded::Rows(count as u32)
 }

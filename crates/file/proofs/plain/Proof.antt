@@ -1,3 +1,8 @@
+-- `plain` meets its contract. Assumes nothing.
+use native.Mathlib.Omega.{arith}
+use mir.Syntax.{w32}
+use mir.Facts.{toZ-pos}
+use Rattle.file.specs.Column.{plainColumn}
 use borrow.Author.Needs.{needs}
 use Rattle.file.proofs.plain.Statement.{statement}
 use Rattle.file.proofs.plain.Tie as tie
@@ -10,7 +15,8 @@ cast-t2 c = search needs
 
 -- src/lib.rt:101:1
 returns : tie.Need-returns
-returns c = ?
+unfolding plainColumn
+returns c = rw (toZ-pos w32 {n = c .before .args .d .worth} (omega arith))
 
 pub plain-spec : {M : Type 1} → statement M
 plain-spec = tie.close (tie.spec cast-t2 returns)
