@@ -1,3 +1,6 @@
 pub mod Tests
 pub mod Bytes
 pub mod Columns
+pub mod Head
+pub mod Naturals
+pub mod Rows

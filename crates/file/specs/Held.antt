@@ -39,6 +39,15 @@ headAnswer bytes kind =
     (cond (ltb 65535 (fileCount bytes)) (Unfit tableSize 0)
     (cond (not (eqb (length bytes) (rowStart (fileCount bytes)))) (Unfit cutFile 0) (Rows (fileCount bytes))))))
 
+-- the same, of what was read of the header
+unfoldable pub headOf : ℕ → Header → ℤ → Loaded
+headOf len h kind =
+    cond (ltb len 13) (Unfit cutFile 0)
+    (cond (not (h .fits)) (Unfit badColumn 0)
+    (cond (not (kindHeld (h .kind) kind)) (Unfit wrongKind 0)
+    (cond (ltb 65535 (h .count)) (Unfit tableSize 0)
+    (cond (not (eqb len (rowStart (h .count)))) (Unfit cutFile 0) (Rows (h .count))))))
+
 -- "Each row, 27 bytes"
 unfoldable pub rowHeld : List ℕ → ℕ → Row
 rowHeld bytes i =

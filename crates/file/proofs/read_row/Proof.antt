@@ -1,3 +1,11 @@
+use mathlib.Core.Path.{_≡_}
+use Rattle.file.proofs.Rows.{row-is}
+use mir.Syntax.{w32}
+use mir.Facts.{toZ-ofZ}
+-- `read_row` meets its contract. Assumes nothing.
+
+use Rattle.file.specs.Column.{columnHeld}
+use Rattle.file.specs.Held.{rowHeld}
 use borrow.Author.Needs.{needs}
 use Rattle.file.proofs.read_row.Statement.{statement}
 use Rattle.file.proofs.read_row.Tie as tie
@@ -51,7 +59,20 @@ shared-slice-read-t10 c = search needs
 
 -- src/lib.rt:210:1
 returns : tie.Need-returns
-returns c = ?
+returns c =
+    let at = c .before .before .before .before .before .before .before .before .before in
+    let pattern = at .before .before .before .column-at in
+    let score = at .before .before .column-at2 in
+    let a = at .before .column-at3 in
+    let b = at .column-at4 in
+    let s = at .before .before .before .before .before .args in
+    simp (
+      toZ-ofZ {w = w32} {z = pattern .result .number} (record { sfits = c .before .before .before .struct-told .given .1 .0 .1 }),
+      toZ-ofZ {w = w32} {z = score .result .number} (record { sfits = c .before .before .struct-told2 .given .1 .0 .1 }),
+      toZ-ofZ {w = w32} {z = a .result .number} (record { sfits = c .before .struct-told3 .given .1 .0 .1 }),
+      toZ-ofZ {w = w32} {z = b .result .number} (record { sfits = c .struct-told4 .given .1 .0 .1 }),
+    )
+    (row-is (s .bytes .now) (s .i) (pattern .result) (score .result) (a .result) (b .result) (pattern .ensures) (score .ensures) (a .ensures) (b .ensures))
 
 pub read-row-spec : {M : Type 1} → statement M
 read-row-spec =
