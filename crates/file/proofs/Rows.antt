@@ -36,3 +36,99 @@ module _ (bytes : List ℕ) (i : ℕ) where
   unfolding rowHeld rowColumnsFit columnHeld
   row-is p s a b ep es ea eb =
       λ k. record { fits = ep k .fits && (es k .fits && (ea k .fits && (eb k .fits && endsLine bytes (rowStart i + 26)))); pattern = ep k .number; score = es k .number; a = ea k .number; b = eb k .number }
+
+-- whether each part of row i + 1 is formed as it must be
+abbrev patternFits : List ℕ → ℕ → Bool
+patternFits bytes i = columnFits false (columns bytes (rowStart i) 6)
+
+abbrev scoreFits : List ℕ → ℕ → Bool
+scoreFits bytes i = columnFits false (columns bytes (rowStart i + 6) 6)
+
+abbrev aFits : List ℕ → ℕ → Bool
+aFits bytes i = columnFits true (columns bytes (rowStart i + 12) 7)
+
+abbrev bFits : List ℕ → ℕ → Bool
+bFits bytes i = columnFits true (columns bytes (rowStart i + 19) 7)
+
+abbrev lineEnds : List ℕ → ℕ → Bool
+lineEnds bytes i = endsLine bytes (rowStart i + 26)
+
+-- what is read of a row that fits are the numbers of the file's table
+module _ (bytes : List ℕ) (n i : ℕ) (inside : i < n) (fit : rowColumnsFit bytes i ≡ true) where
+  from-score : (scoreFits bytes i && (aFits bytes i && (bFits bytes i && lineEnds bytes i))) ≡ true
+  unfolding rowColumnsFit
+  from-score = and-right (patternFits bytes i) (scoreFits bytes i && (aFits bytes i && (bFits bytes i && lineEnds bytes i))) fit
+
+  from-a : (aFits bytes i && (bFits bytes i && lineEnds bytes i)) ≡ true
+  from-a = and-right (scoreFits bytes i) (aFits bytes i && (bFits bytes i && lineEnds bytes i)) from-score
+
+  pub pattern-is : rowHeld bytes i .pattern ≡ num (fileTable bytes n) i 0
+  unfolding rowHeld rowColumnsFit rowNumbers
+  pattern-is =
+      number-held false (columns bytes (rowStart i) 6)
+      (and-left (patternFits bytes i) (scoreFits bytes i && (aFits bytes i && (bFits bytes i && lineEnds bytes i))) fit)
+      ∙ sym (table-num bytes n i 0 inside (omega arith))
+
+  pub score-is : rowHeld bytes i .score ≡ num (fileTable bytes n) i 1
+  unfolding rowHeld rowNumbers
+  score-is =
+      number-held false (columns bytes (rowStart i + 6) 6)
+      (and-left (scoreFits bytes i) (aFits bytes i && (bFits bytes i && lineEnds bytes i)) from-score)
+      ∙ sym (table-num bytes n i 1 inside (omega arith))
+
+  pub a-is : rowHeld bytes i .a ≡ num (fileTable bytes n) i 2
+  unfolding rowHeld rowNumbers
+  a-is =
+      number-held true (columns bytes (rowStart i + 12) 7) (and-left (aFits bytes i) (bFits bytes i && lineEnds bytes i) from-a)
+      ∙ sym (table-num bytes n i 2 inside (omega arith))
+
+  pub b-is : rowHeld bytes i .b ≡ num (fileTable bytes n) i 3
+  unfolding rowHeld rowNumbers
+  b-is =
+      number-held true (columns bytes (rowStart i + 19) 7)
+      (and-left (bFits bytes i) (lineEnds bytes i) (and-right (aFits bytes i) (bFits bytes i && lineEnds bytes i) from-a))
+      ∙ sym (table-num bytes n i 3 inside (omega arith))
+
+-- the order test, where the score before is known unless the row is the first
+order-is : (t : List ℤ) (i : ℕ) (before : ℤ) → ((i ≡ 0 → ⊥) → before ≡ num t (i - 1) 1) → (eqb i 0 || leZ (num t i 1) before) ≡ rowInOrder t i
+unfolding rowInOrder
+order-is t i before known = go (eqb i 0) refl
+  where
+    go : (f : Bool) → eqb i 0 ≡ f → (eqb i 0 || leZ (num t i 1) before) ≡ (eqb i 0 || leZ (num t i 1) (num t (i - 1) 1))
+    go true f = simp f
+    go false f = ap (λ (z : ℤ). eqb i 0 || leZ (num t i 1) z) (known (eqb-false i 0 f))
+
+pub code-is : (bytes : List ℕ) (n i : ℕ) (before : ℤ) → i < n → ((i ≡ 0 → ⊥) → before ≡ num (fileTable bytes n) (i - 1) 1) → heldCode (rowHeld bytes i) (eqb i 0) before ≡ fileRowCode bytes (fileTable bytes n) i
+unfolding heldCode fileRowCode rowCode rowInRange rowHeld
+code-is bytes n i before h known = go (rowColumnsFit bytes i) refl
+  where
+    fits : rowHeld bytes i .fits ≡ rowColumnsFit bytes i
+    fits = refl
+    go : (f : Bool) → rowColumnsFit bytes i ≡ f → heldCode (rowHeld bytes i) (eqb i 0) before ≡ fileRowCode bytes (fileTable bytes n) i
+    go false f = simp (fits, f)
+    go true f =
+        simp (fits, f, pattern-is bytes n i h f, score-is bytes n i h f, a-is bytes n i h f, b-is bytes n i h f, order-is (fileTable bytes n) i before known)
+
+-- rows that were accepted, and the next
+module _ (bytes : List ℕ) (t : List ℤ) (i : ℕ) (so-far : rowsLoaded bytes t i ≡ Rows i) where
+  pub one-more : fileRowCode bytes t i ≡ 0 → rowsLoaded bytes t (i + 1) ≡ Rows (i + 1)
+  unfolding rowsLoaded andRow
+  one-more z =
+      ap (λ (m : ℕ). rowsLoaded bytes t m) (add-one i) ∙ rw (so-far, eq-eqb (fileRowCode bytes t i) 0 z)
+
+  here : (fileRowCode bytes t i ≡ 0 → ⊥) → rowsLoaded bytes t (suc i) ≡ Unfit (fileRowCode bytes t i) (i + 1)
+  unfolding rowsLoaded andRow
+  here z = rw (so-far, ne-eqb (fileRowCode bytes t i) 0 z)
+
+  pub refused : (n : ℕ) → i < n → (fileRowCode bytes t i ≡ 0 → ⊥) → rowsLoaded bytes t n ≡ Unfit (fileRowCode bytes t i) (i + 1)
+  unfolding rowsLoaded andRow
+  refused n h z =
+      le-ind (λ (m : ℕ). rowsLoaded bytes t m ≡ Unfit (fileRowCode bytes t i) (i + 1)) (here z) (λ m l ih. rw ih) n h
+
+pub accepted-fits : (bytes : List ℕ) (t : List ℤ) (i : ℕ) → fileRowCode bytes t i ≡ 0 → rowColumnsFit bytes i ≡ true
+unfolding fileRowCode
+accepted-fits bytes t i z = go (rowColumnsFit bytes i) refl
+  where
+    go : (f : Bool) → rowColumnsFit bytes i ≡ f → f ≡ true
+    go true f = refl
+    go false f = let nine : _≡_ {A = ℕ} 9 0 = simp f at z in absurd (omega arith)

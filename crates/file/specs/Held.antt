@@ -1,8 +1,8 @@
 -- What is read of the header and of a row, and the checks in the code's own order, by document 01's "The strict file".
 -- Definitions only. Assumes nothing.
-use Prim.Native.Nat.{ℕ, _+_, _*_}
+use Prim.Native.Nat.{ℕ, zero, suc, _+_, _*_}
 use mathlib.Core.Bool.{Bool, true, false, cond, _&&_, _||_, not}
-use mathlib.Core.List.{List}
+use mathlib.Core.List.{List, [], _∷_, _++_}
 use lib.Dec.{leb, ltb, eqb}
 use lib.IntN.{ℤ}
 use lib.ListN.{length}
@@ -71,3 +71,11 @@ heldCode row isFirst before =
 unfoldable pub andRows : List ℕ → Loaded → Loaded
 andRows bytes (Rows n) = rowsLoaded bytes (fileTable bytes n) n
 andRows bytes (Unfit code row) = Unfit code row
+
+unfoldable pub numbersOf : Row → List ℤ
+numbersOf row = row .pattern ∷ row .score ∷ row .a ∷ row .b ∷ []
+
+-- what is read of the first n rows, as a table
+unfoldable pub tableHeld : List ℕ → ℕ → List ℤ
+tableHeld bytes zero = []
+tableHeld bytes (suc n) = tableHeld bytes n ++ numbersOf (rowHeld bytes n)

@@ -1,11 +1,12 @@
 // The strict file: its rows read into lent numbers, or checked alone.
 ghost use mathlib.Core.Path.{_≡_};
 ghost use Prim.Native.Nat.{_+_, _-_, _*_, _≤_, _<_};
-ghost use lib.ListN.{length};
+ghost use mathlib.Core.List.{_++_};
+ghost use lib.ListN.{length, take, drop};
 ghost use Rattle.rules.specs.Tables.{natOf};
-ghost use Rattle.rules.specs.File.{afterBlanks, hasMinus, columns, fileTable, rowsLoaded};
+ghost use Rattle.rules.specs.File.{afterBlanks, hasMinus, columns, fileTable, rowsLoaded, checkFile};
 ghost use Rattle.file.specs.Column.{upTo, anyDigits, digitsHeld, plainColumn, minusColumn, columnHeld};
-ghost use Rattle.file.specs.Held.{headerHeld, rowHeld, heldCode, kindHeld, headAnswer};
+ghost use Rattle.file.specs.Held.{headerHeld, kindHeld, headAnswer, rowHeld, heldCode, numbersOf, tableHeld};
 use rules::Loaded;
 
 // What a column holds: whether it is formed as a number, and the number (0 where it isn't).
@@ -258,4 +259,39 @@ fn check_rows(bytes: &[u8], count: usize) -> Loaded
         i += 1;
     }
     Loaded::Rows(count as u32)
+}
+
+// A file checked alone, without a slice: the row count, or the refusal's number and row.
+pub fn check(bytes: &[u8], kind: i32) -> Loaded
+    ensures { λ r. ⌜ r ≡ checkFile (now (bytes .entry)) kind ⌝ }
+{
+    let head = check_head(bytes, kind);
+    let Loaded::Rows(count) = head else {
+        return head;
+    };
+    check_rows(bytes, count as usize)
+}
+
+// Four numbers from place o on.
+fn put_row(out: &mut [i32], o: usize, row: Row)
+    requires { ⌜ o + 4 ≤ length (now out) ⌝ }
+    ensures { λ _. ⌜ now (out .exit) ≡ take o (now (out .entry)) ++ numbersOf row ++ drop (o + 4) (now (out .entry)) ⌝ }
+{
+    out[o] = row.pattern;
+    out[o + 1] = row.score;
+    out[o + 2] = row.a;
+    out[o + 3] = row.b;
+}
+
+// The rows of a checked file, written from the front of `out`.
+fn put_rows(bytes: &[u8], count: usize, out: &mut [i32])
+    requires { ⌜ (count ≤ 65535) × (13 + 27 * count ≤ length (now bytes)) × (4 * count ≤ length (now out)) ⌝ }
+    ensures { λ _. ⌜ now (out .exit) ≡ tableHeld (now (bytes .entry)) count ++ drop (4 * count) (now (out .entry)) ⌝ }
+{
+    let mut i: usize = 0;
+    while i < count {
+        let row = read_row(bytes, i);
+        put_row(out, 4 * i, row);
+        i += 1;
+    }
 }

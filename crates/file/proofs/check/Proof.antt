@@ -1,0 +1,82 @@
+-- `check` meets its contract: the header's checks, then the rows'. Assumes nothing.
+use mathlib.Core.Path.{_≡_, refl, sym, ap, subst, _∙_}
+use mathlib.Core.List.{List, [], _∷_}
+use Prim.Native.Nat.{ℕ}
+use native.Mathlib.Omega.{arith}
+use denote.Enum.Declared.{tagOf}
+use types.Run.{OneOf}
+use mir.Facts.{toZ-ofZ}
+use lib.IntN.{ℤ}
+use Rattle.rules.proofs.Loaded.{the-type}
+use Rattle.rules.specs.declared.Loaded.{Loaded}
+use Rattle.rules.specs.declared.Loaded.the-variants.{Rows, Unfit}
+use Rattle.rules.specs.File.{checkFile}
+use Rattle.file.specs.Held.{headAnswer, andRows}
+use Rattle.file.proofs.Head.{check-is, head-rows}
+use borrow.Author.Needs.{needs}
+use Rattle.file.proofs.check.Statement.{statement}
+use Rattle.file.proofs.check.Tie as tie
+use Rattle.file.proofs.check.Reads as reads
+use Rattle.file.proofs.check.Lts as lts
+use Rattle.file.proofs.check_head.Reads as check-head-reads
+use Rattle.file.proofs.check_rows.Reads as check-rows-reads
+
+unfit-stays : (bytes : List ℕ) (x : Loaded) → OneOf (1 ∷ []) (tagOf the-type x) → andRows bytes x ≡ x
+unfolding andRows
+unfit-stays bytes (Rows n) h = let z : _≡_ {A = ℕ} 0 1 = h in absurd (omega arith)
+unfit-stays bytes (Unfit code row) h = refl
+
+-- src/lib.rt:267:9
+check-head-requires : tie.Need-check-head-requires
+check-head-requires c κs = search needs
+
+-- src/lib.rt:268:22
+enum-known-head : tie.Need-enum-known-head
+enum-known-head c = search needs
+
+-- src/lib.rt:269:9
+enum-told : tie.Need-enum-told
+enum-told c = search needs
+
+-- src/lib.rt:269:9
+returns : tie.Need-returns
+returns c =
+    let s = c .before .before .before .before .args in
+    let head = c .before .before .check-head in
+    let e : head .result ≡ headAnswer (s .bytes .now) (s .kind) = simp (toZ-ofZ (c .before .before .before .before .fits .kind)) at (head .ensures) in
+    sym (unfit-stays (s .bytes .now) (head .result) (c .before .match .keys2)) ∙ ap (andRows (s .bytes .now)) e ∙ check-is (s .bytes .now) (s .kind)
+
+-- src/lib.rt:271:23
+cast-check-rows : tie.Need-cast-check-rows
+cast-check-rows c = search needs
+
+-- src/lib.rt:271:5
+check-rows-requires : tie.Need-check-rows-requires
+check-rows-requires c κs =
+    let s = c .before .before .before .before .before .args in
+    let head = c .before .before .before .check-head in
+    let e : head .result ≡ headAnswer (s .bytes .now) (s .kind) = simp (toZ-ofZ (c .before .before .before .before .before .fits .kind)) at (head .ensures) in
+    let n = c .before .head .given .0 .0 in
+    let h = head-rows (s .bytes .now) (s .kind) n (sym e ∙ c .before .head .given .1) in
+    omega (arith, h)
+
+-- src/lib.rt:264:1
+returns-2 : tie.Need-returns-2
+unfolding andRows
+returns-2 c =
+    let s = c .before .before .before .before .before .before .args in
+    let head = c .before .before .before .before .check-head in
+    let e : head .result ≡ headAnswer (s .bytes .now) (s .kind) = simp (toZ-ofZ (c .before .before .before .before .before .before .fits .kind)) at (head .ensures) in
+    c .check-rows .ensures ∙ ap (andRows (s .bytes .now)) (sym (c .before .before .head .given .1) ∙ e) ∙ check-is (s .bytes .now) (s .kind)
+
+pub check-spec : {M : Type 1} → statement M
+check-spec =
+    tie.close
+    (tie.spec
+    check-head-requires
+    enum-known-head
+    enum-told
+    returns
+    cast-check-rows
+    check-rows-requires
+    returns-2)
