@@ -12,6 +12,7 @@ use Rattle.rules.specs.declared.Loaded.{Loaded}
 use Rattle.rules.specs.declared.Loaded.the-variants.{Rows, Unfit}
 use Rattle.rules.specs.Tables.{natOf}
 use Rattle.rules.specs.File.{columns, columnFits, columnNumber, endsLine, headerFits, fileCount, fileKind, rowStart, kindFits, checkFile}
+use Rattle.file_laws.specs.Accepted.{passed}
 use Rattle.file.specs.declared.Header.{Header}
 use Rattle.file.specs.Column.{columnHeld}
 use Rattle.file.specs.Held.{headerHeld, kindHeld, headAnswer, headOf, andRows}
@@ -53,11 +54,6 @@ rows-after bytes false x y = refl
 pub check-is : (bytes : List ℕ) (kind : ℤ) → andRows bytes (headAnswer bytes kind) ≡ checkFile bytes kind
 unfolding checkFile headAnswer andRows
 check-is bytes kind = simp (rows-after bytes)
-
--- a check that a file passed
-passed : (t : Bool) (code row n : ℕ) (y : Loaded) → cond t (Unfit code row) y ≡ Rows n → (t ≡ false) × (y ≡ Rows n)
-passed true code row n y h = let z : _≡_ {A = ℕ} 0 1 = cc in absurd (omega arith)
-passed false code row n y h = (refl, h)
 
 -- a file whose header is accepted has as many rows as it says, and no byte more
 pub head-rows : (bytes : List ℕ) (kind : ℤ) (n : ℕ) → headAnswer bytes kind ≡ Rows n → (n ≤ 65535) × (length bytes ≡ 13 + 27 * n)

@@ -4,3 +4,4 @@ pub mod Columns
 pub mod Head
 pub mod Naturals
 pub mod Rows
+pub mod Table

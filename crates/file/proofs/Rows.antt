@@ -22,7 +22,7 @@ use Rattle.file.specs.declared.Column.{Column}
 use Rattle.file.specs.declared.Header.{Header}
 use Rattle.file.specs.declared.Row.{Row}
 use Rattle.file.specs.Column.{columnHeld}
-use Rattle.file.specs.Held.{headerHeld, rowHeld, heldCode}
+use Rattle.file.specs.Held.{headerHeld, rowHeld, heldCode, numbersOf}
 use Rattle.file.proofs.Tests.{and-left, and-right}
 use Rattle.file.proofs.Head.{number-held}
 
@@ -53,8 +53,8 @@ bFits bytes i = columnFits true (columns bytes (rowStart i + 19) 7)
 abbrev lineEnds : List ℕ → ℕ → Bool
 lineEnds bytes i = endsLine bytes (rowStart i + 26)
 
--- what is read of a row that fits are the numbers of the file's table
-module _ (bytes : List ℕ) (n i : ℕ) (inside : i < n) (fit : rowColumnsFit bytes i ≡ true) where
+-- what is read of a row that fits are the file's numbers
+module _ (bytes : List ℕ) (i : ℕ) (fit : rowColumnsFit bytes i ≡ true) where
   from-score : (scoreFits bytes i && (aFits bytes i && (bFits bytes i && lineEnds bytes i))) ≡ true
   unfolding rowColumnsFit
   from-score = and-right (patternFits bytes i) (scoreFits bytes i && (aFits bytes i && (bFits bytes i && lineEnds bytes i))) fit
@@ -62,32 +62,22 @@ module _ (bytes : List ℕ) (n i : ℕ) (inside : i < n) (fit : rowColumnsFit by
   from-a : (aFits bytes i && (bFits bytes i && lineEnds bytes i)) ≡ true
   from-a = and-right (scoreFits bytes i) (aFits bytes i && (bFits bytes i && lineEnds bytes i)) from-score
 
-  pub pattern-is : rowHeld bytes i .pattern ≡ num (fileTable bytes n) i 0
-  unfolding rowHeld rowColumnsFit rowNumbers
-  pattern-is =
-      number-held false (columns bytes (rowStart i) 6)
-      (and-left (patternFits bytes i) (scoreFits bytes i && (aFits bytes i && (bFits bytes i && lineEnds bytes i))) fit)
-      ∙ sym (table-num bytes n i 0 inside (omega arith))
+  pub numbers-held : numbersOf (rowHeld bytes i) ≡ rowNumbers bytes i
+  unfolding numbersOf rowHeld rowNumbers rowColumnsFit
+  numbers-held =
+      let o = rowStart i in
+      let pattern = number-held false (columns bytes o 6) (and-left (patternFits bytes i) (scoreFits bytes i && (aFits bytes i && (bFits bytes i && lineEnds bytes i))) fit) in
+      let score = number-held false (columns bytes (o + 6) 6) (and-left (scoreFits bytes i) (aFits bytes i && (bFits bytes i && lineEnds bytes i)) from-score) in
+      let a = number-held true (columns bytes (o + 12) 7) (and-left (aFits bytes i) (bFits bytes i && lineEnds bytes i) from-a) in
+      let b = number-held true (columns bytes (o + 19) 7) (and-left (bFits bytes i) (lineEnds bytes i) (and-right (aFits bytes i) (bFits bytes i && lineEnds bytes i) from-a)) in
+      λ k. pattern k ∷ score k ∷ a k ∷ b k ∷ []
 
-  pub score-is : rowHeld bytes i .score ≡ num (fileTable bytes n) i 1
-  unfolding rowHeld rowNumbers
-  score-is =
-      number-held false (columns bytes (rowStart i + 6) 6)
-      (and-left (scoreFits bytes i) (aFits bytes i && (bFits bytes i && lineEnds bytes i)) from-score)
-      ∙ sym (table-num bytes n i 1 inside (omega arith))
+  pub held-num : (n j : ℕ) → i < n → j < 4 → getD (numbersOf (rowHeld bytes i)) j (pos 0) ≡ num (fileTable bytes n) i j
+  held-num n j h k = ap (λ (l : List ℤ). getD l j (pos 0)) numbers-held ∙ sym (table-num bytes n i j h k)
 
-  pub a-is : rowHeld bytes i .a ≡ num (fileTable bytes n) i 2
-  unfolding rowHeld rowNumbers
-  a-is =
-      number-held true (columns bytes (rowStart i + 12) 7) (and-left (aFits bytes i) (bFits bytes i && lineEnds bytes i) from-a)
-      ∙ sym (table-num bytes n i 2 inside (omega arith))
-
-  pub b-is : rowHeld bytes i .b ≡ num (fileTable bytes n) i 3
-  unfolding rowHeld rowNumbers
-  b-is =
-      number-held true (columns bytes (rowStart i + 19) 7)
-      (and-left (bFits bytes i) (lineEnds bytes i) (and-right (aFits bytes i) (bFits bytes i && lineEnds bytes i) from-a))
-      ∙ sym (table-num bytes n i 3 inside (omega arith))
+  pub score-is : (n : ℕ) → i < n → rowHeld bytes i .score ≡ num (fileTable bytes n) i 1
+  unfolding numbersOf
+  score-is n h = held-num n 1 h (omega arith)
 
 -- the order test, where the score before is known unless the row is the first
 order-is : (t : List ℤ) (i : ℕ) (before : ℤ) → ((i ≡ 0 → ⊥) → before ≡ num t (i - 1) 1) → (eqb i 0 || leZ (num t i 1) before) ≡ rowInOrder t i
@@ -99,7 +89,7 @@ order-is t i before known = go (eqb i 0) refl
     go false f = ap (λ (z : ℤ). eqb i 0 || leZ (num t i 1) z) (known (eqb-false i 0 f))
 
 pub code-is : (bytes : List ℕ) (n i : ℕ) (before : ℤ) → i < n → ((i ≡ 0 → ⊥) → before ≡ num (fileTable bytes n) (i - 1) 1) → heldCode (rowHeld bytes i) (eqb i 0) before ≡ fileRowCode bytes (fileTable bytes n) i
-unfolding heldCode fileRowCode rowCode rowInRange rowHeld
+unfolding heldCode fileRowCode rowCode rowInRange rowHeld numbersOf
 code-is bytes n i before h known = go (rowColumnsFit bytes i) refl
   where
     fits : rowHeld bytes i .fits ≡ rowColumnsFit bytes i
@@ -107,7 +97,17 @@ code-is bytes n i before h known = go (rowColumnsFit bytes i) refl
     go : (f : Bool) → rowColumnsFit bytes i ≡ f → heldCode (rowHeld bytes i) (eqb i 0) before ≡ fileRowCode bytes (fileTable bytes n) i
     go false f = simp (fits, f)
     go true f =
-        simp (fits, f, pattern-is bytes n i h f, score-is bytes n i h f, a-is bytes n i h f, b-is bytes n i h f, order-is (fileTable bytes n) i before known)
+        let number : (j : ℕ) → j < 4 → getD (numbersOf (rowHeld bytes i)) j (pos 0) ≡ num (fileTable bytes n) i j =
+        λ j k. held-num bytes i f n j h k in
+        simp (
+          fits,
+          f,
+          number 0 (omega arith),
+          number 1 (omega arith),
+          number 2 (omega arith),
+          number 3 (omega arith),
+          order-is (fileTable bytes n) i before known,
+        )
 
 -- rows that were accepted, and the next
 module _ (bytes : List ℕ) (t : List ℤ) (i : ℕ) (so-far : rowsLoaded bytes t i ≡ Rows i) where

@@ -1,12 +1,12 @@
 // The strict file: its rows read into lent numbers, or checked alone.
 ghost use mathlib.Core.Path.{_≡_};
 ghost use Prim.Native.Nat.{_+_, _-_, _*_, _≤_, _<_};
-ghost use mathlib.Core.List.{_++_};
+ghost use mathlib.Core.List.{[], _∷_, _++_};
 ghost use lib.ListN.{length, take, drop};
 ghost use Rattle.rules.specs.Tables.{natOf};
-ghost use Rattle.rules.specs.File.{afterBlanks, hasMinus, columns, fileTable, rowsLoaded, checkFile};
+ghost use Rattle.rules.specs.File.{afterBlanks, hasMinus, columns, fileTable, rowsLoaded, checkFile, loadAnswer, loadNumbers};
 ghost use Rattle.file.specs.Column.{upTo, anyDigits, digitsHeld, plainColumn, minusColumn, columnHeld};
-ghost use Rattle.file.specs.Held.{headerHeld, kindHeld, headAnswer, rowHeld, heldCode, numbersOf, tableHeld};
+ghost use Rattle.file.specs.Held.{headerHeld, kindHeld, headAnswer, rowHeld, heldCode, tableHeld};
 use rules::Loaded;
 
 // What a column holds: whether it is formed as a number, and the number (0 where it isn't).
@@ -273,14 +273,14 @@ pub fn check(bytes: &[u8], kind: i32) -> Loaded
 }
 
 // Four numbers from place o on.
-fn put_row(out: &mut [i32], o: usize, row: Row)
+fn put_row(out: &mut [i32], o: usize, pattern: i32, score: i32, a: i32, b: i32)
     requires { ⌜ o + 4 ≤ length (now out) ⌝ }
-    ensures { λ _. ⌜ now (out .exit) ≡ take o (now (out .entry)) ++ numbersOf row ++ drop (o + 4) (now (out .entry)) ⌝ }
+    ensures { λ _. ⌜ now (out .exit) ≡ take o (now (out .entry)) ++ (pattern ∷ score ∷ a ∷ b ∷ []) ++ drop (o + 4) (now (out .entry)) ⌝ }
 {
-    out[o] = row.pattern;
-    out[o + 1] = row.score;
-    out[o + 2] = row.a;
-    out[o + 3] = row.b;
+    out[o] = pattern;
+    out[o + 1] = score;
+    out[o + 2] = a;
+    out[o + 3] = b;
 }
 
 // The rows of a checked file, written from the front of `out`.
@@ -291,7 +291,23 @@ fn put_rows(bytes: &[u8], count: usize, out: &mut [i32])
     let mut i: usize = 0;
     while i < count {
         let row = read_row(bytes, i);
-        put_row(out, 4 * i, row);
+        put_row(out, 4 * i, row.pattern, row.score, row.a, row.b);
         i += 1;
     }
+}
+
+// A file's rows read into the front of `out`. A refused file changes no number of it.
+pub fn load(bytes: &[u8], kind: i32, out: &mut [i32]) -> Loaded
+    ensures { λ r. ⌜ r ≡ loadAnswer (now (bytes .entry)) kind (now (out .entry)) ⌝ }
+    ensures { λ _. ⌜ now (out .exit) ≡ loadNumbers (now (bytes .entry)) kind (now (out .entry)) ⌝ }
+{
+    let checked = check(bytes, kind);
+    let Loaded::Rows(count) = checked else {
+        return checked;
+    };
+    if out.len() < 4 * (count as usize) {
+        return Loaded::Unfit(11, 0);
+    }
+    put_rows(bytes, count as usize, out);
+    Loaded::Rows(count)
 }

@@ -94,7 +94,7 @@ loop-again c =
     λ _.
     toZ-ofZ {w = w32} {z = row .result .score} (record { sfits = c .struct-told .given .1 .1 .0 .1 })
     ∙ ap (λ (r : Row). r .score) (row .ensures)
-    ∙ score-is bytes (s .count) (l .i) (omega arith) (accepted-fits bytes t (l .i) accepted)
+    ∙ score-is bytes (l .i) (accepted-fits bytes t (l .i) accepted) (s .count) (omega arith)
     ∙ ap (λ (k : ℕ). num t k 1) (sym last))
 
 -- src/lib.rt:260:18
