@@ -31,13 +31,16 @@ head-is bytes kind = go (headerFits bytes) refl
     count f =
         let h = columnFits false (columns bytes 0 6) in
         ap natOf (number-held false (columns bytes 0 6) (and-left h (columnFits false (columns bytes 6 6) && endsLine bytes 12) f))
+
     kind-is : headerFits bytes ≡ true → headerHeld bytes .kind ≡ fileKind bytes
     kind-is f =
         let h = columnFits false (columns bytes 0 6) in
         let k = columnFits false (columns bytes 6 6) in
         ap natOf (number-held false (columns bytes 6 6) (and-left k (endsLine bytes 12) (and-right h (k && endsLine bytes 12) f)))
+
     fits : headerHeld bytes .fits ≡ headerFits bytes
     fits = refl
+
     go : (t : Bool) → headerFits bytes ≡ t → headOf (length bytes) (headerHeld bytes) kind ≡ headAnswer bytes kind
     go false f = simp (fits, f)
     go true f = simp (fits, f, count f, kind-is f)

@@ -5,3 +5,4 @@ pub mod Head
 pub mod Naturals
 pub mod Rows
 pub mod Table
+pub mod Ends

@@ -94,6 +94,7 @@ code-is bytes n i before h known = go (rowColumnsFit bytes i) refl
   where
     fits : rowHeld bytes i .fits ≡ rowColumnsFit bytes i
     fits = refl
+
     go : (f : Bool) → rowColumnsFit bytes i ≡ f → heldCode (rowHeld bytes i) (eqb i 0) before ≡ fileRowCode bytes (fileTable bytes n) i
     go false f = simp (fits, f)
     go true f =

@@ -25,9 +25,10 @@ shared-slice-read-if1 c = search needs
 returns : tie.Need-returns Inv-loop μ-loop
 returns c =
     let l = c .before .before .before .loop in
-    let s = c .before .before .before .before .args in
-    ((search needs, search needs),
-    l .inv .2 ∙ stop (s .bytes .now) (l .i) (s .end) (omega arith) (omega arith) (c .if1 .taken))
+    let s = c .before .before .before .before .args in (
+      (search needs, search needs),
+      l .inv .2 ∙ stop (s .bytes .now) (l .i) (s .end) (omega arith) (omega arith) (c .if1 .taken),
+    )
 
 add-i : tie.Need-add-i Inv-loop μ-loop
 add-i c = search needs
@@ -38,9 +39,11 @@ loop-less c = search needs
 loop-again : tie.Need-loop-again Inv-loop μ-loop
 loop-again c =
     let l = c .before .before .before .loop in
-    let s = c .before .before .before .before .args in
-    (search needs, search needs,
-    l .inv .2 ∙ pass (s .bytes .now) (l .i) (s .end) (omega arith) (omega arith) (c .if1 .left))
+    let s = c .before .before .before .before .args in (
+      search needs,
+      search needs,
+      l .inv .2 ∙ pass (s .bytes .now) (l .i) (s .end) (omega arith) (omega arith) (c .if1 .left),
+    )
 
 returns-2 : tie.Need-returns-2 Inv-loop μ-loop
 returns-2 c =

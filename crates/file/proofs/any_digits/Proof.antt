@@ -78,12 +78,14 @@ loop-again c =
     let b = getD bytes (l .i) 0 in
     let d = not-false (isDigit b) (c .before .if1 .left) in
     let k : l .i + 1 - s .at ≡ suc (l .i - s .at) = omega arith in
-    let small : c .digit .result ≤ 9 = omega (arith, digit-range b d) in
-    (search needs, search needs,
-    rw k (worth-grows (l .n) (c .digit .result) (l .i - s .at) (l .inv .2) small),
-    l .inv .3 ∙ digit-next bytes (l .i) (s .end) (omega arith) (omega arith) d,
-    l .inv .4 ∙ worth-next bytes (l .n) (l .i) (s .end) (omega arith) (omega arith)
-    ∙ ap (λ (w : ℕ). digitsFrom (10 * l .n + w) (upTo bytes (l .i + 1) (s .end))) (sym (c .digit .ensures)))
+    let small : c .digit .result ≤ 9 = omega (arith, digit-range b d) in (
+      search needs,
+      search needs,
+      rw k (worth-grows (l .n) (c .digit .result) (l .i - s .at) (l .inv .2) small),
+      l .inv .3 ∙ digit-next bytes (l .i) (s .end) (omega arith) (omega arith) d,
+      l .inv .4 ∙ worth-next bytes (l .n) (l .i) (s .end) (omega arith) (omega arith)
+          ∙ ap (λ (w : ℕ). digitsFrom (10 * l .n + w) (upTo bytes (l .i + 1) (s .end))) (sym (c .digit .ensures)),
+    )
 
 returns-2 : tie.Need-returns-2 Inv-loop μ-loop
 unfolding anyDigits every digitsFrom

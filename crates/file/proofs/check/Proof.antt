@@ -3,15 +3,13 @@ use mathlib.Core.Path.{_≡_, refl, sym, ap, subst, _∙_}
 use mathlib.Core.List.{List, [], _∷_}
 use Prim.Native.Nat.{ℕ}
 use native.Mathlib.Omega.{arith}
-use denote.Enum.Declared.{tagOf}
-use types.Run.{OneOf}
 use mir.Facts.{toZ-ofZ}
 use lib.IntN.{ℤ}
-use Rattle.rules.proofs.Loaded.{the-type}
 use Rattle.rules.specs.declared.Loaded.{Loaded}
 use Rattle.rules.specs.declared.Loaded.the-variants.{Rows, Unfit}
 use Rattle.rules.specs.File.{checkFile}
 use Rattle.file.specs.Held.{headAnswer, andRows}
+use Rattle.file.proofs.Ends.{IsUnfit, not-rows}
 use Rattle.file.proofs.Head.{check-is, head-rows}
 use borrow.Author.Needs.{needs}
 use Rattle.file.proofs.check.Statement.{statement}
@@ -21,9 +19,9 @@ use Rattle.file.proofs.check.Lts as lts
 use Rattle.file.proofs.check_head.Reads as check-head-reads
 use Rattle.file.proofs.check_rows.Reads as check-rows-reads
 
-unfit-stays : (bytes : List ℕ) (x : Loaded) → OneOf (1 ∷ []) (tagOf the-type x) → andRows bytes x ≡ x
+unfit-stays : (bytes : List ℕ) (x : Loaded) → IsUnfit x → andRows bytes x ≡ x
 unfolding andRows
-unfit-stays bytes (Rows n) h = let z : _≡_ {A = ℕ} 0 1 = h in absurd (omega arith)
+unfit-stays bytes (Rows n) h = not-rows n h
 unfit-stays bytes (Unfit code row) h = refl
 
 -- src/lib.rt:267:9

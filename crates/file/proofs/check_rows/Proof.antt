@@ -89,13 +89,15 @@ loop-again c =
     ∙ ap (λ (r : Row). heldCode r (eqb (l .i) 0) (toZ w32 (l .before))) (row .ensures)
     ∙ code-is bytes (s .count) (l .i) (toZ w32 (l .before)) (omega arith) (l .inv .2) in
     let accepted = sym code ∙ c .before .if1 .left in
-    let last : l .i + 1 - 1 ≡ l .i = omega arith in
-    (search needs, one-more bytes t (l .i) (l .inv .1) accepted,
-    λ _.
-    toZ-ofZ {w = w32} {z = row .result .score} (record { sfits = c .struct-told .given .1 .1 .0 .1 })
-    ∙ ap (λ (r : Row). r .score) (row .ensures)
-    ∙ score-is bytes (l .i) (accepted-fits bytes t (l .i) accepted) (s .count) (omega arith)
-    ∙ ap (λ (k : ℕ). num t k 1) (sym last))
+    let last : l .i + 1 - 1 ≡ l .i = omega arith in (
+      search needs,
+      one-more bytes t (l .i) (l .inv .1) accepted,
+      λ _.
+          toZ-ofZ {w = w32} {z = row .result .score} (record { sfits = c .struct-told .given .1 .1 .0 .1 })
+          ∙ ap (λ (r : Row). r .score) (row .ensures)
+          ∙ score-is bytes (l .i) (accepted-fits bytes t (l .i) accepted) (s .count) (omega arith)
+          ∙ ap (λ (k : ℕ). num t k 1) (sym last),
+    )
 
 -- src/lib.rt:260:18
 cast-t10 : tie.Need-cast-t10 Inv-loop μ-loop

@@ -46,10 +46,11 @@ returns-3 : tie.Need-returns-3
 returns-3 c =
     let s = c .before .before .before .before .before .args in
     let l = s .bytes .now in
-    let k = next l (s .at) (s .end) (omega arith) (omega arith) in
-    (c .any-digits .ensures .0
-    ∙ ap anyDigits k ∙ other-first (getD l (s .at) 0) (upTo l (s .at + 1) (s .end)) (c .before .if2 .left) ∙ sym (ap digitsHeld k),
-    c .any-digits .ensures .1)
+    let k = next l (s .at) (s .end) (omega arith) (omega arith) in (
+      c .any-digits .ensures .0
+          ∙ ap anyDigits k ∙ other-first (getD l (s .at) 0) (upTo l (s .at + 1) (s .end)) (c .before .if2 .left) ∙ sym (ap digitsHeld k),
+      c .any-digits .ensures .1,
+    )
 
 pub digits-at-spec : {M : Type 1} → statement M
 digits-at-spec =

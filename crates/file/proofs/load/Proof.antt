@@ -1,3 +1,13 @@
+-- `load` meets its contract: the whole file is checked before a number is written. Assumes nothing.
+use mathlib.Core.Path.{_≡_, refl, sym, ap, _∙_}
+use Prim.Native.Nat.{ℕ, _*_, _≤_, _<_}
+use native.Mathlib.Omega.{arith}
+use lib.ListN.{length}
+use mir.Facts.{toZ-ofZ}
+use Rattle.rules.specs.declared.Loaded.the-variants.{Rows, Unfit}
+use Rattle.rules.specs.File.{checkFile}
+use Rattle.file_laws.specs.Accepted.{accepted}
+use Rattle.file.proofs.Ends.{unfit-load, short-load, whole-load}
 use borrow.Author.Needs.{needs}
 use Rattle.file.proofs.load.Statement.{statement}
 use Rattle.file.proofs.load.Tie as tie
@@ -20,7 +30,11 @@ enum-told c = search needs
 
 -- src/lib.rt:306:9
 returns : tie.Need-returns
-returns c = ?
+returns c =
+    let s = c .before .before .before .before .args in
+    let e : c .before .before .check .result ≡ checkFile (s .bytes .now) (s .kind) =
+    simp (toZ-ofZ (c .before .before .before .before .fits .kind)) at (c .before .before .check .ensures) in
+    unfit-load (s .bytes .now) (s .kind) (s .out .now) (c .before .before .check .result) e (c .before .match .keys2)
 
 -- src/lib.rt:308:25
 cast-if1 : tie.Need-cast-if1
@@ -32,7 +46,13 @@ mul-if1 c = search needs
 
 -- src/lib.rt:309:9
 returns-2 : tie.Need-returns-2
-returns-2 c = ?
+returns-2 c =
+    let at = c .before .before in
+    let s = at .before .before .before .before .args in
+    let e : at .before .before .check .result ≡ checkFile (s .bytes .now) (s .kind) =
+    simp (toZ-ofZ (at .before .before .before .before .fits .kind)) at (at .before .before .check .ensures) in
+    let n = at .checked .given .0 .0 in
+    short-load (s .bytes .now) (s .kind) (s .out .now) n (sym (at .checked .given .1) ∙ e) (c .if1 .taken)
 
 -- src/lib.rt:311:21
 cast-put-rows : tie.Need-cast-put-rows
@@ -40,7 +60,15 @@ cast-put-rows c = search needs
 
 -- src/lib.rt:311:5
 put-rows-requires : tie.Need-put-rows-requires
-put-rows-requires c κs = ?
+put-rows-requires c κs =
+    let at = c .before .before .before in
+    let s = at .before .before .before .before .args in
+    let e : at .before .before .check .result ≡ checkFile (s .bytes .now) (s .kind) =
+    simp (toZ-ofZ (at .before .before .before .before .fits .kind)) at (at .before .before .check .ensures) in
+    let n = at .checked .given .0 .0 in
+    let f = accepted (s .bytes .now) (s .kind) n (sym e ∙ at .checked .given .1) in
+    let room : 4 * n ≤ length (s .out .now) = c .before .if1 .left in
+    (f .few, omega (arith, f .size), room)
 
 -- src/lib.rt:300:1
 same-length : tie.Need-same-length
@@ -48,7 +76,15 @@ same-length c = search needs
 
 -- src/lib.rt:300:1
 returns-3 : tie.Need-returns-3
-returns-3 c = ?
+returns-3 c =
+    let at = c .before .before .before .before .before in
+    let s = at .before .before .before .before .args in
+    let e : at .before .before .check .result ≡ checkFile (s .bytes .now) (s .kind) =
+    simp (toZ-ofZ (at .before .before .before .before .fits .kind)) at (at .before .before .check .ensures) in
+    let n = at .checked .given .0 .0 in
+    let room : 4 * n ≤ length (s .out .now) = c .before .before .before .if1 .left in
+    let w = whole-load (s .bytes .now) (s .kind) (s .out .now) n (sym (at .checked .given .1) ∙ e) room in
+    (w .0, c .before .put-rows .ensures ∙ w .1)
 
 pub load-spec : {M : Type 1} → statement M
 load-spec =

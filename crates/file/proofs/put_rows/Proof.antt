@@ -68,12 +68,14 @@ loop-again c =
       toZ-ofZ {w = w32} {z = row .b} (record { sfits = told .1 .1 .1 .1 .0 .1 }),
     )
     at (w .put-row .ensures) in
-    let h : l .i < s .count = w .before .before .before .before .before .before .before .loop-test .taken in
-    (omega (arith, h), w .put-row .kept .0 ∙ l .inv .1,
-    written
-    ∙ ap (λ (r : Row). take (4 * l .i) (l .out) ++ numbersOf r ++ drop (4 * l .i + 4) (l .out)) (read .ensures)
-    ∙ ap (λ (o : List ℤ). take (4 * l .i) o ++ numbersOf (rowHeld (s .bytes .now) (l .i)) ++ drop (4 * l .i + 4) o) (l .inv .2)
-    ∙ one-row (s .bytes .now) (l .i) (s .out .now))
+    let h : l .i < s .count = w .before .before .before .before .before .before .before .loop-test .taken in (
+      omega (arith, h),
+      w .put-row .kept .0 ∙ l .inv .1,
+      written
+          ∙ ap (λ (r : Row). take (4 * l .i) (l .out) ++ numbersOf r ++ drop (4 * l .i + 4) (l .out)) (read .ensures)
+          ∙ ap (λ (o : List ℤ). take (4 * l .i) o ++ numbersOf (rowHeld (s .bytes .now) (l .i)) ++ drop (4 * l .i + 4) o) (l .inv .2)
+          ∙ one-row (s .bytes .now) (l .i) (s .out .now),
+    )
 
 -- src/lib.rt:287:1
 same-length : tie.Need-same-length Inv-loop μ-loop

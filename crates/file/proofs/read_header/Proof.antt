@@ -2,7 +2,6 @@ use mathlib.Core.Path.{_≡_}
 use Rattle.file.proofs.Rows.{header-is}
 use mir.Syntax.{w32}
 use mir.Facts.{toZ-ofZ}
-
 -- `read_header` meets its contract. Assumes nothing.
 
 use Rattle.file.specs.Column.{columnHeld}
