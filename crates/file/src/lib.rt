@@ -230,10 +230,11 @@ fn read_row(bytes: &[u8], i: usize) -> Row
 fn row_code(row: Row, first: bool, before: i32) -> u32
     ensures { λ r. ⌜ r ≡ heldCode row first before ⌝ }
 {
+    let inside = tables::in_range(row.pattern, row.score, row.a, row.b);
     if !row.fits {
         return 9;
     }
-    if !tables::in_range(row.pattern, row.score, row.a, row.b) {
+    if !inside {
         return 6;
     }
     if !(first | (row.score <= before)) {
