@@ -13,7 +13,7 @@ use borrow.Author.Tests.{eq-eqb, ne-eqb, leb-true}
 use Rattle.lists.specs.Lists.{every}
 use Rattle.rules.specs.File.{isDigit, afterBlanks, digitsFit, digitsFrom, columns}
 use Rattle.file.specs.Column.{upTo}
-use Rattle.file.proofs.Tests.{and-left, and-right}
+use Rattle.file_laws.specs.Tests.{and-left, and-right}
 
 pub none : (bytes : List ℕ) (e : ℕ) → upTo bytes e e ≡ []
 unfolding upTo

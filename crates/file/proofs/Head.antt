@@ -16,7 +16,7 @@ use Rattle.file_laws.specs.Accepted.{passed}
 use Rattle.file.specs.declared.Header.{Header}
 use Rattle.file.specs.Column.{columnHeld}
 use Rattle.file.specs.Held.{headerHeld, kindHeld, headAnswer, headOf, andRows}
-use Rattle.file.proofs.Tests.{and-left, and-right}
+use Rattle.file_laws.specs.Tests.{and-left, and-right}
 
 -- a column that fits holds its number
 pub number-held : (signed : Bool) (l : List ℕ) → columnFits signed l ≡ true → columnHeld signed l .number ≡ columnNumber signed l

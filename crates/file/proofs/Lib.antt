@@ -1,4 +1,3 @@
-pub mod Tests
 pub mod Bytes
 pub mod Columns
 pub mod Head

@@ -18,12 +18,13 @@ use Rattle.rules.specs.Tables.{natOf, num, inRange, rowInRange, rowInOrder}
 use Rattle.rules.specs.Calls.{rowCode}
 use Rattle.rules.specs.File.{columns, columnFits, columnNumber, endsLine, headerFits, rowStart, rowColumnsFit, rowNumbers, fileTable, fileRowCode, andRow, rowsLoaded}
 use Rattle.file_laws.specs.Table.{table-num}
+use Rattle.file_laws.specs.Legal.{row-passed}
 use Rattle.file.specs.declared.Column.{Column}
 use Rattle.file.specs.declared.Header.{Header}
 use Rattle.file.specs.declared.Row.{Row}
 use Rattle.file.specs.Column.{columnHeld}
 use Rattle.file.specs.Held.{headerHeld, rowHeld, heldCode, numbersOf}
-use Rattle.file.proofs.Tests.{and-left, and-right}
+use Rattle.file_laws.specs.Tests.{and-left, and-right}
 use Rattle.file.proofs.Head.{number-held}
 
 pub header-is : (bytes : List ℕ) (c k : Column) → c ≡ columnHeld false (columns bytes 0 6) → k ≡ columnHeld false (columns bytes 6 6) → _≡_ {A = Header} (record { fits = c .fits && (k .fits && endsLine bytes 12); count = natOf (c .number); kind = natOf (k .number) }) (headerHeld bytes)
@@ -127,9 +128,4 @@ module _ (bytes : List ℕ) (t : List ℤ) (i : ℕ) (so-far : rowsLoaded bytes 
       le-ind (λ (m : ℕ). rowsLoaded bytes t m ≡ Unfit (fileRowCode bytes t i) (i + 1)) (here z) (λ m l ih. rw ih) n h
 
 pub accepted-fits : (bytes : List ℕ) (t : List ℤ) (i : ℕ) → fileRowCode bytes t i ≡ 0 → rowColumnsFit bytes i ≡ true
-unfolding fileRowCode
-accepted-fits bytes t i z = go (rowColumnsFit bytes i) refl
-  where
-    go : (f : Bool) → rowColumnsFit bytes i ≡ f → f ≡ true
-    go true f = refl
-    go false f = let nine : _≡_ {A = ℕ} 9 0 = simp f at z in absurd (omega arith)
+accepted-fits bytes t i z = row-passed bytes t i z .0
