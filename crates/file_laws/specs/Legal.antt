@@ -67,9 +67,11 @@ one-kind bytes j k n m h l = same j k (wanted j (accepted bytes j n h .kind-fits
   where
     wanted : (x : ℤ) → kindFits bytes x ≡ true → (1 ≤ natOf x) × (fileKind bytes ≡ natOf x)
     wanted x f =
-        let some = and-left (leb 1 (natOf x)) (leb (natOf x) 2) (and-left (between 1 2 (natOf x)) (eqb (fileKind bytes) (natOf x)) f) in
-        (leb-true 1 (natOf x) some,
-        eqb-true (fileKind bytes) (natOf x) (and-right (between 1 2 (natOf x)) (eqb (fileKind bytes) (natOf x)) f))
+        let some = and-left (leb 1 (natOf x)) (leb (natOf x) 2) (and-left (between 1 2 (natOf x)) (eqb (fileKind bytes) (natOf x)) f) in (
+          leb-true 1 (natOf x) some,
+          eqb-true (fileKind bytes) (natOf x) (and-right (between 1 2 (natOf x)) (eqb (fileKind bytes) (natOf x)) f),
+        )
+
     same : (x y : ℤ) → (1 ≤ natOf x) × (fileKind bytes ≡ natOf x) → (1 ≤ natOf y) × (fileKind bytes ≡ natOf y) → x ≡ y
     same (pos a) (pos b) p q = ap pos (omega arith)
     same (pos a) (negsuc b) p q = absurd (omega arith)
