@@ -16,7 +16,7 @@ use Rattle.file_laws.specs.Accepted.{passed}
 use Rattle.file.specs.declared.Header.{Header}
 use Rattle.file.specs.Column.{columnHeld}
 use Rattle.file.specs.Held.{headerHeld, kindHeld, headAnswer, headOf, andRows}
-use Rattle.file_laws.specs.Tests.{and-left, and-right}
+use Rattle.file_laws.specs.Parts.{header-parts}
 
 -- a column that fits holds its number
 pub number-held : (signed : Bool) (l : List ℕ) → columnFits signed l ≡ true → columnHeld signed l .number ≡ columnNumber signed l
@@ -28,15 +28,10 @@ unfolding headOf headAnswer headerHeld headerFits fileCount fileKind kindFits ki
 head-is bytes kind = go (headerFits bytes) refl
   where
     count : headerFits bytes ≡ true → headerHeld bytes .count ≡ fileCount bytes
-    count f =
-        let h = columnFits false (columns bytes 0 6) in
-        ap natOf (number-held false (columns bytes 0 6) (and-left h (columnFits false (columns bytes 6 6) && endsLine bytes 12) f))
+    count f = ap natOf (number-held false (columns bytes 0 6) (header-parts bytes f .count))
 
     kind-is : headerFits bytes ≡ true → headerHeld bytes .kind ≡ fileKind bytes
-    kind-is f =
-        let h = columnFits false (columns bytes 0 6) in
-        let k = columnFits false (columns bytes 6 6) in
-        ap natOf (number-held false (columns bytes 6 6) (and-left k (endsLine bytes 12) (and-right h (k && endsLine bytes 12) f)))
+    kind-is f = ap natOf (number-held false (columns bytes 6 6) (header-parts bytes f .kind))
 
     fits : headerHeld bytes .fits ≡ headerFits bytes
     fits = refl

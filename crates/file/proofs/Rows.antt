@@ -24,7 +24,7 @@ use Rattle.file.specs.declared.Header.{Header}
 use Rattle.file.specs.declared.Row.{Row}
 use Rattle.file.specs.Column.{columnHeld}
 use Rattle.file.specs.Held.{headerHeld, rowHeld, heldCode, numbersOf}
-use Rattle.file_laws.specs.Tests.{and-left, and-right}
+use Rattle.file_laws.specs.Parts.{row-parts}
 use Rattle.file.proofs.Head.{number-held}
 
 pub header-is : (bytes : List ℕ) (c k : Column) → c ≡ columnHeld false (columns bytes 0 6) → k ≡ columnHeld false (columns bytes 6 6) → _≡_ {A = Header} (record { fits = c .fits && (k .fits && endsLine bytes 12); count = natOf (c .number); kind = natOf (k .number) }) (headerHeld bytes)
@@ -38,39 +38,17 @@ module _ (bytes : List ℕ) (i : ℕ) where
   row-is p s a b ep es ea eb =
       λ k. record { fits = ep k .fits && (es k .fits && (ea k .fits && (eb k .fits && endsLine bytes (rowStart i + 26)))); pattern = ep k .number; score = es k .number; a = ea k .number; b = eb k .number }
 
--- whether each part of row i + 1 is formed as it must be
-abbrev patternFits : List ℕ → ℕ → Bool
-patternFits bytes i = columnFits false (columns bytes (rowStart i) 6)
-
-abbrev scoreFits : List ℕ → ℕ → Bool
-scoreFits bytes i = columnFits false (columns bytes (rowStart i + 6) 6)
-
-abbrev aFits : List ℕ → ℕ → Bool
-aFits bytes i = columnFits true (columns bytes (rowStart i + 12) 7)
-
-abbrev bFits : List ℕ → ℕ → Bool
-bFits bytes i = columnFits true (columns bytes (rowStart i + 19) 7)
-
-abbrev lineEnds : List ℕ → ℕ → Bool
-lineEnds bytes i = endsLine bytes (rowStart i + 26)
-
 -- what is read of a row that fits are the file's numbers
 module _ (bytes : List ℕ) (i : ℕ) (fit : rowColumnsFit bytes i ≡ true) where
-  from-score : (scoreFits bytes i && (aFits bytes i && (bFits bytes i && lineEnds bytes i))) ≡ true
-  unfolding rowColumnsFit
-  from-score = and-right (patternFits bytes i) (scoreFits bytes i && (aFits bytes i && (bFits bytes i && lineEnds bytes i))) fit
-
-  from-a : (aFits bytes i && (bFits bytes i && lineEnds bytes i)) ≡ true
-  from-a = and-right (scoreFits bytes i) (aFits bytes i && (bFits bytes i && lineEnds bytes i)) from-score
-
   pub numbers-held : numbersOf (rowHeld bytes i) ≡ rowNumbers bytes i
-  unfolding numbersOf rowHeld rowNumbers rowColumnsFit
+  unfolding numbersOf rowHeld rowNumbers
   numbers-held =
       let o = rowStart i in
-      let pattern = number-held false (columns bytes o 6) (and-left (patternFits bytes i) (scoreFits bytes i && (aFits bytes i && (bFits bytes i && lineEnds bytes i))) fit) in
-      let score = number-held false (columns bytes (o + 6) 6) (and-left (scoreFits bytes i) (aFits bytes i && (bFits bytes i && lineEnds bytes i)) from-score) in
-      let a = number-held true (columns bytes (o + 12) 7) (and-left (aFits bytes i) (bFits bytes i && lineEnds bytes i) from-a) in
-      let b = number-held true (columns bytes (o + 19) 7) (and-left (bFits bytes i) (lineEnds bytes i) (and-right (aFits bytes i) (bFits bytes i && lineEnds bytes i) from-a)) in
+      let parts = row-parts bytes i fit in
+      let pattern = number-held false (columns bytes o 6) (parts .pattern) in
+      let score = number-held false (columns bytes (o + 6) 6) (parts .score) in
+      let a = number-held true (columns bytes (o + 12) 7) (parts .a) in
+      let b = number-held true (columns bytes (o + 19) 7) (parts .b) in
       λ k. pattern k ∷ score k ∷ a k ∷ b k ∷ []
 
   pub held-num : (n j : ℕ) → i < n → j < 4 → getD (numbersOf (rowHeld bytes i)) j (pos 0) ≡ num (fileTable bytes n) i j
