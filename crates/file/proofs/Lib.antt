@@ -1,5 +1,5 @@
 pub mod Bytes
-pub mod Columns
+pub mod Scans
 pub mod Head
 pub mod Naturals
 pub mod Rows

@@ -1,36 +1,49 @@
--- What the leaves of file reading answer, by document 01's "A number is right-justified". Definitions only. Assumes
--- nothing.
-use Prim.Native.Nat.{ℕ, _-_}
-use mathlib.Core.Bool.{Bool, cond, _&&_, not}
-use mathlib.Core.List.{List}
+-- What the leaf of file reading answers of a column's bytes, by document 01's "A number is right-justified", and how it
+-- goes through them. Definitions only. Assumes nothing.
+use Prim.Native.Nat.{ℕ, _+_, _*_, _-_}
+use mathlib.Core.Bool.{Bool, true, false, cond, _&&_, _||_, not}
+use mathlib.Core.List.{List, [], _∷_}
 use lib.Dec.{eqb}
 use lib.IntN.{pos, negℤ}
 use lib.ListN.{take, drop}
-use Rattle.lists.specs.Lists.{every}
-use Rattle.rules.specs.File.{isDigit, digitsFit, digitsFrom, columnFits, columnNumber}
+use Rattle.rules.specs.File.{isDigit, columnFits, columnNumber}
 use Rattle.file.specs.declared.Column.{Column}
-use Rattle.file.specs.declared.Digits.{Digits}
-
--- the bytes from place i up to place e, without that of e itself
-unfoldable pub upTo : List ℕ → ℕ → ℕ → List ℕ
-upTo bytes i e = take (e - i) (drop i bytes)
-
--- digits, leading zeros among them, and what they are worth
-unfoldable pub anyDigits : List ℕ → Digits
-anyDigits l = record { fit = every isDigit l; worth = cond (every isDigit l) (digitsFrom 0 l) 0 }
-
--- digits without a leading zero, and what they are worth
-unfoldable pub digitsHeld : List ℕ → Digits
-digitsHeld l = record { fit = digitsFit l; worth = cond (digitsFit l) (digitsFrom 0 l) 0 }
+use Rattle.file.specs.declared.Scan.{Scan}
 
 -- what a column holds: whether it is formed as a number, and the number (0 where it isn't)
 unfoldable pub columnHeld : Bool → List ℕ → Column
 columnHeld signed l =
     record { fits = columnFits signed l; number = cond (columnFits signed l) (columnNumber signed l) (pos 0) }
 
--- digits as a column without a minus, and after one
-unfoldable pub plainColumn : Digits → Column
-plainColumn d = record { fits = d .fit; number = pos (d .worth) }
+-- the bytes from place i up to place e, without that of e itself
+unfoldable pub upTo : List ℕ → ℕ → ℕ → List ℕ
+upTo bytes i e = take (e - i) (drop i bytes)
 
-unfoldable pub minusColumn : Digits → Column
-minusColumn d = record { fits = d .fit && not (eqb (d .worth) 0); number = negℤ (pos (d .worth)) }
+unfoldable pub digitWorth : ℕ → ℕ
+digitWorth b = cond (isDigit b) (b - 48) 0
+
+-- nothing known yet
+abbrev pub start : Scan
+start = record { seen = false; digit = false; negative = false; bad = false; worth = 0 }
+
+-- one byte more: a blank or a minus stands only where no other byte stood before it, a digit not after a single 0
+unfoldable pub stepped : Bool → Scan → ℕ → Scan
+stepped signed s b =
+    record {
+      seen = not (eqb b 32);
+      digit = isDigit b;
+      negative = s .negative || (signed && eqb b 45);
+      bad = s .bad
+      || ((s .digit && eqb (s .worth) 0) || (not (isDigit b) && (s .seen || not (eqb b 32 || (signed && eqb b 45)))));
+      worth = 10 * s .worth + digitWorth b;
+    }
+
+unfoldable pub scanned : Bool → Scan → List ℕ → Scan
+scanned signed s [] = s
+scanned signed s (b ∷ l) = scanned signed (stepped signed s b) l
+
+-- a column that is scanned so
+unfoldable pub heldOf : Scan → Column
+heldOf s =
+    let fits = not (s .bad) && (s .digit && not (s .negative && eqb (s .worth) 0)) in
+    record { fits = fits; number = cond fits (cond (s .negative) (negℤ (pos (s .worth))) (pos (s .worth))) (pos 0) }

@@ -4,8 +4,8 @@ ghost use Prim.Native.Nat.{_+_, _-_, _*_, _≤_, _<_};
 ghost use mathlib.Core.List.{[], _∷_, _++_};
 ghost use lib.ListN.{length, take, drop};
 ghost use Rattle.rules.specs.Tables.{natOf};
-ghost use Rattle.rules.specs.File.{afterBlanks, hasMinus, columns, fileTable, rowsLoaded, checkFile, loadAnswer, loadNumbers};
-ghost use Rattle.file.specs.Column.{upTo, anyDigits, digitsHeld, plainColumn, minusColumn, columnHeld};
+ghost use Rattle.rules.specs.File.{columns, fileTable, rowsLoaded, checkFile, loadAnswer, loadNumbers};
+ghost use Rattle.file.specs.Column.{upTo, digitWorth, stepped, start, scanned, heldOf, columnHeld};
 ghost use Rattle.file.specs.Held.{headerHeld, kindHeld, headAnswer, rowHeld, heldCode, tableHeld};
 use rules::Loaded;
 
@@ -15,111 +15,90 @@ pub struct Column {
     pub number: i32,
 }
 
-// Whether bytes are digits, and what they are worth (0 where they aren't).
-struct Digits {
-    fit: bool,
+// What is known of a column's bytes up to a place.
+struct Scan {
+    // The last byte is no blank.
+    seen: bool,
+    // The last byte is a digit.
+    digit: bool,
+    // A minus is among them.
+    negative: bool,
+    // One of them stands where it must not.
+    bad: bool,
+    // What their digits are worth.
     worth: u32,
 }
 
-// The first place from `at` on that has no blank; `end` where all have one.
-fn after_blanks(bytes: &[u8], at: usize, end: usize) -> usize
-    requires { ⌜ (at ≤ end) × (end ≤ length (now bytes)) ⌝ }
-    ensures { λ r. ⌜ (at ≤ r) × (r ≤ end) ⌝ }
-    ensures { λ r. ⌜ afterBlanks (upTo (now (bytes .entry)) at end) ≡ upTo (now (bytes .entry)) r end ⌝ }
+// What a digit is worth; 0 for another byte.
+fn digit_worth(b: u8) -> u32
+    ensures { λ r. ⌜ r ≡ digitWorth b ⌝ }
 {
-    let mut i = at;
-    while i < end {
-        if bytes[i] != 32 {
-            return i;
-        }
-        i += 1;
+    if (48 <= b) & (b <= 57) {
+        return (b - 48) as u32;
     }
-    i
+    0
 }
 
-// Whether a minus stands at `at`, in a column that may have one.
-fn minus_at(bytes: &[u8], at: usize, end: usize, signed: bool) -> bool
-    requires { ⌜ (at ≤ end) × (end ≤ length (now bytes)) ⌝ }
-    ensures { λ r. ⌜ r ≡ hasMinus signed (upTo (now (bytes .entry)) at end) ⌝ }
+// One byte more.
+fn step(s: Scan, b: u8, signed: bool) -> Scan
+    requires { ⌜ s .worth < 10000000 ⌝ }
+    ensures { λ r. ⌜ r ≡ stepped signed s b ⌝ }
 {
-    if at < end {
-        return signed & (bytes[at] == 45);
+    let blank = b == 32;
+    let minus = signed & (b == 45);
+    let digit = (48 <= b) & (b <= 57);
+    let after_zero = s.digit & (s.worth == 0);
+    let astray = !digit & (s.seen | !(blank | minus));
+    Scan {
+        seen: !blank,
+        digit: digit,
+        negative: s.negative | minus,
+        bad: s.bad | (after_zero | astray),
+        worth: 10 * s.worth + digit_worth(b),
     }
-    false
 }
 
-// What a digit is worth.
-fn digit(b: u8) -> u32
-    requires { ⌜ (48 ≤ b) × (b ≤ 57) ⌝ }
-    ensures { λ r. ⌜ r ≡ b - 48 ⌝ }
-{
-    (b - 48) as u32
-}
-
-fn any_digits(bytes: &[u8], at: usize, end: usize) -> Digits
+// All bytes from `at` up to `end`.
+fn scan_from(bytes: &[u8], at: usize, end: usize, signed: bool) -> Scan
     requires { ⌜ (at ≤ end) × (end ≤ at + 7) × (end ≤ length (now bytes)) ⌝ }
-    ensures { λ r. ⌜ r ≡ anyDigits (upTo (now (bytes .entry)) at end) ⌝ }
+    ensures { λ r. ⌜ r ≡ scanned signed start (upTo (now (bytes .entry)) at end) ⌝ }
     ensures { λ r. ⌜ r .worth < 10000000 ⌝ }
 {
-    let mut n: u32 = 0;
+    let mut s = Scan {
+        seen: false,
+        digit: false,
+        negative: false,
+        bad: false,
+        worth: 0,
+    };
     let mut i = at;
     while i < end {
-        let b = bytes[i];
-        if !((48 <= b) & (b <= 57)) {
-            return Digits {
-                fit: false,
-                worth: 0,
-            };
-        }
-        n = 10 * n + digit(b);
+        s = step(s, bytes[i], signed);
         i += 1;
     }
-    Digits {
-        fit: true,
-        worth: n,
-    }
+    s
 }
 
-// Digits without a leading zero, 0 itself excepted.
-fn digits_at(bytes: &[u8], at: usize, end: usize) -> Digits
-    requires { ⌜ (at ≤ end) × (end ≤ at + 7) × (end ≤ length (now bytes)) ⌝ }
-    ensures { λ r. ⌜ r ≡ digitsHeld (upTo (now (bytes .entry)) at end) ⌝ }
-    ensures { λ r. ⌜ r .worth < 10000000 ⌝ }
+// What a column holds by its scan. A minus never stands before 0.
+fn held(s: Scan) -> Column
+    requires { ⌜ s .worth < 10000000 ⌝ }
+    ensures { λ r. ⌜ r ≡ heldOf s ⌝ }
 {
-    if end <= at {
-        return Digits {
-            fit: false,
-            worth: 0,
+    if !(!s.bad & (s.digit & !(s.negative & (s.worth == 0)))) {
+        return Column {
+            fits: false,
+            number: 0,
         };
     }
-    if bytes[at] == 48 {
-        return Digits {
-            fit: at + 1 == end,
-            worth: 0,
+    if s.negative {
+        return Column {
+            fits: true,
+            number: 0 - (s.worth as i32),
         };
     }
-    any_digits(bytes, at, end)
-}
-
-// A number without a minus.
-fn plain(d: Digits) -> Column
-    requires { ⌜ d .worth < 10000000 ⌝ }
-    ensures { λ r. ⌜ r ≡ plainColumn d ⌝ }
-{
     Column {
-        fits: d.fit,
-        number: d.worth as i32,
-    }
-}
-
-// A number after a minus, which 0 never has.
-fn negative(d: Digits) -> Column
-    requires { ⌜ d .worth < 10000000 ⌝ }
-    ensures { λ r. ⌜ r ≡ minusColumn d ⌝ }
-{
-    Column {
-        fits: d.fit & (d.worth != 0),
-        number: 0 - (d.worth as i32),
+        fits: true,
+        number: s.worth as i32,
     }
 }
 
@@ -128,12 +107,7 @@ pub fn column_at(bytes: &[u8], at: usize, width: usize, signed: bool) -> Column
     requires { ⌜ (width ≤ 7) × (at + width ≤ length (now bytes)) ⌝ }
     ensures { λ r. ⌜ r ≡ columnHeld signed (columns (now (bytes .entry)) at width) ⌝ }
 {
-    let end = at + width;
-    let first = after_blanks(bytes, at, end);
-    if minus_at(bytes, first, end, signed) {
-        return negative(digits_at(bytes, first + 1, end));
-    }
-    plain(digits_at(bytes, first, end))
+    held(scan_from(bytes, at, at + width, signed))
 }
 
 // A number as one from 0 up: 0 where it is below.

@@ -1,101 +1,38 @@
--- `column_at` meets its contract: blanks, then a minus or none, then digits. Assumes nothing.
-use mathlib.Core.Path.{_≡_, refl, sym, ap, _∙_}
-use Prim.Native.Nat.{_+_, _<_}
-use native.Mathlib.Omega.{arith}
-use Rattle.rules.specs.File.{hasMinus, afterMinus, digitsOf}
-use Rattle.file.specs.Column.{upTo, digitsHeld, plainColumn, minusColumn, columnHeld}
-use Rattle.file.proofs.Columns.{whole, minus-inside, after-minus, no-minus, minus-column, plain-column}
+-- `column_at` meets its contract: a column scanned to its end holds what document 01 says. Assumes nothing.
+use mathlib.Core.Path.{_≡_, sym, ap, _∙_}
+use Prim.Native.Nat.{_+_}
+use Rattle.file.specs.Column.{upTo, heldOf, columnHeld}
+use Rattle.file.proofs.Bytes.{whole}
+use Rattle.file.proofs.Scans.{scan-holds}
 use borrow.Author.Needs.{needs}
 use Rattle.file.proofs.column_at.Statement.{statement}
 use Rattle.file.proofs.column_at.Tie as tie
 use Rattle.file.proofs.column_at.Reads as reads
 use Rattle.file.proofs.column_at.Lts as lts
-use Rattle.file.proofs.after_blanks.Reads as after-blanks-reads
-use Rattle.file.proofs.digits_at.Reads as digits-at-reads
-use Rattle.file.proofs.minus_at.Reads as minus-at-reads
-use Rattle.file.proofs.negative.Reads as negative-reads
-use Rattle.file.proofs.plain.Reads as plain-reads
+use Rattle.file.proofs.held.Reads as held-reads
+use Rattle.file.proofs.scan_from.Reads as scan-from-reads
 
--- src/lib.rt:127:15
-add-end : tie.Need-add-end
-add-end c = search needs
+-- src/lib.rt:110:31
+add-scan-from : tie.Need-add-scan-from
+add-scan-from c = search needs
 
--- src/lib.rt:128:9
-after-blanks-requires : tie.Need-after-blanks-requires
-after-blanks-requires c κs = search needs
+-- src/lib.rt:110:10
+scan-from-requires : tie.Need-scan-from-requires
+scan-from-requires c κs = search needs
 
--- src/lib.rt:129:8
-minus-at-requires : tie.Need-minus-at-requires
-minus-at-requires c κs = search needs
+-- src/lib.rt:110:5
+held-requires : tie.Need-held-requires
+held-requires c κs = search needs
 
--- src/lib.rt:130:42
-add-digits-at : tie.Need-add-digits-at
-add-digits-at c = search needs
-
--- src/lib.rt:130:25
-digits-at-requires : tie.Need-digits-at-requires
-digits-at-requires c κs =
-    let s = c .before .before .before .before .args in
-    let e = s .at + s .width in
-    let first = c .before .before .after-blanks .result in
-    let h : first < e =
-    minus-inside (s .bytes .now) first e (s .signed) (omega arith) (sym (c .before .minus-at .ensures) ∙ c .if1 .taken) in
-    search needs
-
--- src/lib.rt:130:9
-negative-requires : tie.Need-negative-requires
-negative-requires c κs = search needs
-
--- src/lib.rt:130:9
+-- src/lib.rt:106:1
 returns : tie.Need-returns
 returns c =
-    let s = c .before .before .before .before .before .before .args in
+    let s = c .before .before .before .args in
     let l = s .bytes .now in
-    let e = s .at + s .width in
-    let blanks = c .before .before .before .before .after-blanks in
-    let first = blanks .result in
-    let m = sym (c .before .before .before .minus-at .ensures) ∙ c .before .before .if1 .taken in
-    let inside = minus-inside l first e (s .signed) (omega arith) m in
-    c .negative .ensures
-    ∙ ap minusColumn (c .before .digits-at .ensures .0)
-    ∙ minus-column (s .signed) (upTo l (s .at) e) (upTo l (first + 1) e) (ap (hasMinus (s .signed)) (blanks .ensures .1) ∙ m)
-    (ap (afterMinus (s .signed)) (blanks .ensures .1) ∙ after-minus l first e (s .signed) inside (omega arith) m)
-    ∙ sym (ap (columnHeld (s .signed)) (whole l (s .at) (s .width)))
-
--- src/lib.rt:132:11
-digits-at-requires-2 : tie.Need-digits-at-requires-2
-digits-at-requires-2 c κs = search needs
-
--- src/lib.rt:132:5
-plain-requires : tie.Need-plain-requires
-plain-requires c κs = search needs
-
--- src/lib.rt:123:1
-returns-2 : tie.Need-returns-2
-returns-2 c =
-    let s = c .before .before .before .before .before .before .args in
-    let l = s .bytes .now in
-    let e = s .at + s .width in
-    let blanks = c .before .before .before .before .after-blanks in
-    let first = blanks .result in
-    let m = sym (c .before .before .before .minus-at .ensures) ∙ c .before .before .if1 .left in
-    c .plain .ensures
-    ∙ ap plainColumn (c .before .digits-at2 .ensures .0)
-    ∙ plain-column (s .signed) (upTo l (s .at) e) (upTo l first e) (ap (hasMinus (s .signed)) (blanks .ensures .1) ∙ m)
-    (ap (afterMinus (s .signed)) (blanks .ensures .1) ∙ no-minus (s .signed) (upTo l first e) m)
+    c .held .ensures
+    ∙ ap heldOf (c .before .scan-from .ensures .0)
+    ∙ scan-holds (s .signed) (upTo l (s .at) (s .at + s .width))
     ∙ sym (ap (columnHeld (s .signed)) (whole l (s .at) (s .width)))
 
 pub column-at-spec : {M : Type 1} → statement M
-column-at-spec =
-    tie.close
-    (tie.spec
-    add-end
-    after-blanks-requires
-    minus-at-requires
-    add-digits-at
-    digits-at-requires
-    negative-requires
-    returns
-    digits-at-requires-2
-    plain-requires
-    returns-2)
+column-at-spec = tie.close (tie.spec add-scan-from scan-from-requires held-requires returns)

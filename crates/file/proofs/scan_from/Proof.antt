@@ -1,0 +1,89 @@
+-- `scan_from` meets its contract: the bytes passed are scanned. Assumes nothing.
+use mathlib.Core.Path.{_≡_, refl, sym, ap, _∙_}
+use mathlib.Core.List.{List, [], _∷_}
+use Prim.Native.Nat.{ℕ, suc, _+_, _-_, _^_, _≤_, _<_}
+use native.Mathlib.Omega.{arith}
+use lib.ListN.{getD}
+use borrow.Author.Needs.{needs}
+use Rattle.file.specs.declared.Scan.{Scan}
+use Rattle.file.specs.Column.{upTo, digitWorth, stepped, start, scanned}
+use Rattle.file.proofs.Bytes.{none, next, worth-small, worth-grows, seven}
+use Rattle.file.proofs.scan_from.Statement.{statement}
+use Rattle.file.proofs.scan_from.Tie as tie
+use Rattle.file.proofs.scan_from.Reads as reads
+use Rattle.file.proofs.scan_from.Lts as lts
+use Rattle.file.proofs.step.Reads as step-reads
+
+abbrev Inv-loop : tie.InvT-loop
+Inv-loop bytes at end signed s₀ i₀ s i =
+    (at ≤ i) × (i ≤ end) × (s .worth < 10 ^ (i - at))
+    × (scanned signed start (upTo bytes at end) ≡ scanned signed s (upTo bytes i end))
+
+abbrev μ-loop : tie.MeasureT-loop
+μ-loop bytes at end signed s₀ i₀ s i = end - i
+
+-- src/lib.rt:75:5
+loop-holds : tie.Need-loop-holds Inv-loop μ-loop
+loop-holds c =
+    let at = c .before .args .at in
+    let k : at - at ≡ 0 = omega arith in
+    (search needs, search needs, rw k (omega arith), refl)
+
+-- src/lib.rt:76:21
+shared-slice-read-step : tie.Need-shared-slice-read-step Inv-loop μ-loop
+shared-slice-read-step c = search needs
+
+-- src/lib.rt:76:9
+step-requires : tie.Need-step-requires Inv-loop μ-loop
+step-requires c κs =
+    let l = c .before .before .loop in
+    let s = c .before .before .before .before .args in
+    seven (l .s .worth) (l .i - s .at) (l .inv .2) (omega arith)
+
+-- src/lib.rt:77:9
+add-i : tie.Need-add-i Inv-loop μ-loop
+add-i c = search needs
+
+-- src/lib.rt:75:5
+loop-less : tie.Need-loop-less Inv-loop μ-loop
+loop-less c = search needs
+
+-- src/lib.rt:75:5
+loop-again : tie.Need-loop-again Inv-loop μ-loop
+unfolding scanned stepped
+loop-again c =
+    let l = c .before .before .before .loop in
+    let s = c .before .before .before .before .before .args in
+    let bytes = s .bytes .now in
+    let b = getD bytes (l .i) 0 in
+    let k : l .i + 1 - s .at ≡ suc (l .i - s .at) = omega arith in
+    let worth = ap (λ (x : Scan). x .worth) (c .step .ensures) in
+    (search needs, search needs,
+    rw (k, worth) (worth-grows (l .s .worth) (digitWorth b) (l .i - s .at) (l .inv .2) (worth-small b)),
+    l .inv .3
+    ∙ ap (scanned (s .signed) (l .s)) (next bytes (l .i) (s .end) (omega arith) (omega arith))
+    ∙ ap (λ (x : Scan). scanned (s .signed) x (upTo bytes (l .i + 1) (s .end))) (sym (c .step .ensures)))
+
+-- src/lib.rt:62:1
+returns : tie.Need-returns Inv-loop μ-loop
+unfolding scanned
+returns c =
+    let l = c .before .loop in
+    let s = c .before .before .before .args in
+    let e : l .i ≡ s .end = omega arith in
+    let z : upTo (s .bytes .now) (l .i) (s .end) ≡ [] = rw e (none (s .bytes .now) (s .end)) in
+    (sym (l .inv .3 ∙ ap (scanned (s .signed) (l .s)) z), seven (l .s .worth) (l .i - s .at) (l .inv .2) (omega arith))
+
+pub scan-from-spec : {M : Type 1} → statement M
+scan-from-spec =
+    tie.close
+    (tie.spec
+    Inv-loop
+    μ-loop
+    loop-holds
+    shared-slice-read-step
+    step-requires
+    add-i
+    loop-less
+    loop-again
+    returns)
