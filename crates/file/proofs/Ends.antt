@@ -14,10 +14,6 @@ use Rattle.rules.proofs.Loaded.{the-type}
 use Rattle.rules.specs.declared.Loaded.{Loaded}
 use Rattle.rules.specs.declared.Loaded.the-variants.{Rows, Unfit}
 use Rattle.rules.specs.File.{fileTable, checkFile, andSlice, loadedInto, loadAnswer, loadNumbers}
-use Rattle.file_laws.specs.Accepted.{accepted}
-use Rattle.file.specs.Held.{tableHeld}
-use Rattle.file.proofs.Rows.{accepted-fits}
-use Rattle.file.proofs.Table.{held-table}
 
 -- an answer that is no row count
 abbrev pub IsUnfit : Loaded → Type 0
@@ -41,10 +37,6 @@ module _ (bytes : List ℕ) (kind : ℤ) (lent : List ℤ) where
   unfolding andSlice loadedInto
   short-load n e h = simp (lt-ltb (length lent) (4 * n) h) at (ends (Rows n) e)
 
-  pub whole-load : (n : ℕ) → Rows n ≡ checkFile bytes kind → 4 * n ≤ length lent → (Rows n ≡ loadAnswer bytes kind lent) × (tableHeld bytes n ++ drop (4 * n) lent ≡ loadNumbers bytes kind lent)
+  pub whole-load : (n : ℕ) → Rows n ≡ checkFile bytes kind → 4 * n ≤ length lent → (Rows n ≡ loadAnswer bytes kind lent) × (fileTable bytes n ++ drop (4 * n) lent ≡ loadNumbers bytes kind lent)
   unfolding andSlice loadedInto
-  whole-load n e h =
-      let f = accepted bytes kind n (sym e) in
-      let table = held-table bytes n (λ i k. accepted-fits bytes (fileTable bytes n) i (f .rows i k)) in
-      let both = simp (le-ltb (length lent) (4 * n) h) at (ends (Rows n) e) in
-      (both .0, ap (λ (t : List ℤ). t ++ drop (4 * n) lent) table ∙ both .1)
+  whole-load n e h = simp (le-ltb (length lent) (4 * n) h) at (ends (Rows n) e)

@@ -13,7 +13,7 @@ use Rattle.rules.specs.File.{isDigit, afterBlanks, digitsFit, digitsFrom, hasMi
 use Rattle.file_laws.specs.Tests.{and-left, and-right}
 use Rattle.file.specs.declared.Column.{Column}
 use Rattle.file.specs.declared.Scan.{Scan}
-use Rattle.file.specs.Column.{digitWorth, stepped, start, scanned, heldOf, columnHeld}
+use Rattle.file.specs.Column.{digitWorth, stepped, start, scanned, signedWorth, heldOf, columnHeld}
 use Rattle.file.proofs.Bytes.{digit-range}
 
 abbrev unfit : Column
@@ -90,7 +90,7 @@ module _ (signed : Bool) where
   neither b e m d = simp (d, e, m)
 
   from-digits : (m : Bool) (n : ℕ) (l : List ℕ) → (n ≡ 0 → ⊥) → heldOf (scanned signed (inDigits m n) l) ≡ cond (every isDigit l) (record { fits = true; number = cond m (negℤ (pos (digitsFrom n l))) (pos (digitsFrom n l)) }) unfit
-  unfolding scanned heldOf every digitsFrom
+  unfolding scanned heldOf signedWorth every digitsFrom
   from-digits m n [] some = simp (no-zero m n some)
   from-digits m n (b ∷ l) some =
       go (isDigit b) refl (from-digits m (10 * n + (b - 48)) l (λ z. some (omega arith)))
@@ -108,7 +108,7 @@ module _ (signed : Bool) where
 
   -- a single 0, or one with bytes after it
   zero-first : (m : Bool) (l : List ℕ) → heldOf (scanned signed (inDigits m 0) l) ≡ numberHeld m (48 ∷ l)
-  unfolding scanned stepped heldOf numberHeld digitsFit digitsFrom
+  unfolding scanned stepped heldOf signedWorth numberHeld digitsFit digitsFrom
   zero-first true [] = refl
   zero-first false [] = refl
   zero-first m (c ∷ l) = bad-ends (stepped signed (inDigits m 0) c) l refl
@@ -163,3 +163,12 @@ module _ (signed : Bool) where
       go : (t : Bool) → eqb b 32 ≡ t → heldOf (scanned signed start l) ≡ numberHeld (hasMinus signed (afterBlanks l)) (afterMinus signed (afterBlanks l)) → heldOf (scanned signed (stepped signed start b) l) ≡ numberHeld (hasMinus signed (cond t (afterBlanks l) (b ∷ l))) (afterMinus signed (cond t (afterBlanks l) (b ∷ l)))
       go true e below = ap (λ (s : Scan). heldOf (scanned signed s l)) (blank-step b e) ∙ below
       go false e below = first-byte b l e
+
+  -- a column that fits: the scan has met its number
+  pub scan-number : (l : List ℕ) → columnFits signed l ≡ true → signedWorth (scanned signed start l) ≡ columnNumber signed l
+  unfolding heldOf columnHeld
+  scan-number l f =
+      let same = scan-holds l in
+      let s = scanned signed start l in
+      let fits : (not (s .bad) && (s .digit && not (s .negative && eqb (s .worth) 0))) ≡ true = ap (λ (c : Column). c .fits) same ∙ f in
+      simp (fits, f) at (ap (λ (c : Column). c .number) same)

@@ -4,7 +4,7 @@ use Prim.Native.Nat.{ℕ, _+_, _*_, _-_}
 use mathlib.Core.Bool.{Bool, true, false, cond, _&&_, _||_, not}
 use mathlib.Core.List.{List, [], _∷_}
 use lib.Dec.{eqb}
-use lib.IntN.{pos, negℤ}
+use lib.IntN.{ℤ, pos, negℤ}
 use lib.ListN.{take, drop}
 use Rattle.rules.specs.File.{isDigit, columnFits, columnNumber}
 use Rattle.file.specs.declared.Column.{Column}
@@ -42,8 +42,12 @@ unfoldable pub scanned : Bool → Scan → List ℕ → Scan
 scanned signed s [] = s
 scanned signed s (b ∷ l) = scanned signed (stepped signed s b) l
 
+-- the number that a scan has met
+unfoldable pub signedWorth : Scan → ℤ
+signedWorth s = cond (s .negative) (negℤ (pos (s .worth))) (pos (s .worth))
+
 -- a column that is scanned so
 unfoldable pub heldOf : Scan → Column
 heldOf s =
     let fits = not (s .bad) && (s .digit && not (s .negative && eqb (s .worth) 0)) in
-    record { fits = fits; number = cond fits (cond (s .negative) (negℤ (pos (s .worth))) (pos (s .worth))) (pos 0) }
+    record { fits = fits; number = cond fits (signedWorth s) (pos 0) }

@@ -1,6 +1,7 @@
 -- What is read of the header and of a row, and the checks in the code's own order, by document 01's "The strict file".
 -- Definitions only. Assumes nothing.
-use Prim.Native.Nat.{ℕ, zero, suc, _+_, _*_}
+use Prim.Native.Nat.{ℕ, _+_, _*_, _<_}
+use mathlib.Core.Path.{_≡_}
 use mathlib.Core.Bool.{Bool, true, false, cond, _&&_, _||_, not}
 use mathlib.Core.List.{List, [], _∷_, _++_}
 use lib.Dec.{leb, ltb, eqb}
@@ -75,7 +76,6 @@ andRows bytes (Unfit code row) = Unfit code row
 unfoldable pub numbersOf : Row → List ℤ
 numbersOf row = row .pattern ∷ row .score ∷ row .a ∷ row .b ∷ []
 
--- what is read of the first n rows, as a table
-unfoldable pub tableHeld : List ℕ → ℕ → List ℤ
-tableHeld bytes zero = []
-tableHeld bytes (suc n) = tableHeld bytes n ++ numbersOf (rowHeld bytes n)
+-- the columns and LF of the first n rows are formed as they must be
+abbrev pub RowsFit : List ℕ → ℕ → Type 0
+RowsFit bytes n = (i : ℕ) → i < n → rowColumnsFit bytes i ≡ true

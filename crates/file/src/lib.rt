@@ -1,12 +1,13 @@
 // The strict file: its rows read into lent numbers, or checked alone.
 ghost use mathlib.Core.Path.{_≡_};
+ghost use mathlib.Core.Bool.{true};
 ghost use Prim.Native.Nat.{_+_, _-_, _*_, _≤_, _<_};
 ghost use mathlib.Core.List.{[], _∷_, _++_};
 ghost use lib.ListN.{length, take, drop};
 ghost use Rattle.rules.specs.Tables.{natOf};
-ghost use Rattle.rules.specs.File.{columns, fileTable, rowsLoaded, checkFile, loadAnswer, loadNumbers};
-ghost use Rattle.file.specs.Column.{upTo, digitWorth, stepped, start, scanned, heldOf, columnHeld};
-ghost use Rattle.file.specs.Held.{headerHeld, kindHeld, headAnswer, rowHeld, heldCode, tableHeld};
+ghost use Rattle.rules.specs.File.{columns, columnFits, columnNumber, rowColumnsFit, rowNumbers, fileTable, rowsLoaded, checkFile, loadAnswer, loadNumbers};
+ghost use Rattle.file.specs.Column.{upTo, digitWorth, stepped, start, scanned, signedWorth, heldOf, columnHeld};
+ghost use Rattle.file.specs.Held.{headerHeld, kindHeld, headAnswer, rowHeld, heldCode, RowsFit};
 use rules::Loaded;
 
 // What a column holds: whether it is formed as a number, and the number (0 where it isn't).
@@ -79,6 +80,17 @@ fn scan_from(bytes: &[u8], at: usize, end: usize, signed: bool) -> Scan
     s
 }
 
+// The number that a scan has met.
+fn signed_worth(s: Scan) -> i32
+    requires { ⌜ s .worth < 10000000 ⌝ }
+    ensures { λ r. ⌜ r ≡ signedWorth s ⌝ }
+{
+    if s.negative {
+        return 0 - (s.worth as i32);
+    }
+    s.worth as i32
+}
+
 // What a column holds by its scan. A minus never stands before 0.
 fn held(s: Scan) -> Column
     requires { ⌜ s .worth < 10000000 ⌝ }
@@ -90,24 +102,27 @@ fn held(s: Scan) -> Column
             number: 0,
         };
     }
-    if s.negative {
-        return Column {
-            fits: true,
-            number: 0 - (s.worth as i32),
-        };
-    }
     Column {
         fits: true,
-        number: s.worth as i32,
+        number: signed_worth(s),
     }
 }
 
-// The number that a column of `width` bytes holds, the first of them at `at`.
+// What a column of `width` bytes holds, the first of them at `at`.
 pub fn column_at(bytes: &[u8], at: usize, width: usize, signed: bool) -> Column
     requires { ⌜ (width ≤ 7) × (at + width ≤ length (now bytes)) ⌝ }
     ensures { λ r. ⌜ r ≡ columnHeld signed (columns (now (bytes .entry)) at width) ⌝ }
 {
     held(scan_from(bytes, at, at + width, signed))
+}
+
+// The number of a column that fits.
+fn number_at(bytes: &[u8], at: usize, width: usize, signed: bool) -> i32
+    requires { ⌜ (width ≤ 7) × (at + width ≤ length (now bytes)) ⌝ }
+    requires { ⌜ columnFits signed (columns (now bytes) at width) ≡ true ⌝ }
+    ensures { λ r. ⌜ r ≡ columnNumber signed (columns (now (bytes .entry)) at width) ⌝ }
+{
+    signed_worth(scan_from(bytes, at, at + width, signed))
 }
 
 // A number as one from 0 up: 0 where it is below.
@@ -248,7 +263,7 @@ pub fn check(bytes: &[u8], kind: i32) -> Loaded
 }
 
 // Four numbers from place o on.
-fn put_row(out: &mut [i32], o: usize, pattern: i32, score: i32, a: i32, b: i32)
+fn put_four(out: &mut [i32], o: usize, pattern: i32, score: i32, a: i32, b: i32)
     requires { ⌜ o + 4 ≤ length (now out) ⌝ }
     ensures { λ _. ⌜ now (out .exit) ≡ take o (now (out .entry)) ++ (pattern ∷ score ∷ a ∷ b ∷ []) ++ drop (o + 4) (now (out .entry)) ⌝ }
 {
@@ -258,15 +273,29 @@ fn put_row(out: &mut [i32], o: usize, pattern: i32, score: i32, a: i32, b: i32)
     out[o + 3] = b;
 }
 
-// The rows of a checked file, written from the front of `out`.
+// Row i + 1, which fits, written to its place.
+fn put_row(bytes: &[u8], i: usize, out: &mut [i32])
+    requires { ⌜ (i < 65535) × (13 + 27 * (i + 1) ≤ length (now bytes)) × (4 * i + 4 ≤ length (now out)) ⌝ }
+    requires { ⌜ rowColumnsFit (now bytes) i ≡ true ⌝ }
+    ensures { λ _. ⌜ now (out .exit) ≡ take (4 * i) (now (out .entry)) ++ rowNumbers (now (bytes .entry)) i ++ drop (4 * i + 4) (now (out .entry)) ⌝ }
+{
+    let o = 13 + 27 * i;
+    let pattern = number_at(bytes, o, 6, false);
+    let score = number_at(bytes, o + 6, 6, false);
+    let a = number_at(bytes, o + 12, 7, true);
+    let b = number_at(bytes, o + 19, 7, true);
+    put_four(out, 4 * i, pattern, score, a, b);
+}
+
+// The first `count` rows, which fit, written from the front of `out`.
 fn put_rows(bytes: &[u8], count: usize, out: &mut [i32])
     requires { ⌜ (count ≤ 65535) × (13 + 27 * count ≤ length (now bytes)) × (4 * count ≤ length (now out)) ⌝ }
-    ensures { λ _. ⌜ now (out .exit) ≡ tableHeld (now (bytes .entry)) count ++ drop (4 * count) (now (out .entry)) ⌝ }
+    requires { ⌜ RowsFit (now bytes) count ⌝ }
+    ensures { λ _. ⌜ now (out .exit) ≡ fileTable (now (bytes .entry)) count ++ drop (4 * count) (now (out .entry)) ⌝ }
 {
     let mut i: usize = 0;
     while i < count {
-        let row = read_row(bytes, i);
-        put_row(out, 4 * i, row.pattern, row.score, row.a, row.b);
+        put_row(bytes, i, out);
         i += 1;
     }
 }

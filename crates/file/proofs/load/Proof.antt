@@ -5,7 +5,8 @@ use native.Mathlib.Omega.{arith}
 use lib.ListN.{length}
 use mir.Facts.{toZ-ofZ}
 use Rattle.rules.specs.declared.Loaded.the-variants.{Rows, Unfit}
-use Rattle.rules.specs.File.{checkFile}
+use Rattle.rules.specs.File.{fileTable, checkFile}
+use Rattle.file_laws.specs.Legal.{row-passed}
 use Rattle.file_laws.specs.Accepted.{accepted}
 use Rattle.file.proofs.Ends.{unfit-load, short-load, whole-load}
 use borrow.Author.Needs.{needs}
@@ -68,7 +69,8 @@ put-rows-requires c κs =
     let n = at .checked .given .0 .0 in
     let f = accepted (s .bytes .now) (s .kind) n (sym e ∙ at .checked .given .1) in
     let room : 4 * n ≤ length (s .out .now) = c .before .if1 .left in
-    (f .few, omega (arith, f .size), room)
+    let bytes = s .bytes .now in
+    ((f .few, omega (arith, f .size), room), λ i h. row-passed bytes (fileTable bytes n) i (f .rows i h) .0)
 
 -- src/lib.rt:300:1
 same-length : tie.Need-same-length

@@ -1,96 +1,115 @@
--- `put_row` meets its contract. Assumes nothing.
-use mathlib.Core.Path.{_≡_}
+-- `put_row` meets its contract: what it writes are the row's numbers. Assumes nothing.
+use mathlib.Core.Path.{_≡_, refl, sym, ap, _∙_}
 use mathlib.Core.List.{List, [], _∷_, _++_}
-use Prim.Native.Nat.{ℕ, suc, _+_}
+use Prim.Native.Nat.{ℕ, _+_, _*_}
 use native.Mathlib.Omega.{arith}
-use lib.ListN.{length-set}
-use lib.Seq.{sets-eq}
-use denote.Ref.{now}
+use lib.IntN.{ℤ}
+use lib.ListN.{length, take, drop}
+use mir.Syntax.{w32}
 use mir.Facts.{toZ-ofZ}
-use borrow.Author.Needs.{needs}
+use Rattle.rules.specs.File.{rowNumbers}
+use Rattle.file_laws.specs.Parts.{row-parts}
+use borrow.Author.Needs.{needs, sfits-of}
 use Rattle.file.proofs.put_row.Statement.{statement}
 use Rattle.file.proofs.put_row.Tie as tie
 use Rattle.file.proofs.put_row.Reads as reads
 use Rattle.file.proofs.put_row.Lts as lts
+use Rattle.file.proofs.number_at.Reads as number-at-reads
+use Rattle.file.proofs.put_four.Reads as put-four-reads
 
-plus-1 : (n : ℕ) → n + 1 ≡ suc n
-plus-1 n = omega arith
+-- src/lib.rt:282:18
+mul-o : tie.Need-mul-o
+mul-o c = search needs
 
-plus-2 : (n : ℕ) → n + 2 ≡ suc (suc n)
-plus-2 n = omega arith
-
-plus-3 : (n : ℕ) → n + 3 ≡ suc (suc (suc n))
-plus-3 n = omega arith
-
--- src/lib.rt:280:5
-mul-pattern : tie.Need-mul-pattern
-mul-pattern c = search needs
-
--- src/lib.rt:280:5
-slice-set-from-pattern : tie.Need-slice-set-from-pattern
-slice-set-from-pattern c = search needs
-
--- src/lib.rt:281:9
-add-score : tie.Need-add-score
-add-score c = search needs
-
--- src/lib.rt:281:5
-mul-score : tie.Need-mul-score
-mul-score c = search needs
-
--- src/lib.rt:281:5
-slice-set-from-score : tie.Need-slice-set-from-score
-slice-set-from-score c = simp length-set (omega arith)
-
--- src/lib.rt:282:9
-add-a : tie.Need-add-a
-add-a c = search needs
-
--- src/lib.rt:282:5
-mul-a : tie.Need-mul-a
-mul-a c = search needs
-
--- src/lib.rt:282:5
-slice-set-from-a : tie.Need-slice-set-from-a
-slice-set-from-a c = simp length-set (omega arith)
+-- src/lib.rt:282:13
+add-o : tie.Need-add-o
+add-o c = search needs
 
 -- src/lib.rt:283:9
-add-b : tie.Need-add-b
-add-b c = search needs
+number-at-requires : tie.Need-number-at-requires
+number-at-requires c κs =
+    let s = c .before in
+    (search needs, row-parts (s .args .bytes .now) (s .args .i) (s .pre .1) .pattern)
 
--- src/lib.rt:283:5
-mul-b : tie.Need-mul-b
-mul-b c = search needs
+-- src/lib.rt:284:34
+add-number-at : tie.Need-add-number-at
+add-number-at c = search needs
 
--- src/lib.rt:283:5
-slice-set-from-b : tie.Need-slice-set-from-b
-slice-set-from-b c = simp length-set (omega arith)
+-- src/lib.rt:284:9
+number-at-requires-2 : tie.Need-number-at-requires-2
+number-at-requires-2 c κs =
+    let s = c .before .before in
+    (search needs, row-parts (s .args .bytes .now) (s .args .i) (s .pre .1) .score)
 
--- src/lib.rt:276:1
+-- src/lib.rt:285:30
+add-number-at-2 : tie.Need-add-number-at-2
+add-number-at-2 c = search needs
+
+-- src/lib.rt:285:9
+number-at-requires-3 : tie.Need-number-at-requires-3
+number-at-requires-3 c κs =
+    let s = c .before .before .before in
+    (search needs, row-parts (s .args .bytes .now) (s .args .i) (s .pre .1) .a)
+
+-- src/lib.rt:286:30
+add-number-at-3 : tie.Need-add-number-at-3
+add-number-at-3 c = search needs
+
+-- src/lib.rt:286:9
+number-at-requires-4 : tie.Need-number-at-requires-4
+number-at-requires-4 c κs =
+    let s = c .before .before .before .before in
+    (search needs, row-parts (s .args .bytes .now) (s .args .i) (s .pre .1) .b)
+
+-- src/lib.rt:287:19
+mul-put-four : tie.Need-mul-put-four
+mul-put-four c = search needs
+
+-- src/lib.rt:287:5
+put-four-requires : tie.Need-put-four-requires
+put-four-requires c κs = search needs
+
+-- src/lib.rt:277:1
 same-length : tie.Need-same-length
 same-length c = search needs
 
--- src/lib.rt:276:1
+-- src/lib.rt:277:1
 returns : tie.Need-returns
+unfolding rowNumbers
 returns c =
-    let s = c .args in
-    simp (toZ-ofZ (c .fits .pattern), toZ-ofZ (c .fits .score), toZ-ofZ (c .fits .a), toZ-ofZ (c .fits .b), plus-1, plus-2, plus-3)
-    (sets-eq (s .pattern ∷ s .score ∷ s .a ∷ s .b ∷ []) (now (s .out)) (s .o) (c .pre))
+    let w = c .before in
+    let s = w .before .before .before .before .before .before .before .args in
+    let b = w .before .before .number-at4 in
+    let a = w .before .before .before .number-at3 in
+    let score = w .before .before .before .before .number-at2 in
+    let pattern = w .before .before .before .before .before .number-at in
+    let out = s .out .now in
+    let written =
+    simp (
+      toZ-ofZ {w = w32} {z = pattern .result} (sfits-of (pattern .ok)),
+      toZ-ofZ {w = w32} {z = score .result} (sfits-of (score .ok)),
+      toZ-ofZ {w = w32} {z = a .result} (sfits-of (a .ok)),
+      toZ-ofZ {w = w32} {z = b .result} (sfits-of (b .ok)),
+    )
+    at (w .put-four .ensures) in
+    let numbers : pattern .result ∷ score .result ∷ a .result ∷ b .result ∷ [] ≡ rowNumbers (s .bytes .now) (s .i) =
+    λ k. pattern .ensures k ∷ score .ensures k ∷ a .ensures k ∷ b .ensures k ∷ [] in
+    written ∙ ap (λ (l : List ℤ). take (4 * s .i) out ++ l ++ drop (4 * s .i + 4) out) numbers
 
 pub put-row-spec : {M : Type 1} → statement M
 put-row-spec =
     tie.close
     (tie.spec
-    mul-pattern
-    slice-set-from-pattern
-    add-score
-    mul-score
-    slice-set-from-score
-    add-a
-    mul-a
-    slice-set-from-a
-    add-b
-    mul-b
-    slice-set-from-b
+    mul-o
+    add-o
+    number-at-requires
+    add-number-at
+    number-at-requires-2
+    add-number-at-2
+    number-at-requires-3
+    add-number-at-3
+    number-at-requires-4
+    mul-put-four
+    put-four-requires
     same-length
     returns)
