@@ -1,9 +1,9 @@
 -- A column's bytes, one after the other from a place on, and what their digits can be worth. Assumes nothing.
-use mathlib.Core.Path.{_≡_, refl, sym, ap}
-use mathlib.Core.Bool.{Bool, true, false, cond}
+use mathlib.Core.Path.{_≡_, sym, ap}
+use mathlib.Core.Bool.{Bool, true, false}
 use mathlib.Core.List.{List, [], _∷_}
-use Prim.Native.Nat.{ℕ, zero, suc, _+_, _*_, _-_, _^_, _≤_, _<_}
-use native.Mathlib.Nat.{pow-suc, pow-le-pow-right}
+use Prim.Native.Nat.{ℕ, zero, suc, _+_, _*_, _-_, _%_, _^_, _≤_, _<_}
+use native.Mathlib.Nat.{pow-suc, pow-le-pow-right, div-add-mod, mod-lt}
 use native.Mathlib.Numerals.{add-one}
 use native.Mathlib.Omega.{arith}
 use lib.Dec.{leb}
@@ -12,7 +12,7 @@ use lib.Seq.{drop-cons}
 use borrow.Author.Tests.{leb-true}
 use Rattle.rules.specs.File.{isDigit, columns}
 use Rattle.file_laws.specs.Tests.{and-left, and-right}
-use Rattle.file.specs.Column.{upTo, digitWorth}
+use Rattle.file.specs.Column.{upTo, byteWorth}
 
 pub whole : (bytes : List ℕ) (at width : ℕ) → columns bytes at width ≡ upTo bytes at (at + width)
 unfolding upTo
@@ -34,17 +34,17 @@ pub digit-range : (b : ℕ) → isDigit b ≡ true → (48 ≤ b) × (b ≤ 57)
 digit-range b h =
     (leb-true 48 b (and-left (leb 48 b) (leb b 57) h), leb-true b 57 (and-right (leb 48 b) (leb b 57) h))
 
-pub worth-small : (b : ℕ) → digitWorth b ≤ 9
-unfolding digitWorth
-worth-small b = go (isDigit b) refl
-  where
-    go : (t : Bool) → isDigit b ≡ t → cond t (b - 48) 0 ≤ 9
-    go true e = omega (arith, digit-range b e)
-    go false e = omega arith
+pub digit-worth : (b : ℕ) → isDigit b ≡ true → b % 16 ≡ b - 48
+digit-worth b h = omega (arith, digit-range b h, div-add-mod b 16, mod-lt b {m = 16} (omega arith))
 
--- k digits are worth less than 10 ^ k
-pub worth-grows : (n d k : ℕ) → n < 10 ^ k → d ≤ 9 → 10 * n + d < 10 ^ suc k
+pub worth-small : (m : Bool) (b : ℕ) → byteWorth m b ≤ 15
+unfolding byteWorth
+worth-small true b = omega arith
+worth-small false b = omega (arith, mod-lt b {m = 16} (omega arith))
+
+-- k bytes are worth less than 2 × 10 ^ k
+pub worth-grows : (n d k : ℕ) → n + 2 ≤ 2 * 10 ^ k → d ≤ 15 → 10 * n + d + 2 ≤ 2 * 10 ^ suc k
 worth-grows n d k h l = rw pow-suc (omega arith)
 
-pub seven : (n k : ℕ) → n < 10 ^ k → k ≤ 7 → n < 10000000
+pub seven : (n k : ℕ) → n + 2 ≤ 2 * 10 ^ k → k ≤ 7 → n < 20000000
 seven n k h l = let b : 10 ^ k ≤ 10 ^ 7 = pow-le-pow-right {n = 10} (omega arith) {i = k} {j = 7} l in omega arith

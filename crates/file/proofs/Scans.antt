@@ -13,8 +13,8 @@ use Rattle.rules.specs.File.{isDigit, afterBlanks, digitsFit, digitsFrom, hasMi
 use Rattle.file_laws.specs.Tests.{and-left, and-right}
 use Rattle.file.specs.declared.Column.{Column}
 use Rattle.file.specs.declared.Scan.{Scan}
-use Rattle.file.specs.Column.{digitWorth, stepped, start, scanned, signedWorth, heldOf, columnHeld}
-use Rattle.file.proofs.Bytes.{digit-range}
+use Rattle.file.specs.Column.{byteWorth, stepped, start, scanned, signedWorth, heldOf, columnHeld}
+use Rattle.file.proofs.Bytes.{digit-range, digit-worth}
 
 abbrev unfit : Column
 unfit = record { fits = false; number = pos 0 }
@@ -63,10 +63,10 @@ module _ (signed : Bool) where
   bad-ends s l h = bad-held (scanned signed s l) (bad-stays s l h)
 
   digit-step : (s : Scan) (b : ℕ) → isDigit b ≡ true → s .bad ≡ false → (s .digit && eqb (s .worth) 0) ≡ false → stepped signed s b ≡ inDigits (s .negative) (10 * s .worth + (b - 48))
-  unfolding stepped digitWorth
+  unfolding stepped byteWorth
   digit-step s b d fine first =
       let r = digit-range b d in
-      simp (d, ne-eqb b 32 (omega arith), ne-eqb b 45 (omega arith), and-false, or-false, fine, first)
+      simp (d, ne-eqb b 32 (omega arith), ne-eqb b 45 (omega arith), and-false, or-false, fine, first, digit-worth b d)
 
   -- a byte that is no digit, after another that is no blank
   astray : (s : Scan) (b : ℕ) → isDigit b ≡ false → s .seen ≡ true → stepped signed s b .bad ≡ true
@@ -74,11 +74,11 @@ module _ (signed : Bool) where
   astray s b d seen = simp (d, seen, or-true)
 
   blank-step : (b : ℕ) → eqb b 32 ≡ true → stepped signed start b ≡ start
-  unfolding stepped digitWorth
+  unfolding stepped byteWorth
   blank-step b e = rw (eqb-true b 32 e) (simp and-false)
 
   minus-step : (b : ℕ) → (signed && eqb b 45) ≡ true → stepped signed start b ≡ atMinus
-  unfolding stepped digitWorth
+  unfolding stepped byteWorth
   minus-step b e =
       let minus = eqb-true b 45 (and-right signed (eqb b 45) e) in
       let may = and-left signed (eqb b 45) e in
@@ -120,6 +120,7 @@ module _ (signed : Bool) where
       others : (e : Bool) (n : ℕ) → (n ≡ 0 → ⊥) → cond e (record { fits = true; number = cond m (negℤ (pos n)) (pos n) }) unfit ≡ record { fits = e && not (m && eqb n 0); number = cond (e && not (m && eqb n 0)) (cond m (negℤ (pos n)) (pos n)) (pos 0) }
       others true n some = simp (no-zero m n some)
       others false n some = refl
+
       go : (t : Bool) → eqb b 48 ≡ t → heldOf (scanned signed (inDigits m (b - 48)) l) ≡ numberHeld m (b ∷ l)
       go true e = rw (eqb-true b 48 e) (zero-first m l)
       go false e =

@@ -1,6 +1,6 @@
 -- What the leaf of file reading answers of a column's bytes, by document 01's "A number is right-justified", and how it
 -- goes through them. Definitions only. Assumes nothing.
-use Prim.Native.Nat.{ℕ, _+_, _*_, _-_}
+use Prim.Native.Nat.{ℕ, _+_, _*_, _-_, _%_}
 use mathlib.Core.Bool.{Bool, true, false, cond, _&&_, _||_, not}
 use mathlib.Core.List.{List, [], _∷_}
 use lib.Dec.{eqb}
@@ -19,8 +19,9 @@ columnHeld signed l =
 unfoldable pub upTo : List ℕ → ℕ → ℕ → List ℕ
 upTo bytes i e = take (e - i) (drop i bytes)
 
-unfoldable pub digitWorth : ℕ → ℕ
-digitWorth b = cond (isDigit b) (b - 48) 0
+-- what a byte adds to the digits before it: b - 48 if it is a digit, nothing if it is a blank or a minus
+unfoldable pub byteWorth : Bool → ℕ → ℕ
+byteWorth isMinus b = cond isMinus 0 (b % 16)
 
 -- nothing known yet
 abbrev pub start : Scan
@@ -34,8 +35,8 @@ stepped signed s b =
       digit = isDigit b;
       negative = s .negative || (signed && eqb b 45);
       bad = s .bad
-      || ((s .digit && eqb (s .worth) 0) || (not (isDigit b) && (s .seen || not (eqb b 32 || (signed && eqb b 45)))));
-      worth = 10 * s .worth + digitWorth b;
+          || ((s .digit && eqb (s .worth) 0) || (not (isDigit b) && (s .seen || not (eqb b 32 || (signed && eqb b 45)))));
+      worth = 10 * s .worth + byteWorth (signed && eqb b 45) b;
     }
 
 unfoldable pub scanned : Bool → Scan → List ℕ → Scan

@@ -6,7 +6,7 @@ ghost use mathlib.Core.List.{[], _∷_, _++_};
 ghost use lib.ListN.{length, take, drop};
 ghost use Rattle.rules.specs.Tables.{natOf};
 ghost use Rattle.rules.specs.File.{columns, columnFits, columnNumber, rowColumnsFit, rowNumbers, fileTable, rowsLoaded, checkFile, loadAnswer, loadNumbers};
-ghost use Rattle.file.specs.Column.{upTo, digitWorth, stepped, start, scanned, signedWorth, heldOf, columnHeld};
+ghost use Rattle.file.specs.Column.{upTo, byteWorth, stepped, start, scanned, signedWorth, heldOf, columnHeld};
 ghost use Rattle.file.specs.Held.{headerHeld, kindHeld, headAnswer, rowHeld, heldCode, RowsFit};
 use rules::Loaded;
 
@@ -30,19 +30,19 @@ struct Scan {
     worth: u32,
 }
 
-// What a digit is worth; 0 for another byte.
-fn digit_worth(b: u8) -> u32
-    ensures { λ r. ⌜ r ≡ digitWorth b ⌝ }
+// What a byte adds to the digits before it: a blank and a minus nothing.
+fn byte_worth(b: u8, minus: bool) -> u32
+    ensures { λ r. ⌜ r ≡ byteWorth minus b ⌝ }
 {
-    if (48 <= b) & (b <= 57) {
-        return (b - 48) as u32;
+    if minus {
+        return 0;
     }
-    0
+    (b % 16) as u32
 }
 
 // One byte more.
 fn step(s: Scan, b: u8, signed: bool) -> Scan
-    requires { ⌜ s .worth < 10000000 ⌝ }
+    requires { ⌜ s .worth < 20000000 ⌝ }
     ensures { λ r. ⌜ r ≡ stepped signed s b ⌝ }
 {
     let blank = b == 32;
@@ -55,7 +55,7 @@ fn step(s: Scan, b: u8, signed: bool) -> Scan
         digit: digit,
         negative: s.negative | minus,
         bad: s.bad | (after_zero | astray),
-        worth: 10 * s.worth + digit_worth(b),
+        worth: 10 * s.worth + byte_worth(b, minus),
     }
 }
 
@@ -63,7 +63,7 @@ fn step(s: Scan, b: u8, signed: bool) -> Scan
 fn scan_from(bytes: &[u8], at: usize, end: usize, signed: bool) -> Scan
     requires { ⌜ (at ≤ end) × (end ≤ at + 7) × (end ≤ length (now bytes)) ⌝ }
     ensures { λ r. ⌜ r ≡ scanned signed start (upTo (now (bytes .entry)) at end) ⌝ }
-    ensures { λ r. ⌜ r .worth < 10000000 ⌝ }
+    ensures { λ r. ⌜ r .worth < 20000000 ⌝ }
 {
     let mut s = Scan {
         seen: false,
@@ -82,7 +82,7 @@ fn scan_from(bytes: &[u8], at: usize, end: usize, signed: bool) -> Scan
 
 // The number that a scan has met.
 fn signed_worth(s: Scan) -> i32
-    requires { ⌜ s .worth < 10000000 ⌝ }
+    requires { ⌜ s .worth < 20000000 ⌝ }
     ensures { λ r. ⌜ r ≡ signedWorth s ⌝ }
 {
     if s.negative {
@@ -93,7 +93,7 @@ fn signed_worth(s: Scan) -> i32
 
 // What a column holds by its scan. A minus never stands before 0.
 fn held(s: Scan) -> Column
-    requires { ⌜ s .worth < 10000000 ⌝ }
+    requires { ⌜ s .worth < 20000000 ⌝ }
     ensures { λ r. ⌜ r ≡ heldOf s ⌝ }
 {
     if !(!s.bad & (s.digit & !(s.negative & (s.worth == 0)))) {

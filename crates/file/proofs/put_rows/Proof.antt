@@ -50,11 +50,13 @@ loop-again c =
     let l = c .before .before .before .before .loop in
     let s = c .before .before .before .before .before .before .args in
     let h : l .i < s .count = c .before .before .before .loop-test .taken in
-    let bytes = s .bytes .now in
-    (omega (arith, h), c .before .put-row .kept .1 .1 .0 ∙ l .inv .1,
-    c .before .put-row .ensures
-    ∙ ap (λ (o : List ℤ). take (4 * l .i) o ++ rowNumbers bytes (l .i) ++ drop (4 * l .i + 4) o) (l .inv .2)
-    ∙ one-row bytes (l .i) (s .out .now))
+    let bytes = s .bytes .now in (
+      omega (arith, h),
+      c .before .put-row .kept .1 .1 .0 ∙ l .inv .1,
+      c .before .put-row .ensures
+          ∙ ap (λ (o : List ℤ). take (4 * l .i) o ++ rowNumbers bytes (l .i) ++ drop (4 * l .i + 4) o) (l .inv .2)
+          ∙ one-row bytes (l .i) (s .out .now),
+    )
 
 -- src/lib.rt:291:1
 same-length : tie.Need-same-length Inv-loop μ-loop

@@ -1,12 +1,14 @@
 -- `scan_from` meets its contract: the bytes passed are scanned. Assumes nothing.
 use mathlib.Core.Path.{_≡_, refl, sym, ap, _∙_}
 use mathlib.Core.List.{List, [], _∷_}
-use Prim.Native.Nat.{ℕ, suc, _+_, _-_, _^_, _≤_, _<_}
+use Prim.Native.Nat.{ℕ, suc, _+_, _*_, _-_, _^_, _≤_, _<_}
 use native.Mathlib.Omega.{arith}
+use mathlib.Core.Bool.{_&&_}
+use lib.Dec.{eqb}
 use lib.ListN.{getD}
 use borrow.Author.Needs.{needs}
 use Rattle.file.specs.declared.Scan.{Scan}
-use Rattle.file.specs.Column.{upTo, digitWorth, stepped, start, scanned}
+use Rattle.file.specs.Column.{upTo, byteWorth, stepped, start, scanned}
 use Rattle.file.proofs.Bytes.{none, next, worth-small, worth-grows, seven}
 use Rattle.file.proofs.scan_from.Statement.{statement}
 use Rattle.file.proofs.scan_from.Tie as tie
@@ -16,7 +18,7 @@ use Rattle.file.proofs.step.Reads as step-reads
 
 abbrev Inv-loop : tie.InvT-loop
 Inv-loop bytes at end signed s₀ i₀ s i =
-    (at ≤ i) × (i ≤ end) × (s .worth < 10 ^ (i - at))
+    (at ≤ i) × (i ≤ end) × (s .worth + 2 ≤ 2 * 10 ^ (i - at))
     × (scanned signed start (upTo bytes at end) ≡ scanned signed s (upTo bytes i end))
 
 abbrev μ-loop : tie.MeasureT-loop
@@ -56,13 +58,16 @@ loop-again c =
     let s = c .before .before .before .before .before .args in
     let bytes = s .bytes .now in
     let b = getD bytes (l .i) 0 in
+    let m = s .signed && eqb b 45 in
     let k : l .i + 1 - s .at ≡ suc (l .i - s .at) = omega arith in
-    let worth = ap (λ (x : Scan). x .worth) (c .step .ensures) in
-    (search needs, search needs,
-    rw (k, worth) (worth-grows (l .s .worth) (digitWorth b) (l .i - s .at) (l .inv .2) (worth-small b)),
-    l .inv .3
-    ∙ ap (scanned (s .signed) (l .s)) (next bytes (l .i) (s .end) (omega arith) (omega arith))
-    ∙ ap (λ (x : Scan). scanned (s .signed) x (upTo bytes (l .i + 1) (s .end))) (sym (c .step .ensures)))
+    let worth = ap (λ (x : Scan). x .worth) (c .step .ensures) in (
+      search needs,
+      search needs,
+      rw (k, worth) (worth-grows (l .s .worth) (byteWorth m b) (l .i - s .at) (l .inv .2) (worth-small m b)),
+      l .inv .3
+          ∙ ap (scanned (s .signed) (l .s)) (next bytes (l .i) (s .end) (omega arith) (omega arith))
+          ∙ ap (λ (x : Scan). scanned (s .signed) x (upTo bytes (l .i + 1) (s .end))) (sym (c .step .ensures)),
+    )
 
 -- src/lib.rt:62:1
 returns : tie.Need-returns Inv-loop μ-loop

@@ -13,11 +13,11 @@ use Rattle.file.proofs.signed_worth.Tie as tie
 use Rattle.file.proofs.signed_worth.Reads as reads
 use Rattle.file.proofs.signed_worth.Lts as lts
 
-minus-fits : (n : ℕ) → n < 10000000 → SFits w32 (negℤ (pos n))
+minus-fits : (n : ℕ) → n < 20000000 → SFits w32 (negℤ (pos n))
 minus-fits zero h = record { sfits = omega arith }
 minus-fits (suc n) h = record { sfits = omega arith }
 
-minus : (n : ℕ) → n < 10000000 → pos 0 -ℤ toZ w32 n ≡ negℤ (pos n)
+minus : (n : ℕ) → n < 20000000 → pos 0 -ℤ toZ w32 n ≡ negℤ (pos n)
 minus n h = ap (λ (z : ℤ). pos 0 -ℤ z) (toZ-pos w32 {n = n} (omega arith)) ∙ +ℤ-idl (negℤ (pos n))
 
 -- src/lib.rt:88:21
