@@ -1,17 +1,17 @@
 -- What the checks answer of the header that was read is document 01's answer. Assumes nothing.
 use mathlib.Core.Path.{_≡_, refl, sym, ap, _∙_}
-use mathlib.Core.Bool.{Bool, true, false, cond, _&&_, not}
+use mathlib.Core.Bool.{Bool, true, false, cond, not}
 use mathlib.Core.List.{List}
 use Prim.Native.Nat.{ℕ, _+_, _*_, _≤_}
 use native.Mathlib.Omega.{arith}
 use lib.Dec.{ltb, eqb}
 use borrow.Author.Tests.{ltb-false, eqb-true, not-false}
 use lib.IntN.{ℤ}
-use lib.ListN.{length, getD}
+use lib.ListN.{length}
 use Rattle.rules.specs.declared.Loaded.{Loaded}
 use Rattle.rules.specs.declared.Loaded.the-variants.{Rows, Unfit}
 use Rattle.rules.specs.Tables.{natOf}
-use Rattle.rules.specs.File.{columns, columnFits, columnNumber, endsLine, headerFits, fileCount, fileKind, rowStart, kindFits, checkFile}
+use Rattle.rules.specs.File.{columns, columnFits, columnNumber, headerFits, fileCount, fileKind, rowStart, kindFits, checkFile}
 use Rattle.file_laws.specs.Accepted.{passed}
 use Rattle.file.specs.declared.Header.{Header}
 use Rattle.file.specs.Column.{columnHeld}

@@ -1,22 +1,21 @@
 -- What the columns hold, put together, is what is read of the header and of a row; and the checks of what was read are
 -- document 01's checks of the file's table. Assumes nothing.
-use mathlib.Core.Path.{_≡_, refl, sym, ap, subst, _∙_}
-use mathlib.Core.Bool.{Bool, true, false, cond, _&&_, _||_}
+use mathlib.Core.Path.{_≡_, refl, sym, ap, _∙_}
+use mathlib.Core.Bool.{Bool, true, false, _&&_, _||_}
 use mathlib.Core.List.{List, [], _∷_}
-use Prim.Native.Nat.{ℕ, zero, suc, _+_, _*_, _-_, _≤_, _<_}
+use Prim.Native.Nat.{ℕ, suc, _+_, _-_, _<_}
 use native.Mathlib.Decide.{le-ind}
 use native.Mathlib.Numerals.{add-one}
 use native.Mathlib.Omega.{arith}
 use lib.Dec.{eqb}
 use lib.IntN.{ℤ, pos}
-use lib.ListN.{length, getD}
+use lib.ListN.{getD}
 use lib.Signed.{leZ}
-use borrow.Author.Tests.{eq-eqb, ne-eqb, eqb-true, eqb-false}
-use Rattle.rules.specs.declared.Loaded.{Loaded}
+use borrow.Author.Tests.{eq-eqb, ne-eqb, eqb-false}
 use Rattle.rules.specs.declared.Loaded.the-variants.{Rows, Unfit}
-use Rattle.rules.specs.Tables.{natOf, num, inRange, rowInRange, rowInOrder}
+use Rattle.rules.specs.Tables.{natOf, num, rowInRange, rowInOrder}
 use Rattle.rules.specs.Calls.{rowCode}
-use Rattle.rules.specs.File.{columns, columnFits, columnNumber, endsLine, headerFits, rowStart, rowColumnsFit, rowNumbers, fileTable, fileRowCode, andRow, rowsLoaded}
+use Rattle.rules.specs.File.{columns, endsLine, headerFits, rowStart, rowColumnsFit, rowNumbers, fileTable, fileRowCode, andRow, rowsLoaded}
 use Rattle.file_laws.specs.Table.{table-num}
 use Rattle.file_laws.specs.Legal.{row-passed}
 use Rattle.file.specs.declared.Column.{Column}

@@ -1,15 +1,14 @@
 -- A column that is scanned to its end holds what document 01 says. Assumes nothing.
-use mathlib.Core.Path.{_≡_, refl, sym, ap, subst, _∙_}
-use mathlib.Core.Bool.{Bool, true, false, cond, _&&_, _||_, not, and-true, and-false, or-true, or-false}
+use mathlib.Core.Path.{_≡_, refl, sym, ap, _∙_}
+use mathlib.Core.Bool.{Bool, true, false, cond, _&&_, not, and-false, or-true, or-false}
 use mathlib.Core.List.{List, [], _∷_}
-use Prim.Native.Nat.{ℕ, zero, suc, _+_, _*_, _-_, _≤_, _<_}
-use native.Mathlib.Nat.{zero-add}
+use Prim.Native.Nat.{ℕ, _+_, _*_, _-_, _≤_}
 use native.Mathlib.Omega.{arith}
-use lib.Dec.{T, eqb}
-use lib.IntN.{ℤ, pos, negℤ}
-use borrow.Author.Tests.{eq-eqb, ne-eqb, eqb-true, eqb-false}
+use lib.Dec.{eqb}
+use lib.IntN.{pos, negℤ}
+use borrow.Author.Tests.{ne-eqb, eqb-true, eqb-false}
 use Rattle.lists.specs.Lists.{every}
-use Rattle.rules.specs.File.{isDigit, afterBlanks, digitsFit, digitsFrom, hasMinus, afterMinus, digitsOf, columnFits, columnNumber}
+use Rattle.rules.specs.File.{isDigit, afterBlanks, digitsFit, digitsFrom, hasMinus, afterMinus, columnFits, columnNumber}
 use Rattle.file_laws.specs.Tests.{and-left, and-right}
 use Rattle.file.specs.declared.Column.{Column}
 use Rattle.file.specs.declared.Scan.{Scan}

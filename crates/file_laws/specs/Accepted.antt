@@ -1,13 +1,13 @@
 -- What an accepted file has passed. Assumes nothing.
 use mathlib.Core.Path.{_≡_, refl, sym, ap, _∙_}
-use mathlib.Core.Bool.{Bool, true, false, cond, _&&_, not}
+use mathlib.Core.Bool.{Bool, true, false, cond, not}
 use mathlib.Core.List.{List}
 use Prim.Native.Nat.{ℕ, zero, suc, _+_, _*_, _≤_, _<_}
 use native.Mathlib.Omega.{arith}
 use lib.Dec.{ltb, eqb}
 use lib.IntN.{ℤ}
 use lib.ListN.{length}
-use borrow.Author.Tests.{ltb-true, ltb-false, eqb-true, eqb-false, not-false}
+use borrow.Author.Tests.{ltb-true, ltb-false, eqb-true, not-false}
 use Rattle.rules.specs.declared.Loaded.{Loaded}
 use Rattle.rules.specs.declared.Loaded.the-variants.{Rows, Unfit}
 use Rattle.rules.specs.File.{headerFits, fileCount, kindFits, rowStart, fileTable, fileRowCode, andRow, rowsLoaded, checkFile}

@@ -1,25 +1,25 @@
 -- Issue 3, point 5: an accepted file's rows are legal; a file is accepted for at most one kind; the check alone and the
 -- reading with a long enough slice agree. Assumes nothing.
-use mathlib.Core.Path.{_≡_, refl, sym, ap, subst, _∙_}
-use mathlib.Core.Bool.{Bool, true, false, cond, _&&_}
+use mathlib.Core.Path.{_≡_, refl, sym, ap, _∙_}
+use mathlib.Core.Bool.{Bool, true, false, _&&_}
 use mathlib.Core.List.{List}
 use Prim.Native.Nat.{ℕ, zero, suc, _+_, _*_, _/_, _%_, _≤_, _<_}
 use native.Mathlib.Nat.{mul-div-cancel-left, div-add-mod}
 use native.Mathlib.Omega.{arith}
-use lib.Dec.{T, leb, ltb, eqb}
+use lib.Dec.{leb, ltb, eqb}
 use lib.IntN.{ℤ, pos, negsuc}
 use lib.ListN.{length}
 use borrow.Author.Tests.{le-leb, le-ltb, ne-eqb, leb-true, eqb-true}
 use Rattle.lists.specs.Lists.{every, range}
 use Rattle.rules.specs.declared.Loaded.{Loaded}
 use Rattle.rules.specs.declared.Loaded.the-variants.{Rows, Unfit}
-use Rattle.rules.specs.Tables.{natOf, rowCount, rowInRange, rowInOrder, sizeFits, legal}
+use Rattle.rules.specs.Tables.{natOf, rowInRange, rowInOrder, sizeFits, legal}
 use Rattle.rules.specs.Numbers.{unless, first}
 use Rattle.rules.specs.Calls.{between, rowCode}
 use Rattle.rules.specs.File.{fileCount, fileKind, fileTable, rowColumnsFit, fileRowCode, kindFits, checkFile, andSlice, loadAnswer}
 use Rattle.file_laws.specs.Tests.{and-left, and-right, and-both}
 use Rattle.file_laws.specs.Table.{table-length}
-use Rattle.file_laws.specs.Accepted.{Accepted, accepted}
+use Rattle.file_laws.specs.Accepted.{accepted}
 
 -- a test that all numbers from a on pass
 every-range : (test : ℕ → Bool) (a n : ℕ) → ((i : ℕ) → a ≤ i → i < a + n → test i ≡ true) → every test (range a n) ≡ true

@@ -1,25 +1,23 @@
 -- Issue 3, point 5: two different accepted files of the same kind give different rows. Assumes nothing.
 use mathlib.Core.Path.{_≡_, refl, sym, ap, ap₂, _∙_}
-use mathlib.Core.Bool.{Bool, true, false, cond, _&&_}
+use mathlib.Core.Bool.{Bool, true, false, cond}
 use mathlib.Core.List.{List, [], _∷_, _++_}
-use Prim.Native.Nat.{ℕ, zero, suc, _+_, _*_, _-_, _≤_, _<_}
+use Prim.Native.Nat.{ℕ, zero, suc, _+_, _≤_, _<_}
 use native.Mathlib.Nat.{add-zero}
-use native.Mathlib.Numerals.{add-one}
 use native.Mathlib.Omega.{arith}
-use lib.Dec.{leb, eqb}
+use lib.Dec.{eqb}
 use lib.IntN.{ℤ, pos, negℤ}
-use lib.ListN.{length, getD, take, drop, take-append-drop, length-drop, drop-of-length-le}
+use lib.ListN.{length, getD, drop, take-append-drop, length-drop, drop-of-length-le}
 use lib.Seq.{drop-drop, drop-cons, length-take-le}
 use borrow.Author.Tests.{eqb-true}
-use Rattle.rules.specs.declared.Loaded.{Loaded}
-use Rattle.rules.specs.declared.Loaded.the-variants.{Rows, Unfit}
+use Rattle.rules.specs.declared.Loaded.the-variants.{Rows}
 use Rattle.rules.specs.Tables.{natOf, num}
 use Rattle.rules.specs.Calls.{between}
-use Rattle.rules.specs.File.{afterBlanks, digitsFrom, hasMinus, digitsOf, columns, columnFits, columnNumber, endsLine, headerFits, fileCount, fileKind, kindFits, rowStart, rowColumnsFit, rowNumbers, fileTable, fileRowCode, checkFile}
-use Rattle.file_laws.specs.Tests.{and-left, and-right}
+use Rattle.rules.specs.File.{afterBlanks, digitsFrom, hasMinus, digitsOf, columns, columnFits, columnNumber, endsLine, headerFits, fileCount, fileKind, kindFits, rowStart, rowColumnsFit, rowNumbers, fileTable, checkFile}
+use Rattle.file_laws.specs.Tests.{and-right}
 use Rattle.file_laws.specs.Parts.{header-parts, row-parts}
 use Rattle.file_laws.specs.Table.{table-length, table-num}
-use Rattle.file_laws.specs.Accepted.{Accepted, accepted}
+use Rattle.file_laws.specs.Accepted.{accepted}
 use Rattle.file_laws.specs.Legal.{row-passed}
 use Rattle.file_laws.specs.Spelling.{one-spelling}
 

@@ -1,6 +1,6 @@
 -- The columns and LF of a header and of a row that fit. Assumes nothing.
 use mathlib.Core.Path.{_≡_}
-use mathlib.Core.Bool.{Bool, true, false, _&&_}
+use mathlib.Core.Bool.{true, false, _&&_}
 use mathlib.Core.List.{List}
 use Prim.Native.Nat.{ℕ, _+_}
 use Rattle.rules.specs.File.{columns, columnFits, endsLine, headerFits, rowStart, rowColumnsFit}

@@ -1,42 +1,32 @@
 -- `check` meets its contract: the header's checks, then the rows'. Assumes nothing.
-use mathlib.Core.Path.{_≡_, refl, sym, ap, subst, _∙_}
-use mathlib.Core.List.{List, [], _∷_}
+use mathlib.Core.Path.{_≡_, refl, sym, ap, _∙_}
+use mathlib.Core.List.{List}
 use Prim.Native.Nat.{ℕ}
 use native.Mathlib.Omega.{arith}
 use mir.Facts.{toZ-ofZ}
-use lib.IntN.{ℤ}
 use Rattle.rules.specs.declared.Loaded.{Loaded}
 use Rattle.rules.specs.declared.Loaded.the-variants.{Rows, Unfit}
-use Rattle.rules.specs.File.{checkFile}
 use Rattle.file.specs.Held.{headAnswer, andRows}
 use Rattle.file.proofs.Ends.{IsUnfit, not-rows}
 use Rattle.file.proofs.Head.{check-is, head-rows}
 use borrow.Author.Needs.{needs}
 use Rattle.file.proofs.check.Statement.{statement}
 use Rattle.file.proofs.check.Tie as tie
-use Rattle.file.proofs.check.Reads as reads
-use Rattle.file.proofs.check.Lts as lts
-use Rattle.file.proofs.check_head.Reads as check-head-reads
-use Rattle.file.proofs.check_rows.Reads as check-rows-reads
 
 unfit-stays : (bytes : List ℕ) (x : Loaded) → IsUnfit x → andRows bytes x ≡ x
 unfolding andRows
 unfit-stays bytes (Rows n) h = not-rows n h
 unfit-stays bytes (Unfit code row) h = refl
 
--- src/lib.rt:267:9
 check-head-requires : tie.Need-check-head-requires
 check-head-requires c κs = search needs
 
--- src/lib.rt:268:22
 enum-known-head : tie.Need-enum-known-head
 enum-known-head c = search needs
 
--- src/lib.rt:269:9
 enum-told : tie.Need-enum-told
 enum-told c = search needs
 
--- src/lib.rt:269:9
 returns : tie.Need-returns
 returns c =
     let s = c .before .before .before .before .args in
@@ -44,11 +34,9 @@ returns c =
     let e : head .result ≡ headAnswer (s .bytes .now) (s .kind) = simp (toZ-ofZ (c .before .before .before .before .fits .kind)) at (head .ensures) in
     sym (unfit-stays (s .bytes .now) (head .result) (c .before .match .keys2)) ∙ ap (andRows (s .bytes .now)) e ∙ check-is (s .bytes .now) (s .kind)
 
--- src/lib.rt:271:23
 cast-check-rows : tie.Need-cast-check-rows
 cast-check-rows c = search needs
 
--- src/lib.rt:271:5
 check-rows-requires : tie.Need-check-rows-requires
 check-rows-requires c κs =
     let s = c .before .before .before .before .before .args in
@@ -58,7 +46,6 @@ check-rows-requires c κs =
     let h = head-rows (s .bytes .now) (s .kind) n (sym e ∙ c .before .head .given .1) in
     omega (arith, h)
 
--- src/lib.rt:264:1
 returns-2 : tie.Need-returns-2
 unfolding andRows
 returns-2 c =

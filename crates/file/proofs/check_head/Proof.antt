@@ -11,21 +11,14 @@ use Rattle.file.proofs.Head.{answers}
 use borrow.Author.Needs.{needs}
 use Rattle.file.proofs.check_head.Statement.{statement}
 use Rattle.file.proofs.check_head.Tie as tie
-use Rattle.file.proofs.check_head.Reads as reads
-use Rattle.file.proofs.check_head.Lts as lts
-use Rattle.file.proofs.kind_fits.Reads as kind-fits-reads
-use Rattle.file.proofs.read_header.Reads as read-header-reads
 
--- src/lib.rt:181:9
 returns : tie.Need-returns
 unfolding headAnswer
 returns c = simp (lt-ltb _ _ (c .if1 .taken))
 
--- src/lib.rt:183:9
 read-header-requires : tie.Need-read-header-requires
 read-header-requires c κs = search needs
 
--- src/lib.rt:185:9
 returns-2 : tie.Need-returns-2
 unfolding headOf
 returns-2 c =
@@ -35,11 +28,9 @@ returns-2 c =
     answers (s .bytes .now) (h .result) (s .kind) (Unfit 9 0) (h .ensures)
     (simp (long, not-true (h .result .fits) (c .if2 .taken)))
 
--- src/lib.rt:187:9
 kind-fits-requires : tie.Need-kind-fits-requires
 kind-fits-requires c κs = search needs
 
--- src/lib.rt:188:9
 returns-3 : tie.Need-returns-3
 unfolding headOf
 returns-3 c =
@@ -52,7 +43,6 @@ returns-3 c =
     answers (s .bytes .now) (h .result) (s .kind) (Unfit 10 0) (h .ensures)
     (simp (long, not-false (h .result .fits) (c .before .before .if2 .left), kind))
 
--- src/lib.rt:192:9
 returns-4 : tie.Need-returns-4
 unfolding headOf
 returns-4 c =
@@ -65,19 +55,15 @@ returns-4 c =
     answers (s .bytes .now) (h .result) (s .kind) (Unfit 4 0) (h .ensures)
     (simp (long, not-false (h .result .fits) (c .before .before .before .if2 .left), kind, lt-ltb _ _ (c .if4 .taken)))
 
--- src/lib.rt:194:34
 cast-if5 : tie.Need-cast-if5
 cast-if5 c = search needs
 
--- src/lib.rt:194:28
 mul-if5 : tie.Need-mul-if5
 mul-if5 c = search needs
 
--- src/lib.rt:194:23
 add-if5 : tie.Need-add-if5
 add-if5 c = search needs
 
--- src/lib.rt:195:9
 returns-5 : tie.Need-returns-5
 unfolding headOf
 returns-5 c =
@@ -90,7 +76,6 @@ returns-5 c =
     answers (s .bytes .now) (h .result) (s .kind) (Unfit 8 0) (h .ensures)
     (simp (long, not-false (h .result .fits) (c .before .before .before .before .if2 .left), kind, le-ltb _ _ (c .before .if4 .left), ne-eqb _ _ (c .if5 .taken)))
 
--- src/lib.rt:177:1
 returns-6 : tie.Need-returns-6
 unfolding headOf
 returns-6 c =

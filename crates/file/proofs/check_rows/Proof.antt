@@ -1,29 +1,21 @@
-use mathlib.Core.Bool.{true, false}
-use lib.ListN.{length}
-use Rattle.rules.specs.declared.Loaded.{Loaded}
 use Rattle.file.specs.declared.Row.{Row}
 use Rattle.file.proofs.Rows.{accepted-fits}
 -- `check_rows` meets its contract: the rows passed are accepted, and the first that is not decides. Assumes nothing.
 use mathlib.Core.Path.{_≡_, refl, sym, ap, _∙_}
-use Prim.Native.Nat.{ℕ, _+_, _-_, _≤_, _<_}
+use Prim.Native.Nat.{ℕ, _+_, _-_, _≤_}
 use native.Mathlib.Omega.{arith}
 use lib.Dec.{eqb}
-use lib.IntN.{ℤ}
 use mir.Syntax.{w32}
-use mir.Val.{toZ, ofZ}
+use mir.Val.{toZ}
 use mir.Facts.{toZ-ofZ}
 use borrow.Author.Needs.{needs}
 use Rattle.rules.specs.declared.Loaded.the-variants.{Rows, Unfit}
 use Rattle.rules.specs.Tables.{num}
 use Rattle.rules.specs.File.{fileTable, fileRowCode, rowsLoaded}
-use Rattle.file.specs.Held.{rowHeld, heldCode}
+use Rattle.file.specs.Held.{heldCode}
 use Rattle.file.proofs.Rows.{score-is, code-is, one-more, refused}
 use Rattle.file.proofs.check_rows.Statement.{statement}
 use Rattle.file.proofs.check_rows.Tie as tie
-use Rattle.file.proofs.check_rows.Reads as reads
-use Rattle.file.proofs.check_rows.Lts as lts
-use Rattle.file.proofs.read_row.Reads as read-row-reads
-use Rattle.file.proofs.row_code.Reads as row-code-reads
 
 abbrev Inv-loop : tie.InvT-loop
 Inv-loop bytes count before₀ i₀ before i =
@@ -33,28 +25,22 @@ Inv-loop bytes count before₀ i₀ before i =
 abbrev μ-loop : tie.MeasureT-loop
 μ-loop bytes count before₀ i₀ before i = count - i
 
--- src/lib.rt:251:5
 loop-holds : tie.Need-loop-holds Inv-loop μ-loop
 unfolding rowsLoaded
 loop-holds c = (search needs, refl, λ z. absurd (z refl))
 
--- src/lib.rt:252:13
 read-row-requires : tie.Need-read-row-requires Inv-loop μ-loop
 read-row-requires c κs = search needs
 
--- src/lib.rt:253:13
 row-code-requires : tie.Need-row-code-requires Inv-loop μ-loop
 row-code-requires c κs = search needs
 
--- src/lib.rt:255:41
 add-t8 : tie.Need-add-t8 Inv-loop μ-loop
 add-t8 c = search needs
 
--- src/lib.rt:255:40
 cast-t9 : tie.Need-cast-t9 Inv-loop μ-loop
 cast-t9 c = search needs
 
--- src/lib.rt:255:13
 returns : tie.Need-returns Inv-loop μ-loop
 returns c =
     let l = c .before .before .before .before .loop in
@@ -68,15 +54,12 @@ returns c =
     ap (λ (k : ℕ). Unfit k (l .i + 1)) code
     ∙ sym (refused bytes t (l .i) (l .inv .1) (s .count) (omega arith) (λ z. c .if1 .taken (code ∙ z)))
 
--- src/lib.rt:258:9
 add-i : tie.Need-add-i Inv-loop μ-loop
 add-i c = search needs
 
--- src/lib.rt:251:5
 loop-less : tie.Need-loop-less Inv-loop μ-loop
 loop-less c = search needs
 
--- src/lib.rt:251:5
 loop-again : tie.Need-loop-again Inv-loop μ-loop
 loop-again c =
     let l = c .before .before .before .before .before .loop in
@@ -99,11 +82,9 @@ loop-again c =
           ∙ ap (λ (k : ℕ). num t k 1) (sym last),
     )
 
--- src/lib.rt:260:18
 cast-t10 : tie.Need-cast-t10 Inv-loop μ-loop
 cast-t10 c = search needs
 
--- src/lib.rt:245:1
 returns-2 : tie.Need-returns-2 Inv-loop μ-loop
 returns-2 c =
     let l = c .before .loop in

@@ -1,5 +1,5 @@
 -- `column_at` meets its contract: a column scanned to its end holds what document 01 says. Assumes nothing.
-use mathlib.Core.Path.{_≡_, sym, ap, _∙_}
+use mathlib.Core.Path.{sym, ap, _∙_}
 use Prim.Native.Nat.{_+_}
 use Rattle.file.specs.Column.{upTo, heldOf, columnHeld}
 use Rattle.file.proofs.Bytes.{whole}
@@ -7,24 +7,16 @@ use Rattle.file.proofs.Scans.{scan-holds}
 use borrow.Author.Needs.{needs}
 use Rattle.file.proofs.column_at.Statement.{statement}
 use Rattle.file.proofs.column_at.Tie as tie
-use Rattle.file.proofs.column_at.Reads as reads
-use Rattle.file.proofs.column_at.Lts as lts
-use Rattle.file.proofs.held.Reads as held-reads
-use Rattle.file.proofs.scan_from.Reads as scan-from-reads
 
--- src/lib.rt:110:31
 add-scan-from : tie.Need-add-scan-from
 add-scan-from c = search needs
 
--- src/lib.rt:110:10
 scan-from-requires : tie.Need-scan-from-requires
 scan-from-requires c κs = search needs
 
--- src/lib.rt:110:5
 held-requires : tie.Need-held-requires
 held-requires c κs = search needs
 
--- src/lib.rt:106:1
 returns : tie.Need-returns
 returns c =
     let s = c .before .before .before .args in

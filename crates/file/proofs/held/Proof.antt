@@ -1,6 +1,6 @@
 -- `held` meets its contract. Assumes nothing.
 use mathlib.Core.Path.{_≡_, sym, ap, _∙_}
-use mathlib.Core.Bool.{Bool, true, false, _&&_, not}
+use mathlib.Core.Bool.{Bool, true, _&&_, not}
 use lib.Dec.{eqb}
 use lib.IntN.{ℤ}
 use mir.Syntax.{w32}
@@ -11,9 +11,6 @@ use Rattle.file.specs.Column.{signedWorth, heldOf}
 use borrow.Author.Needs.{needs, sfits-of}
 use Rattle.file.proofs.held.Statement.{statement}
 use Rattle.file.proofs.held.Tie as tie
-use Rattle.file.proofs.held.Reads as reads
-use Rattle.file.proofs.held.Lts as lts
-use Rattle.file.proofs.signed_worth.Reads as signed-worth-reads
 
 abbrev fitting : Scan → Bool
 fitting s = not (s .bad) && (s .digit && not (s .negative && eqb (s .worth) 0))
@@ -22,16 +19,13 @@ held-fits : (s : Scan) → fitting s ≡ true → heldOf s ≡ record { fits = t
 unfolding heldOf
 held-fits s f = rw f
 
--- src/lib.rt:99:9
 returns : tie.Need-returns
 unfolding heldOf
 returns c = simp (not-true (fitting (c .before .before .before .before .before .args .s)) (c .if1 .taken))
 
--- src/lib.rt:106:17
 signed-worth-requires : tie.Need-signed-worth-requires
 signed-worth-requires c κs = search needs
 
--- src/lib.rt:94:1
 returns-2 : tie.Need-returns-2
 returns-2 c =
     let s = c .before .before .before .before .before .before .args .s in

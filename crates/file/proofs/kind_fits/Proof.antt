@@ -4,15 +4,10 @@ use Rattle.file.specs.Held.{kindHeld}
 use borrow.Author.Needs.{needs}
 use Rattle.file.proofs.kind_fits.Statement.{statement}
 use Rattle.file.proofs.kind_fits.Tie as tie
-use Rattle.file.proofs.kind_fits.Reads as reads
-use Rattle.file.proofs.kind_fits.Lts as lts
-use Rattle.file.proofs.natural.Reads as natural-reads
 
--- src/lib.rt:172:9
 natural-requires : tie.Need-natural-requires
 natural-requires c κs = search needs
 
--- src/lib.rt:169:1
 returns : tie.Need-returns
 unfolding kindHeld
 returns c = simp (c .natural .ensures, toZ-ofZ (c .before .fits .kind))

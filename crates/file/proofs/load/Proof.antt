@@ -1,10 +1,9 @@
 -- `load` meets its contract: the whole file is checked before a number is written. Assumes nothing.
-use mathlib.Core.Path.{_≡_, refl, sym, ap, _∙_}
-use Prim.Native.Nat.{ℕ, _*_, _≤_, _<_}
+use mathlib.Core.Path.{_≡_, sym, _∙_}
+use Prim.Native.Nat.{_*_, _≤_}
 use native.Mathlib.Omega.{arith}
 use lib.ListN.{length}
 use mir.Facts.{toZ-ofZ}
-use Rattle.rules.specs.declared.Loaded.the-variants.{Rows, Unfit}
 use Rattle.rules.specs.File.{fileTable, checkFile}
 use Rattle.file_laws.specs.Legal.{row-passed}
 use Rattle.file_laws.specs.Accepted.{accepted}
@@ -12,24 +11,16 @@ use Rattle.file.proofs.Ends.{unfit-load, short-load, whole-load}
 use borrow.Author.Needs.{needs}
 use Rattle.file.proofs.load.Statement.{statement}
 use Rattle.file.proofs.load.Tie as tie
-use Rattle.file.proofs.load.Reads as reads
-use Rattle.file.proofs.load.Lts as lts
-use Rattle.file.proofs.check.Reads as check-reads
-use Rattle.file.proofs.put_rows.Reads as put-rows-reads
 
--- src/lib.rt:304:9
 check-requires : tie.Need-check-requires
 check-requires c κs = search needs
 
--- src/lib.rt:305:22
 enum-known-checked : tie.Need-enum-known-checked
 enum-known-checked c = search needs
 
--- src/lib.rt:306:9
 enum-told : tie.Need-enum-told
 enum-told c = search needs
 
--- src/lib.rt:306:9
 returns : tie.Need-returns
 returns c =
     let s = c .before .before .before .before .args in
@@ -37,15 +28,12 @@ returns c =
     simp (toZ-ofZ (c .before .before .before .before .fits .kind)) at (c .before .before .check .ensures) in
     unfit-load (s .bytes .now) (s .kind) (s .out .now) (c .before .before .check .result) e (c .before .match .keys2)
 
--- src/lib.rt:308:25
 cast-if1 : tie.Need-cast-if1
 cast-if1 c = search needs
 
--- src/lib.rt:308:20
 mul-if1 : tie.Need-mul-if1
 mul-if1 c = search needs
 
--- src/lib.rt:309:9
 returns-2 : tie.Need-returns-2
 returns-2 c =
     let at = c .before .before in
@@ -55,11 +43,9 @@ returns-2 c =
     let n = at .checked .given .0 .0 in
     short-load (s .bytes .now) (s .kind) (s .out .now) n (sym (at .checked .given .1) ∙ e) (c .if1 .taken)
 
--- src/lib.rt:311:21
 cast-put-rows : tie.Need-cast-put-rows
 cast-put-rows c = search needs
 
--- src/lib.rt:311:5
 put-rows-requires : tie.Need-put-rows-requires
 put-rows-requires c κs =
     let at = c .before .before .before in
@@ -72,11 +58,9 @@ put-rows-requires c κs =
     let bytes = s .bytes .now in
     ((f .few, omega (arith, f .size), room), λ i h. row-passed bytes (fileTable bytes n) i (f .rows i h) .0)
 
--- src/lib.rt:300:1
 same-length : tie.Need-same-length
 same-length c = search needs
 
--- src/lib.rt:300:1
 returns-3 : tie.Need-returns-3
 returns-3 c =
     let at = c .before .before .before .before .before in

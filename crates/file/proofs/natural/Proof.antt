@@ -3,22 +3,17 @@ use mir.Facts.{toZ-ofZ}
 use Rattle.file.proofs.Naturals.{nat-fits, nat-is, below-zero}
 use Rattle.file.proofs.natural.Statement.{statement}
 use Rattle.file.proofs.natural.Tie as tie
-use Rattle.file.proofs.natural.Reads as reads
-use Rattle.file.proofs.natural.Lts as lts
 
--- src/lib.rt:143:16
 cast-result : tie.Need-cast-result
 cast-result c =
     let f = c .before .fits .x in
     rw (toZ-ofZ f) (nat-fits (c .before .args .x) (simp (toZ-ofZ f) at (c .if1 .taken)) f)
 
--- src/lib.rt:143:9
 returns : tie.Need-returns
 returns c =
     let f = c .before .fits .x in
     rw (toZ-ofZ f) (nat-is (c .before .args .x) (simp (toZ-ofZ f) at (c .if1 .taken)))
 
--- src/lib.rt:139:1
 returns-2 : tie.Need-returns-2
 returns-2 c = below-zero (c .before .args .x) (simp (toZ-ofZ (c .before .fits .x)) at (c .if1 .left))
 

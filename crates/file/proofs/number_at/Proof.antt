@@ -1,8 +1,7 @@
 -- `number_at` meets its contract. Assumes nothing.
 use mathlib.Core.Path.{_≡_, sym, ap, _∙_}
 use mathlib.Core.Bool.{true}
-use mathlib.Core.List.{List}
-use Prim.Native.Nat.{ℕ, _+_}
+use Prim.Native.Nat.{_+_}
 use mir.Syntax.{w32}
 use mir.Facts.{toZ-ofZ}
 use Rattle.rules.specs.File.{columns, columnFits, columnNumber}
@@ -12,24 +11,16 @@ use Rattle.file.proofs.Scans.{scan-number}
 use borrow.Author.Needs.{needs, sfits-of}
 use Rattle.file.proofs.number_at.Statement.{statement}
 use Rattle.file.proofs.number_at.Tie as tie
-use Rattle.file.proofs.number_at.Reads as reads
-use Rattle.file.proofs.number_at.Lts as lts
-use Rattle.file.proofs.scan_from.Reads as scan-from-reads
-use Rattle.file.proofs.signed_worth.Reads as signed-worth-reads
 
--- src/lib.rt:125:39
 add-scan-from : tie.Need-add-scan-from
 add-scan-from c = search needs
 
--- src/lib.rt:125:18
 scan-from-requires : tie.Need-scan-from-requires
 scan-from-requires c κs = search needs
 
--- src/lib.rt:125:5
 signed-worth-requires : tie.Need-signed-worth-requires
 signed-worth-requires c κs = search needs
 
--- src/lib.rt:120:1
 returns : tie.Need-returns
 returns c =
     let at = c .before .before .before in

@@ -1,6 +1,6 @@
 -- `put_four` meets its contract. Assumes nothing.
 use mathlib.Core.Path.{_≡_}
-use mathlib.Core.List.{List, [], _∷_, _++_}
+use mathlib.Core.List.{[], _∷_}
 use Prim.Native.Nat.{ℕ, suc, _+_}
 use native.Mathlib.Omega.{arith}
 use lib.ListN.{length-set}
@@ -10,8 +10,6 @@ use mir.Facts.{toZ-ofZ}
 use borrow.Author.Needs.{needs}
 use Rattle.file.proofs.put_four.Statement.{statement}
 use Rattle.file.proofs.put_four.Tie as tie
-use Rattle.file.proofs.put_four.Reads as reads
-use Rattle.file.proofs.put_four.Lts as lts
 
 plus-1 : (n : ℕ) → n + 1 ≡ suc n
 plus-1 n = omega arith
@@ -22,55 +20,42 @@ plus-2 n = omega arith
 plus-3 : (n : ℕ) → n + 3 ≡ suc (suc (suc n))
 plus-3 n = omega arith
 
--- src/lib.rt:280:5
 mul-pattern : tie.Need-mul-pattern
 mul-pattern c = search needs
 
--- src/lib.rt:280:5
 slice-set-from-pattern : tie.Need-slice-set-from-pattern
 slice-set-from-pattern c = search needs
 
--- src/lib.rt:281:9
 add-score : tie.Need-add-score
 add-score c = search needs
 
--- src/lib.rt:281:5
 mul-score : tie.Need-mul-score
 mul-score c = search needs
 
--- src/lib.rt:281:5
 slice-set-from-score : tie.Need-slice-set-from-score
 slice-set-from-score c = simp length-set (omega arith)
 
--- src/lib.rt:282:9
 add-a : tie.Need-add-a
 add-a c = search needs
 
--- src/lib.rt:282:5
 mul-a : tie.Need-mul-a
 mul-a c = search needs
 
--- src/lib.rt:282:5
 slice-set-from-a : tie.Need-slice-set-from-a
 slice-set-from-a c = simp length-set (omega arith)
 
--- src/lib.rt:283:9
 add-b : tie.Need-add-b
 add-b c = search needs
 
--- src/lib.rt:283:5
 mul-b : tie.Need-mul-b
 mul-b c = search needs
 
--- src/lib.rt:283:5
 slice-set-from-b : tie.Need-slice-set-from-b
 slice-set-from-b c = simp length-set (omega arith)
 
--- src/lib.rt:276:1
 same-length : tie.Need-same-length
 same-length c = search needs
 
--- src/lib.rt:276:1
 returns : tie.Need-returns
 returns c =
     let s = c .args in

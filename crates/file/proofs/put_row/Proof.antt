@@ -1,10 +1,9 @@
 -- `put_row` meets its contract: what it writes are the row's numbers. Assumes nothing.
-use mathlib.Core.Path.{_≡_, refl, sym, ap, _∙_}
+use mathlib.Core.Path.{_≡_, ap, _∙_}
 use mathlib.Core.List.{List, [], _∷_, _++_}
-use Prim.Native.Nat.{ℕ, _+_, _*_}
-use native.Mathlib.Omega.{arith}
+use Prim.Native.Nat.{_+_, _*_}
 use lib.IntN.{ℤ}
-use lib.ListN.{length, take, drop}
+use lib.ListN.{take, drop}
 use mir.Syntax.{w32}
 use mir.Facts.{toZ-ofZ}
 use Rattle.rules.specs.File.{rowNumbers}
@@ -12,68 +11,51 @@ use Rattle.file_laws.specs.Parts.{row-parts}
 use borrow.Author.Needs.{needs, sfits-of}
 use Rattle.file.proofs.put_row.Statement.{statement}
 use Rattle.file.proofs.put_row.Tie as tie
-use Rattle.file.proofs.put_row.Reads as reads
-use Rattle.file.proofs.put_row.Lts as lts
-use Rattle.file.proofs.number_at.Reads as number-at-reads
-use Rattle.file.proofs.put_four.Reads as put-four-reads
 
--- src/lib.rt:282:18
 mul-o : tie.Need-mul-o
 mul-o c = search needs
 
--- src/lib.rt:282:13
 add-o : tie.Need-add-o
 add-o c = search needs
 
--- src/lib.rt:283:9
 number-at-requires : tie.Need-number-at-requires
 number-at-requires c κs =
     let s = c .before in
     (search needs, row-parts (s .args .bytes .now) (s .args .i) (s .pre .1) .pattern)
 
--- src/lib.rt:284:34
 add-number-at : tie.Need-add-number-at
 add-number-at c = search needs
 
--- src/lib.rt:284:9
 number-at-requires-2 : tie.Need-number-at-requires-2
 number-at-requires-2 c κs =
     let s = c .before .before in
     (search needs, row-parts (s .args .bytes .now) (s .args .i) (s .pre .1) .score)
 
--- src/lib.rt:285:30
 add-number-at-2 : tie.Need-add-number-at-2
 add-number-at-2 c = search needs
 
--- src/lib.rt:285:9
 number-at-requires-3 : tie.Need-number-at-requires-3
 number-at-requires-3 c κs =
     let s = c .before .before .before in
     (search needs, row-parts (s .args .bytes .now) (s .args .i) (s .pre .1) .a)
 
--- src/lib.rt:286:30
 add-number-at-3 : tie.Need-add-number-at-3
 add-number-at-3 c = search needs
 
--- src/lib.rt:286:9
 number-at-requires-4 : tie.Need-number-at-requires-4
 number-at-requires-4 c κs =
     let s = c .before .before .before .before in
     (search needs, row-parts (s .args .bytes .now) (s .args .i) (s .pre .1) .b)
 
--- src/lib.rt:287:19
 mul-put-four : tie.Need-mul-put-four
 mul-put-four c = search needs
 
--- src/lib.rt:287:5
 put-four-requires : tie.Need-put-four-requires
 put-four-requires c κs = search needs
 
--- src/lib.rt:277:1
 same-length : tie.Need-same-length
 same-length c = search needs
 
--- src/lib.rt:277:1
 returns : tie.Need-returns
 unfolding rowNumbers
 returns c =

@@ -1,5 +1,5 @@
 -- `put_rows` meets its contract: the rows passed stand at the front, the rest is as it was. Assumes nothing.
-use mathlib.Core.Path.{_≡_, refl, sym, ap, _∙_}
+use mathlib.Core.Path.{_≡_, refl, ap, _∙_}
 use mathlib.Core.List.{List, _++_}
 use Prim.Native.Nat.{ℕ, _+_, _*_, _-_, _≤_, _<_}
 use native.Mathlib.Omega.{arith}
@@ -11,9 +11,6 @@ use Rattle.rules.specs.File.{rowNumbers, fileTable}
 use Rattle.file.proofs.Table.{one-row}
 use Rattle.file.proofs.put_rows.Statement.{statement}
 use Rattle.file.proofs.put_rows.Tie as tie
-use Rattle.file.proofs.put_rows.Reads as reads
-use Rattle.file.proofs.put_rows.Lts as lts
-use Rattle.file.proofs.put_row.Reads as put-row-reads
 
 abbrev Inv-loop : tie.InvT-loop
 Inv-loop bytes count out₀ i₀ out i =
@@ -22,12 +19,10 @@ Inv-loop bytes count out₀ i₀ out i =
 abbrev μ-loop : tie.MeasureT-loop
 μ-loop bytes count out₀ i₀ out i = count - i
 
--- src/lib.rt:297:5
 loop-holds : tie.Need-loop-holds Inv-loop μ-loop
 unfolding fileTable range each
 loop-holds c = (search needs, refl, refl)
 
--- src/lib.rt:298:9
 put-row-requires : tie.Need-put-row-requires Inv-loop μ-loop
 put-row-requires c κs =
     let l = c .before .before .loop in
@@ -36,15 +31,12 @@ put-row-requires c κs =
     let h : l .i < s .args .count = c .before .loop-test .taken in
     ((omega arith, omega (arith, s .pre .0), omega (arith, s .pre .0, long)), s .pre .1 (l .i) h)
 
--- src/lib.rt:299:9
 add-i : tie.Need-add-i Inv-loop μ-loop
 add-i c = search needs
 
--- src/lib.rt:297:5
 loop-less : tie.Need-loop-less Inv-loop μ-loop
 loop-less c = search needs
 
--- src/lib.rt:297:5
 loop-again : tie.Need-loop-again Inv-loop μ-loop
 loop-again c =
     let l = c .before .before .before .before .loop in
@@ -58,11 +50,9 @@ loop-again c =
           ∙ one-row bytes (l .i) (s .out .now),
     )
 
--- src/lib.rt:291:1
 same-length : tie.Need-same-length Inv-loop μ-loop
 same-length c = search needs
 
--- src/lib.rt:291:1
 returns : tie.Need-returns Inv-loop μ-loop
 returns c =
     let l = c .before .loop in

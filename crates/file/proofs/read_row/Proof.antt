@@ -1,63 +1,45 @@
-use mathlib.Core.Path.{_≡_}
 use Rattle.file.proofs.Rows.{row-is}
 use mir.Syntax.{w32}
 use mir.Facts.{toZ-ofZ}
 -- `read_row` meets its contract. Assumes nothing.
 
-use Rattle.file.specs.Column.{columnHeld}
-use Rattle.file.specs.Held.{rowHeld}
 use borrow.Author.Needs.{needs}
 use Rattle.file.proofs.read_row.Statement.{statement}
 use Rattle.file.proofs.read_row.Tie as tie
-use Rattle.file.proofs.read_row.Reads as reads
-use Rattle.file.proofs.read_row.Lts as lts
-use Rattle.file.proofs.column_at.Reads as column-at-reads
 
--- src/lib.rt:214:18
 mul-o : tie.Need-mul-o
 mul-o c = search needs
 
--- src/lib.rt:214:13
 add-o : tie.Need-add-o
 add-o c = search needs
 
--- src/lib.rt:215:9
 column-at-requires : tie.Need-column-at-requires
 column-at-requires c κs = search needs
 
--- src/lib.rt:216:34
 add-column-at : tie.Need-add-column-at
 add-column-at c = search needs
 
--- src/lib.rt:216:9
 column-at-requires-2 : tie.Need-column-at-requires-2
 column-at-requires-2 c κs = search needs
 
--- src/lib.rt:217:30
 add-column-at-2 : tie.Need-add-column-at-2
 add-column-at-2 c = search needs
 
--- src/lib.rt:217:9
 column-at-requires-3 : tie.Need-column-at-requires-3
 column-at-requires-3 c κs = search needs
 
--- src/lib.rt:218:30
 add-column-at-3 : tie.Need-add-column-at-3
 add-column-at-3 c = search needs
 
--- src/lib.rt:218:9
 column-at-requires-4 : tie.Need-column-at-requires-4
 column-at-requires-4 c κs = search needs
 
--- src/lib.rt:220:71
 add-t8 : tie.Need-add-t8
 add-t8 c = search needs
 
--- src/lib.rt:220:65
 shared-slice-read-t10 : tie.Need-shared-slice-read-t10
 shared-slice-read-t10 c = search needs
 
--- src/lib.rt:210:1
 returns : tie.Need-returns
 returns c =
     let at = c .before .before .before .before .before .before .before .before .before in

@@ -1,7 +1,6 @@
 -- `row_code` meets its contract: 9, then 6, then 7. Assumes nothing.
-use mathlib.Core.Path.{_≡_, sym, _∙_}
-use mathlib.Core.Bool.{Bool, true, false, _||_}
-use lib.IntN.{ℤ}
+use mathlib.Core.Path.{_≡_, sym}
+use mathlib.Core.Bool.{Bool, _||_}
 use lib.Signed.{leZ}
 use mir.Syntax.{w32}
 use mir.Val.{SFits, toZ, ofZ}
@@ -13,24 +12,18 @@ use Rattle.file.specs.Held.{heldCode}
 use borrow.Author.Needs.{needs, sfits-of}
 use Rattle.file.proofs.row_code.Statement.{statement}
 use Rattle.file.proofs.row_code.Tie as tie
-use Rattle.file.proofs.row_code.Reads as reads
-use Rattle.file.proofs.row_code.Lts as lts
-use Rattle.tables.proofs.in_range.Reads as in-range-reads
 
 -- the range test is asked of the row's own numbers
 asked : (row : Row) (r : Bool) → SFits w32 (row .pattern) → SFits w32 (row .score) → SFits w32 (row .a) → SFits w32 (row .b) → r ≡ inRange (toZ w32 (ofZ w32 (row .pattern))) (toZ w32 (ofZ w32 (row .score))) (toZ w32 (ofZ w32 (row .a))) (toZ w32 (ofZ w32 (row .b))) → inRange (row .pattern) (row .score) (row .a) (row .b) ≡ r
 asked row r p s a b h = sym (simp (toZ-ofZ p, toZ-ofZ s, toZ-ofZ a, toZ-ofZ b) at h)
 
--- src/lib.rt:233:9
 in-range-requires : tie.Need-in-range-requires
 in-range-requires c κs = search needs
 
--- src/lib.rt:235:9
 returns : tie.Need-returns
 unfolding heldCode
 returns c = simp (not-true (c .before .before .before .before .before .before .before .args .row .fits) (c .if1 .taken))
 
--- src/lib.rt:238:9
 returns-2 : tie.Need-returns-2
 unfolding heldCode
 returns-2 c =
@@ -41,7 +34,6 @@ returns-2 c =
     let inside = asked row (call .result) (sfits-of (told .1 .0 .1)) (sfits-of (told .1 .1 .0 .1)) (sfits-of (told .1 .1 .1 .0 .1)) (sfits-of (told .1 .1 .1 .1 .0 .1)) (call .ensures) in
     simp (not-false (row .fits) (c .before .if1 .left), inside, not-true (call .result) (c .if2 .taken))
 
--- src/lib.rt:241:9
 returns-3 : tie.Need-returns-3
 unfolding heldCode
 returns-3 c =
@@ -60,7 +52,6 @@ returns-3 c =
       order,
     )
 
--- src/lib.rt:230:1
 returns-4 : tie.Need-returns-4
 unfolding heldCode
 returns-4 c =

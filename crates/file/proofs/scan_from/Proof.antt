@@ -1,7 +1,7 @@
 -- `scan_from` meets its contract: the bytes passed are scanned. Assumes nothing.
 use mathlib.Core.Path.{_≡_, refl, sym, ap, _∙_}
-use mathlib.Core.List.{List, [], _∷_}
-use Prim.Native.Nat.{ℕ, suc, _+_, _*_, _-_, _^_, _≤_, _<_}
+use mathlib.Core.List.{[]}
+use Prim.Native.Nat.{suc, _+_, _*_, _-_, _^_, _≤_}
 use native.Mathlib.Omega.{arith}
 use mathlib.Core.Bool.{_&&_}
 use lib.Dec.{eqb}
@@ -12,9 +12,6 @@ use Rattle.file.specs.Column.{upTo, byteWorth, stepped, start, scanned}
 use Rattle.file.proofs.Bytes.{none, next, worth-small, worth-grows, seven}
 use Rattle.file.proofs.scan_from.Statement.{statement}
 use Rattle.file.proofs.scan_from.Tie as tie
-use Rattle.file.proofs.scan_from.Reads as reads
-use Rattle.file.proofs.scan_from.Lts as lts
-use Rattle.file.proofs.step.Reads as step-reads
 
 abbrev Inv-loop : tie.InvT-loop
 Inv-loop bytes at end signed s₀ i₀ s i =
@@ -24,33 +21,27 @@ Inv-loop bytes at end signed s₀ i₀ s i =
 abbrev μ-loop : tie.MeasureT-loop
 μ-loop bytes at end signed s₀ i₀ s i = end - i
 
--- src/lib.rt:75:5
 loop-holds : tie.Need-loop-holds Inv-loop μ-loop
 loop-holds c =
     let at = c .before .args .at in
     let k : at - at ≡ 0 = omega arith in
     (search needs, search needs, rw k (omega arith), refl)
 
--- src/lib.rt:76:21
 shared-slice-read-step : tie.Need-shared-slice-read-step Inv-loop μ-loop
 shared-slice-read-step c = search needs
 
--- src/lib.rt:76:9
 step-requires : tie.Need-step-requires Inv-loop μ-loop
 step-requires c κs =
     let l = c .before .before .loop in
     let s = c .before .before .before .before .args in
     seven (l .s .worth) (l .i - s .at) (l .inv .2) (omega arith)
 
--- src/lib.rt:77:9
 add-i : tie.Need-add-i Inv-loop μ-loop
 add-i c = search needs
 
--- src/lib.rt:75:5
 loop-less : tie.Need-loop-less Inv-loop μ-loop
 loop-less c = search needs
 
--- src/lib.rt:75:5
 loop-again : tie.Need-loop-again Inv-loop μ-loop
 unfolding scanned stepped
 loop-again c =
@@ -69,7 +60,6 @@ loop-again c =
           ∙ ap (λ (x : Scan). scanned (s .signed) x (upTo bytes (l .i + 1) (s .end))) (sym (c .step .ensures)),
     )
 
--- src/lib.rt:62:1
 returns : tie.Need-returns Inv-loop μ-loop
 unfolding scanned
 returns c =

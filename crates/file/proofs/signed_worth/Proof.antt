@@ -10,8 +10,6 @@ use Rattle.file.specs.Column.{signedWorth}
 use borrow.Author.Needs.{needs}
 use Rattle.file.proofs.signed_worth.Statement.{statement}
 use Rattle.file.proofs.signed_worth.Tie as tie
-use Rattle.file.proofs.signed_worth.Reads as reads
-use Rattle.file.proofs.signed_worth.Lts as lts
 
 minus-fits : (n : ℕ) → n < 20000000 → SFits w32 (negℤ (pos n))
 minus-fits zero h = record { sfits = omega arith }
@@ -20,28 +18,23 @@ minus-fits (suc n) h = record { sfits = omega arith }
 minus : (n : ℕ) → n < 20000000 → pos 0 -ℤ toZ w32 n ≡ negℤ (pos n)
 minus n h = ap (λ (z : ℤ). pos 0 -ℤ z) (toZ-pos w32 {n = n} (omega arith)) ∙ +ℤ-idl (negℤ (pos n))
 
--- src/lib.rt:88:21
 cast-result : tie.Need-cast-result
 cast-result c = search needs
 
--- src/lib.rt:88:16
 sub-result : tie.Need-sub-result
 sub-result c =
     let s = c .before .before in
     rw (minus (s .args .s .worth) (s .pre)) (minus-fits (s .args .s .worth) (s .pre))
 
--- src/lib.rt:88:9
 returns : tie.Need-returns
 unfolding signedWorth
 returns c =
     let s = c .before .before in
     simp (minus (s .args .s .worth) (s .pre), toZ-ofZ (minus-fits (s .args .s .worth) (s .pre)), c .before .if1 .taken)
 
--- src/lib.rt:90:5
 cast-result-2 : tie.Need-cast-result-2
 cast-result-2 c = search needs
 
--- src/lib.rt:83:1
 returns-2 : tie.Need-returns-2
 unfolding signedWorth
 returns-2 c =

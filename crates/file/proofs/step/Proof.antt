@@ -2,30 +2,23 @@
 use mathlib.Core.Bool.{_&&_}
 use native.Mathlib.Omega.{arith}
 use lib.Dec.{eqb}
-use Rattle.file.specs.Column.{byteWorth, stepped}
+use Rattle.file.specs.Column.{stepped}
 use Rattle.file.proofs.Bytes.{worth-small}
 use borrow.Author.Needs.{needs}
 use Rattle.file.proofs.step.Statement.{statement}
 use Rattle.file.proofs.step.Tie as tie
-use Rattle.file.proofs.step.Reads as reads
-use Rattle.file.proofs.step.Lts as lts
-use Rattle.file.proofs.byte_worth.Reads as byte-worth-reads
 
--- src/lib.rt:58:16
 mul-t13 : tie.Need-mul-t13
 mul-t13 c = search needs
 
--- src/lib.rt:58:31
 byte-worth-requires : tie.Need-byte-worth-requires
 byte-worth-requires c κs = search needs
 
--- src/lib.rt:58:16
 add-t15 : tie.Need-add-t15
 add-t15 c =
     let s = c .before .before .before .before .before .before .before .args in
     omega (arith, c .byte-worth .ensures, worth-small (s .signed && eqb (s .b) 45) (s .b))
 
--- src/lib.rt:44:1
 returns : tie.Need-returns
 unfolding stepped
 returns c = simp (c .byte-worth .ensures)

@@ -7,23 +7,16 @@ use Rattle.file_laws.specs.Sizes.{Within, check-within}
 use borrow.Author.Needs.{needs, sfits-of}
 use Rattle.furzeladle.proofs.furzeladle_check.Statement.{statement}
 use Rattle.furzeladle.proofs.furzeladle_check.Tie as tie
-use Rattle.furzeladle.proofs.furzeladle_check.Reads as reads
-use Rattle.furzeladle.proofs.furzeladle_check.Lts as lts
-use Rattle.file.proofs.check.Reads as check-reads
-use Rattle.furzeladle.proofs.signed.Reads as signed-reads
 
--- src/lib.rt:45:12
 check-requires : tie.Need-check-requires
 check-requires c κs = search needs
 
--- src/lib.rt:45:5
 signed-requires : tie.Need-signed-requires
 signed-requires c κs =
     let s = c .before .before in
     let e : c .check .result ≡ checkFile (s .args .bytes .now) (s .args .kind) = simp (toZ-ofZ (s .fits .kind)) at (c .check .ensures) in
     subst (Within 65535) (sym e) (check-within (s .args .bytes .now) (s .args .kind))
 
--- src/lib.rt:41:1
 returns : tie.Need-returns
 unfolding checkAlone
 returns c =

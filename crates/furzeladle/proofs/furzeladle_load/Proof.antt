@@ -2,22 +2,16 @@
 use mathlib.Core.Path.{_≡_, sym, ap, subst, _∙_}
 use mir.Syntax.{w32}
 use mir.Facts.{toZ-ofZ}
-use Rattle.rules.specs.File.{loadAnswer, loadNumbers}
+use Rattle.rules.specs.File.{loadAnswer}
 use Rattle.file_laws.specs.Sizes.{Within, load-within}
 use Rattle.furzeladle.specs.Answers.{numberAndRow, loadSigned}
 use borrow.Author.Needs.{needs, sfits-of}
 use Rattle.furzeladle.proofs.furzeladle_load.Statement.{statement}
 use Rattle.furzeladle.proofs.furzeladle_load.Tie as tie
-use Rattle.furzeladle.proofs.furzeladle_load.Reads as reads
-use Rattle.furzeladle.proofs.furzeladle_load.Lts as lts
-use Rattle.file.proofs.load.Reads as load-reads
-use Rattle.furzeladle.proofs.signed_row.Reads as signed-row-reads
 
--- src/lib.rt:54:16
 load-requires : tie.Need-load-requires
 load-requires c κs = search needs
 
--- src/lib.rt:54:5
 signed-row-requires : tie.Need-signed-row-requires
 signed-row-requires c κs =
     let s = c .before .before .before .before in
@@ -25,11 +19,9 @@ signed-row-requires c κs =
     simp (toZ-ofZ (s .fits .kind)) at (c .before .load .ensures .0) in
     subst (Within 65535) (sym e) (load-within (s .args .bytes .now) (s .args .kind) (s .args .out .now))
 
--- src/lib.rt:49:1
 same-length : tie.Need-same-length
 same-length c = search needs
 
--- src/lib.rt:49:1
 returns : tie.Need-returns
 unfolding loadSigned
 returns c =

@@ -9,8 +9,6 @@ use mir.Facts.{toZ-ofZ, toZ-pos}
 use borrow.Author.Needs.{needs}
 use Rattle.furzeladle.proofs.minus.Statement.{statement}
 use Rattle.furzeladle.proofs.minus.Tie as tie
-use Rattle.furzeladle.proofs.minus.Reads as reads
-use Rattle.furzeladle.proofs.minus.Lts as lts
 
 minus-fits : (n : ℕ) → n ≤ 10000000 → SFits w32 (negℤ (pos n))
 minus-fits zero h = record { sfits = omega arith }
@@ -19,15 +17,12 @@ minus-fits (suc n) h = record { sfits = omega arith }
 minus-is : (n : ℕ) → n ≤ 10000000 → pos 0 -ℤ toZ w32 n ≡ negℤ (pos n)
 minus-is n h = ap (λ (z : ℤ). pos 0 -ℤ z) (toZ-pos w32 {n = n} (omega arith)) ∙ +ℤ-idl (negℤ (pos n))
 
--- src/lib.rt:15:10
 cast-result : tie.Need-cast-result
 cast-result c = search needs
 
--- src/lib.rt:15:5
 sub-result : tie.Need-sub-result
 sub-result c = rw (minus-is (c .args .n) (c .pre)) (minus-fits (c .args .n) (c .pre))
 
--- src/lib.rt:11:1
 returns : tie.Need-returns
 returns c = rw (minus-is (c .args .n) (c .pre)) (toZ-ofZ (minus-fits (c .args .n) (c .pre)))
 

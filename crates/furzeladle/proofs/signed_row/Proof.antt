@@ -1,56 +1,44 @@
 -- `signed_row` meets its contract. Assumes nothing.
-use mathlib.Core.Path.{_≡_, sym, ap, subst, _∙_}
-use Prim.Native.Nat.{ℕ, _≤_, _+_, _*_}
+use mathlib.Core.Path.{sym, ap, subst, _∙_}
 use native.Mathlib.Omega.{arith}
 use mir.Syntax.{w32}
 use mir.Facts.{toZ-ofZ, toZ-pos}
-use Rattle.rules.specs.declared.Loaded.{Loaded}
 use Rattle.rules.specs.declared.Loaded.the-variants.{Rows, Unfit}
 use Rattle.furzeladle.specs.Answers.{numberAndRow}
 use Rattle.file_laws.specs.Sizes.{Within}
 use borrow.Author.Needs.{needs, sfits-of}
 use Rattle.furzeladle.proofs.signed_row.Statement.{statement}
 use Rattle.furzeladle.proofs.signed_row.Tie as tie
-use Rattle.furzeladle.proofs.signed_row.Reads as reads
-use Rattle.furzeladle.proofs.signed_row.Lts as lts
-use Rattle.furzeladle.proofs.minus.Reads as minus-reads
 
--- src/lib.rt:35:22
 enum-known-answer : tie.Need-enum-known-answer
 enum-known-answer c = search needs
 
--- src/lib.rt:35:32
 cast-result : tie.Need-cast-result
 cast-result c =
     let h : Within 65535 (Rows (c .before .answer .given .0 .0)) = subst (Within 65535) (c .before .answer .given .1) (c .before .before .before .pre) in
     record { sfits = omega arith }
 
--- src/lib.rt:36:23
 enum-known-answer-2 : tie.Need-enum-known-answer-2
 enum-known-answer-2 c = search needs
 
--- src/lib.rt:36:43
 mul-minus : tie.Need-mul-minus
 mul-minus c =
     let h : Within 65535 (Unfit (c .before .answer2 .given .0 .0) (c .before .answer2 .given .0 .1 .0)) =
     subst (Within 65535) (c .before .answer2 .given .1) (c .before .before .before .pre) in
     omega (arith, h .0, h .1)
 
--- src/lib.rt:36:43
 add-minus : tie.Need-add-minus
 add-minus c =
     let h : Within 65535 (Unfit (c .before .answer2 .given .0 .0) (c .before .answer2 .given .0 .1 .0)) =
     subst (Within 65535) (c .before .answer2 .given .1) (c .before .before .before .pre) in
     omega (arith, h .0, h .1)
 
--- src/lib.rt:36:37
 minus-requires : tie.Need-minus-requires
 minus-requires c κs =
     let h : Within 65535 (Unfit (c .before .answer2 .given .0 .0) (c .before .answer2 .given .0 .1 .0)) =
     subst (Within 65535) (c .before .answer2 .given .1) (c .before .before .before .pre) in
     omega (arith, h .0, h .1)
 
--- src/lib.rt:30:1
 returns : tie.Need-returns
 unfolding numberAndRow
 returns c =
@@ -58,7 +46,6 @@ returns c =
     let h : Within 65535 (Rows n) = subst (Within 65535) (c .before .answer .given .1) (c .before .before .before .pre) in
     toZ-pos w32 {n = n} (omega arith) ∙ ap numberAndRow (sym (c .before .answer .given .1))
 
--- src/lib.rt:30:1
 returns-2 : tie.Need-returns-2
 unfolding numberAndRow
 returns-2 c =
