@@ -10,6 +10,21 @@ ghost use Rattle.file.specs.Column.{upTo, byteWorth, stepped, start, sca
 ghost use Rattle.file.specs.Held.{headerHeld, kindHeld, headAnswer, rowHeld, heldCode, RowsFit};
 use rules::Loaded;
 
+// Document 01's numbers for the shed.
+const TABLE_SIZE: u32 = 4;
+
+const ROW_LIMIT: u32 = 6;
+
+const ROW_ORDER: u32 = 7;
+
+const CUT_FILE: u32 = 8;
+
+const BAD_COLUMN: u32 = 9;
+
+const WRONG_KIND: u32 = 10;
+
+const SHORT_SLICE: u32 = 11;
+
 // What a column holds: whether it is formed as a number, and the number (0 where it isn't).
 pub struct Column {
     pub fits: bool,
@@ -31,23 +46,23 @@ struct Scan {
 }
 
 // What a byte adds to the digits before it: a blank and a minus nothing.
-fn byte_worth(b: u8, minus: bool) -> u32
-    ensures { λ r. ⌜ r ≡ byteWorth minus b ⌝ }
+fn byte_worth(byte: u8, minus: bool) -> u32
+    ensures { λ r. ⌜ r ≡ byteWorth minus byte ⌝ }
 {
     if minus {
         return 0;
     }
-    (b % 16) as u32
+    (byte % 16) as u32
 }
 
 // One byte more.
-fn step(s: Scan, b: u8, signed: bool) -> Scan
+fn step(s: Scan, byte: u8, signed: bool) -> Scan
     requires { ⌜ s .worth < 20000000 ⌝ }
-    ensures { λ r. ⌜ r ≡ stepped signed s b ⌝ }
+    ensures { λ r. ⌜ r ≡ stepped signed s byte ⌝ }
 {
-    let blank = b == 32;
-    let minus = signed & (b == 45);
-    let digit = (48 <= b) & (b <= 57);
+    let blank = byte == b' ';
+    let minus = signed & (byte == b'-');
+    let digit = (b'0' <= byte) & (byte <= b'9');
     let after_zero = s.digit & (s.worth == 0);
     let astray = !digit & (s.seen | !(blank | minus));
     Scan {
@@ -55,7 +70,7 @@ fn step(s: Scan, b: u8, signed: bool) -> Scan
         digit: digit,
         negative: s.negative | minus,
         bad: s.bad | (after_zero | astray),
-        worth: 10 * s.worth + byte_worth(b, minus),
+        worth: 10 * s.worth + byte_worth(byte, minus),
     }
 }
 
@@ -149,7 +164,7 @@ fn read_header(bytes: &[u8]) -> Header
     let count = column_at(bytes, 0, 6, false);
     let kind = column_at(bytes, 6, 6, false);
     Header {
-        fits: count.fits & (kind.fits & (bytes[12] == 10)),
+        fits: count.fits & (kind.fits & (bytes[12] == b'\n')),
         count: natural(count.number),
         kind: natural(kind.number),
     }
@@ -168,21 +183,21 @@ fn check_head(bytes: &[u8], kind: i32) -> Loaded
     ensures { λ r. ⌜ r ≡ headAnswer (now (bytes .entry)) kind ⌝ }
 {
     if bytes.len() < 13 {
-        return Loaded::Unfit(8, 0);
+        return Loaded::Unfit(CUT_FILE, 0);
     }
     let header = read_header(bytes);
     if !header.fits {
-        return Loaded::Unfit(9, 0);
+        return Loaded::Unfit(BAD_COLUMN, 0);
     }
     if !kind_fits(header.kind, kind) {
-        return Loaded::Unfit(10, 0);
+        return Loaded::Unfit(WRONG_KIND, 0);
     }
     let count = header.count;
     if 65535 < count {
-        return Loaded::Unfit(4, 0);
+        return Loaded::Unfit(TABLE_SIZE, 0);
     }
     if bytes.len() != 13 + 27 * (count as usize) {
-        return Loaded::Unfit(8, 0);
+        return Loaded::Unfit(CUT_FILE, 0);
     }
     Loaded::Rows(count)
 }
@@ -207,7 +222,7 @@ fn read_row(bytes: &[u8], i: usize) -> Row
     let a = column_at(bytes, o + 12, 7, true);
     let b = column_at(bytes, o + 19, 7, true);
     Row {
-        fits: pattern.fits & (score.fits & (a.fits & (b.fits & (bytes[o + 26] == 10)))),
+        fits: pattern.fits & (score.fits & (a.fits & (b.fits & (bytes[o + 26] == b'\n')))),
         pattern: pattern.number,
         score: score.number,
         a: a.number,
@@ -221,13 +236,13 @@ fn row_code(row: Row, first: bool, before: i32) -> u32
 {
     let inside = tables::in_range(row.pattern, row.score, row.a, row.b);
     if !row.fits {
-        return 9;
+        return BAD_COLUMN;
     }
     if !inside {
-        return 6;
+        return ROW_LIMIT;
     }
     if !(first | (row.score <= before)) {
-        return 7;
+        return ROW_ORDER;
     }
     0
 }
@@ -310,7 +325,7 @@ pub fn load(bytes: &[u8], kind: i32, out: &mut [i32]) -> Loaded
         return checked;
     };
     if out.len() < 4 * (count as usize) {
-        return Loaded::Unfit(11, 0);
+        return Loaded::Unfit(SHORT_SLICE, 0);
     }
     put_rows(bytes, count as usize, out);
     Loaded::Rows(count)

@@ -17,7 +17,7 @@ byte-worth-requires c κs = search needs
 add-t15 : tie.Need-add-t15
 add-t15 c =
     let s = c .before .before .before .before .before .before .before .args in
-    omega (arith, c .byte-worth .ensures, worth-small (s .signed && eqb (s .b) 45) (s .b))
+    omega (arith, c .byte-worth .ensures, worth-small (s .signed && eqb (s .byte) 45) (s .byte))
 
 returns : tie.Need-returns
 unfolding stepped
