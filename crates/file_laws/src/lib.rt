@@ -1,0 +1,1 @@
+// What holds of the strict file's definitions. No code: see specs/.
