@@ -1,0 +1,4 @@
+pub mod Transcript
+pub mod Worked
+pub mod Edge
+pub mod Wrong
