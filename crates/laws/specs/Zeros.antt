@@ -1,0 +1,24 @@
+-- "the zeros of a refused one are refused by 5 in every read and take". Assumes nothing.
+use mathlib.Core.Path.{_≡_, refl, ap, _∙_}
+use mathlib.Core.Bool.{Bool, true, false, cond}
+use mathlib.Core.List.{List}
+use lib.Dec.{eqb}
+use lib.IntN.{ℤ}
+use Rattle.rules.specs.declared.Query.{Query}
+use Rattle.rules.specs.declared.Answer.the-variants.{Refused}
+use Rattle.rules.specs.Session.{opened, zeros}
+use Rattle.rules.specs.Numbers.{badRecord}
+use Rattle.rules.specs.Calls.{queryCode, recordFits, recordCode, lentCode, callCode, step, openCode, openCall, readCall, takeCall}
+
+pub zeros-read : (f t : List ℤ) → readCall f t zeros ≡ step (Refused badRecord) zeros
+unfolding readCall callCode lentCode recordCode recordFits queryCode zeros opened
+zeros-read f t = refl
+
+pub zeros-take : (f t : List ℤ) → takeCall f t zeros ≡ step (Refused badRecord) zeros
+unfolding takeCall callCode lentCode recordCode recordFits queryCode zeros opened
+zeros-take f t = refl
+
+-- and a refused opening gives them
+pub refused-zeros : (q : Query) (f t : List ℤ) → eqb (openCode q f t) 0 ≡ false → openCall q f t .session ≡ zeros
+unfolding openCall
+refused-zeros q f t h = rw h
