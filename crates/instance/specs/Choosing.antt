@@ -22,19 +22,12 @@ use Rattle.rules.specs.Tables.{legal}
 use Rattle.rules.specs.Session.{heldPairs, fieldReadOut, trimReadOut, bothReadOut, aTableIsEmpty, secured, settled}
 use Rattle.rules.specs.Read.{scoreDrop, fieldNext, oldDepth, newDepth}
 use Rattle.rules.specs.Sure.{Sure}
+use Rattle.laws.specs.Read.{unsettled}
 use Rattle.instance.specs.Rows.{rowsOf, side, near}
 use Rattle.instance.specs.RowsLaws.{length-rows, legal-rows, laws}
 use Rattle.instance.specs.SureRows.{sure-rows}
 use Rattle.instance.specs.Keeping.{Reached}
 use Rattle.instance.specs.Securing.{field-ended, trim-ended, first-field, last-field, first-trim, last-trim, unsettled-short}
-
--- what an unsettled session is not
-pub unsettled : (f t : List ℤ) (s : Session) → settled f t s ≡ false → (aTableIsEmpty s ≡ false) × (bothReadOut s ≡ false)
-unfolding settled
-unsettled f t s u =
-    let full : Bool = eqb (s .out) (s .query .k) || (eqb (s .out + s .held) (s .query .k) && every (secured f t s) (heldPairs s)) in
-    let a = none-true (aTableIsEmpty s) (bothReadOut s || full) u in
-    (a .0, none-true (bothReadOut s) full (a .1) .0)
 
 module _ {q : Query} {f t : List ℤ} {out : List Pair} {s : Session} (a : Reached q f t out s) (more : bothReadOut s ≡ false) where
   abbrev d : ℕ
@@ -120,28 +113,28 @@ module _ {q : Query} {f t : List ℤ} {out : List Pair} {s : Session} (a : Reach
   live : leb (length (rowsOf f)) 0 ≡ false
   live =
       lt-leb (length (rowsOf f)) 0
-      (let z = eqb-false (s .rows .field .0) 0 (none-true (eqb (s .rows .field .0) 0) (eqb (s .rows .trim .0) 0) (unsettled f t s u .0) .0) in
+      (let z = eqb-false (s .rows .field .0) 0 (none-true (eqb (s .rows .field .0) 0) (eqb (s .rows .trim .0) 0) (unsettled f t s u .no-table-empty) .0) in
       omega (arith, length-rows f, a .field-rows))
 
   live-trim : leb (length (rowsOf t)) 0 ≡ false
   live-trim =
       lt-leb (length (rowsOf t)) 0
-      (let z = eqb-false (s .rows .trim .0) 0 (none-true (eqb (s .rows .field .0) 0) (eqb (s .rows .trim .0) 0) (unsettled f t s u .0) .1) in
+      (let z = eqb-false (s .rows .trim .0) 0 (none-true (eqb (s .rows .field .0) 0) (eqb (s .rows .trim .0) 0) (unsettled f t s u .no-table-empty) .1) in
       omega (arith, length-rows t, a .trim-rows))
 
   unended : (side .ended (rowsOf f) (s .depth .field .0) && side .ended (rowsOf t) (s .depth .trim .0)) ≡ false
-  unended = rw (field-ended a, trim-ended a) (unsettled f t s u .1)
+  unended = rw (field-ended a, trim-ended a) (unsettled f t s u .not-both-out)
 
   -- the table that is read next has unread rows
   next-unread : (field : Bool) → fieldNext f t s ≡ field → oldDepth field s < cond field (s .rows .field .0) (s .rows .trim .0)
   next-unread true e =
       ⊎-elim (λ z. omega (arith, leb-false (length (rowsOf f)) 0 live, length-rows f, a .field-rows))
       (λ z. omega (arith, leb-false (length (rowsOf f)) (s .depth .field .0) (z .1), length-rows f, a .field-rows))
-      (chosen-field a (unsettled f t s u .1) e)
+      (chosen-field a (unsettled f t s u .not-both-out) e)
   next-unread false e =
       ⊎-elim (λ z. omega (arith, leb-false (length (rowsOf t)) 0 live-trim, length-rows t, a .trim-rows))
       (λ z. omega (arith, leb-false (length (rowsOf t)) (s .depth .trim .0) (z .1), length-rows t, a .trim-rows))
-      (chosen-trim a (unsettled f t s u .1) e)
+      (chosen-trim a (unsettled f t s u .not-both-out) e)
 
   -- so the read raises its depth
   pub read-raises : 1 ≤ q .block → oldDepth (fieldNext f t s) s < newDepth (fieldNext f t s) s
@@ -154,12 +147,12 @@ module _ {q : Query} {f t : List ℤ} {out : List Pair} {s : Session} (a : Reach
   field-limit c =
       row-limit side side (near (q .radius)) (laws (q .radius)) (rowsOf f) (rowsOf t) (legal-rows f g) (legal-rows t h) (q .k) (m .0) (n .0)
       (s .depth .field .0) (s .depth .trim .0) wanted (live a u) (live-trim a u) (unended a u)
-      (λ hd he. unsettled-short a g h hd he u) (chosen-field a (unsettled f t s u .1) c)
+      (λ hd he. unsettled-short a g h hd he u) (chosen-field a (unsettled f t s u .not-both-out) c)
       (sure-rows (q .k) (q .radius) f t m n g h .0 sure)
 
   pub trim-limit : fieldNext f t s ≡ false → s .depth .trim .0 < max (m .0) (n .0)
   trim-limit c =
       row-limit-trim side side (near (q .radius)) (laws (q .radius)) (rowsOf f) (rowsOf t) (legal-rows f g) (legal-rows t h) (q .k) (m .0) (n .0)
       (s .depth .field .0) (s .depth .trim .0) wanted (live a u) (live-trim a u) (unended a u)
-      (λ hd he. unsettled-short a g h hd he u) (chosen-trim a (unsettled f t s u .1) c)
+      (λ hd he. unsettled-short a g h hd he u) (chosen-trim a (unsettled f t s u .not-both-out) c)
       (sure-rows (q .k) (q .radius) f t m n g h .0 sure)

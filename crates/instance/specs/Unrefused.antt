@@ -26,6 +26,7 @@ use Rattle.rules.specs.Session.{noPair, places, opened, heldPairs, settled}
 use Rattle.rules.specs.Read.{fieldNext, rowsBetween, blockCount, blockAt, skipped, bestHeld, holding, meet, meetBlocks, readTo, oldDepth, newDepth, readTable, readBlock}
 use Rattle.rules.specs.Take.{movedOut}
 use Rattle.rules.specs.Calls.{queryCode, countsFit, pairFits, markFits, isZeros, recordFits}
+use Rattle.laws.specs.Read.{blocks-joined}
 use Rattle.instance.specs.RowsLaws.{legal-most, score-most}
 use Rattle.instance.specs.Pairs.{Region}
 use Rattle.instance.specs.PairsLaws.{pair-rank}
@@ -88,14 +89,6 @@ moved-cleared (suc n) (x ∷ l) h k e =
 
 -- Meeting blocks
 
-meet-joined : (s : Session) (x y : Block) → meet s x y .joined ≤ s .joined + 1
-unfolding meet holding
-meet-joined s x y = go (skipped s x y)
-  where
-    go : (b : Bool) → cond b s (holding s (bestHeld s (qualifying (s .query .radius) x y))) .joined ≤ s .joined + 1
-    go true = omega arith
-    go false = omega arith
-
 meet-cleared : (s : Session) (x y : Block) → every isZeros (drop (s .held) (s .pairs)) ≡ true
     → every isZeros (drop (meet s x y .held) (meet s x y .pairs)) ≡ true
 unfolding meet holding
@@ -109,13 +102,6 @@ meet-cleared s x y h = go (skipped s x y)
     go false = places-cleared l
 
 module _ (field : Bool) (s : Session) (new : Block) (t : List ℤ) (depth : ℕ) where
-  blocks-joined : (n : ℕ) → meetBlocks field s new t depth n .joined ≤ s .joined + n
-  unfolding meetBlocks
-  blocks-joined zero = omega arith
-  blocks-joined (suc n) =
-      let old : Block = blockAt t (s .query .block) depth n in
-      omega (arith, blocks-joined n, meet-joined (meetBlocks field s new t depth n) (cond field new old) (cond field old new))
-
   blocks-cleared : (n : ℕ) → every isZeros (drop (s .held) (s .pairs)) ≡ true
       → every isZeros (drop (meetBlocks field s new t depth n .held) (meetBlocks field s new t depth n .pairs)) ≡ true
   unfolding meetBlocks

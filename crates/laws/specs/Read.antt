@@ -17,7 +17,7 @@ use Rattle.rules.specs.Tables.{Block, qualifying, ahead}
 use Rattle.laws.specs.Bools.{or-left, or-right}
 use Rattle.laws.specs.Record.{Fits}
 use Rattle.rules.specs.Session.{fieldReadOut, trimReadOut, bothReadOut, aTableIsEmpty, heldPairs, secured, settled}
-use Rattle.rules.specs.Read.{blockCount, fieldNext, scoreDrop, oldDepth, newDepth, bestHeld, holding, meet, skipped, meetBlocks, readTo, readTable, readBlock}
+use Rattle.rules.specs.Read.{blockAt, fieldNext, scoreDrop, oldDepth, newDepth, bestHeld, holding, meet, skipped, meetBlocks, readTo, readTable, readBlock}
 
 -- ---- A met block changes the pairs held and the joined count, and nothing else
 
@@ -50,6 +50,43 @@ pub blocks-keep : (field : Bool) (s : Session) (new : Block) (t : List ℤ) (dep
 unfolding meetBlocks
 blocks-keep field s new t depth zero = record { query = refl; rows = refl; depth = refl; out = refl }
 blocks-keep field s new t depth (suc n) = keeps-trans (blocks-keep field s new t depth n) (meet-keeps _ _ _)
+
+-- each block pair adds one at most to the joined count
+joined-one : (s : Session) (b : Bool) (l : List Pair) → cond b s (holding s l) .joined ≤ s .joined + 1
+unfolding holding
+joined-one s true l = omega arith
+joined-one s false l = omega arith
+
+pub meet-joined : (s : Session) (x y : Block) → meet s x y .joined ≤ s .joined + 1
+unfolding meet
+meet-joined s x y = joined-one s (skipped s x y) (bestHeld s (qualifying (s .query .radius) x y))
+
+pub blocks-joined : (field : Bool) (s : Session) (new : Block) (t : List ℤ) (depth n : ℕ) → meetBlocks field s new t depth n .joined ≤ s .joined + n
+unfolding meetBlocks
+blocks-joined field s new t depth zero = omega arith
+blocks-joined field s new t depth (suc n) =
+    let r = meetBlocks field s new t depth n in
+    omega (arith, blocks-joined field s new t depth n, meet-joined r (cond field new (blockAt t (s .query .block) depth n)) (cond field (blockAt t (s .query .block) depth n) new))
+
+-- ---- An unsettled session
+
+-- the grounds of settled, none of which holds
+pub record Unsettled (s : Session) : Type 0 where
+  pub no-table-empty : aTableIsEmpty s ≡ false
+  pub not-both-out : bothReadOut s ≡ false
+  pub not-all-out : eqb (s .out) (s .query .k) ≡ false
+
+pub unsettled : (f t : List ℤ) (s : Session) → settled f t s ≡ false → Unsettled s
+unfolding settled
+unsettled f t s h =
+    let last = eqb (s .out + s .held) (s .query .k) && every (secured f t s) (heldPairs s) in
+    let rest = eqb (s .out) (s .query .k) || last in
+    let after = or-right (aTableIsEmpty s) (bothReadOut s || rest) h in
+    record {
+      no-table-empty = or-left (aTableIsEmpty s) (bothReadOut s || rest) h;
+      not-both-out = or-left (bothReadOut s) rest after;
+      not-all-out = or-left (eqb (s .out) (s .query .k)) last (or-right (bothReadOut s) rest after);
+    }
 
 -- ---- The table that is read next is not read out
 
@@ -103,13 +140,11 @@ raised false s r kept b m n h =
 
 -- an unsettled read raises a depth
 pub read-raises : (f t : List ℤ) (s : Session) → Fits s → settled f t s ≡ false → unreadRows (readBlock f t s) < unreadRows s
-unfolding settled readTable
+unfolding readTable
 read-raises f t s fits h =
-    let rest = eqb (s .out) (s .query .k) || (eqb (s .out + s .held) (s .query .k) && every (secured f t s) (heldPairs s)) in
+    let u = unsettled f t s h in
     raised (fieldNext f t s) s _ (blocks-keep _ s _ _ _ _) (fits .query .block .0) (fits .field .within) (fits .trim .within)
-    (chosen-unread f t s
-    (or-left (aTableIsEmpty s) (bothReadOut s || rest) h)
-    (or-left (bothReadOut s) rest (or-right (aTableIsEmpty s) (bothReadOut s || rest) h)))
+    (chosen-unread f t s (u .no-table-empty) (u .not-both-out))
 
 -- and keeps the query
 pub read-keeps-query : (f t : List ℤ) (s : Session) → readBlock f t s .query ≡ s .query

@@ -24,7 +24,7 @@ use Rattle.rules.specs.Calls.{isZeros, step, newBlockCode}
 use Rattle.laws.specs.Bools.{and-left, and-right, or-left, or-right}
 use Rattle.laws.specs.Record.{Fits}
 use Rattle.laws.specs.Sizes.{Lent}
-use Rattle.laws.specs.Read.{chosen-unread}
+use Rattle.laws.specs.Read.{unsettled, chosen-unread}
 use Rattle.reading.specs.Ready.{Ready}
 use Rattle.reading.specs.Side.{ownRows, otherDepth, readSide, sideCode, sideStep, Due}
 
@@ -57,25 +57,7 @@ zeros-beyond s fits n =
     sym (take-append-drop (s .held) (s .pairs))
     ∙ ap (λ (m : List Pair). heldPairs s ++ m) (all-zeros (drop (s .held) (s .pairs)) (fits .zeros) ∙ ap (λ (i : ℕ). replicate i noPair) e)
 
--- ---- Unsettled
-
--- the grounds of settled, none of which holds
-record Unsettled (s : Session) : Type 0 where
-  no-table-empty : aTableIsEmpty s ≡ false
-  not-both-out : bothReadOut s ≡ false
-  not-all-out : eqb (s .out) (s .query .k) ≡ false
-
-unsettled : (f t : List ℤ) (s : Session) → settled f t s ≡ false → Unsettled s
-unfolding settled
-unsettled f t s h =
-    let last = eqb (s .out + s .held) (s .query .k) && every (secured f t s) (heldPairs s) in
-    let rest = eqb (s .out) (s .query .k) || last in
-    let after = or-right (aTableIsEmpty s) (bothReadOut s || rest) h in
-    record {
-      no-table-empty = or-left (aTableIsEmpty s) (bothReadOut s || rest) h;
-      not-both-out = or-left (bothReadOut s) rest after;
-      not-all-out = or-left (eqb (s .out) (s .query .k)) last (or-right (bothReadOut s) rest after);
-    }
+-- ---- An unsettled session over its tables
 
 module _ (f t : List ℤ) (s : Session) (l : Lent f t s) (n : length (s .pairs) ≡ 64) (h : settled f t s ≡ false) where
   ready : Ready s

@@ -80,23 +80,6 @@ unfolding meetBlocks
 blocks-ready field s new t depth zero r = r
 blocks-ready field s new t depth (suc n) r = meet-ready _ _ _ (blocks-ready field s new t depth n r)
 
--- each block pair adds one at most to the joined count
-joined-one : (s : Session) (b : Bool) (l : List Pair) → cond b s (holding s l) .joined ≤ s .joined + 1
-unfolding holding
-joined-one s true l = omega arith
-joined-one s false l = omega arith
-
-pub meet-joined : (s : Session) (x y : Block) → meet s x y .joined ≤ s .joined + 1
-unfolding meet
-meet-joined s x y = joined-one s (skipped s x y) (bestHeld s (qualifying (s .query .radius) x y))
-
-pub blocks-joined : (field : Bool) (s : Session) (new : Block) (t : List ℤ) (depth n : ℕ) → meetBlocks field s new t depth n .joined ≤ s .joined + n
-unfolding meetBlocks
-blocks-joined field s new t depth zero = omega arith
-blocks-joined field s new t depth (suc n) =
-    let r = meetBlocks field s new t depth n in
-    omega (arith, blocks-joined field s new t depth n, meet-joined r (cond field new (blockAt t (s .query .block) depth n)) (cond field (blockAt t (s .query .block) depth n) new))
-
 pub taken-few : (g : Held) (room : ℕ) (m : List Pair) → g ≡ heldOf (take room m) → g .n ≤ room
 taken-few g room m e =
     let n : g .n ≡ length (take room m) = ap (λ (h : Held). h .n) e in

@@ -5,7 +5,8 @@ use native.Mathlib.Omega.{arith}
 use borrow.Author.Needs.{needs}
 use Rattle.rules.specs.declared.Session.{Session}
 use Rattle.rules.specs.Read.{rowsBetween, meetBlocks}
-use Rattle.reading.specs.Meets.{blocks-ready, blocks-joined, block-begins, block-next, blocks-next}
+use Rattle.laws.specs.Read.{blocks-joined}
+use Rattle.reading.specs.Meets.{blocks-ready, block-begins, block-next, blocks-next}
 use Rattle.reading.proofs.meet_blocks.Statement.{statement}
 use Rattle.reading.proofs.meet_blocks.Tie as tie
 use Rattle.reading.proofs.meet_blocks.Reads as reads
