@@ -3,14 +3,13 @@
 use mathlib.Core.Path.{_≡_, refl}
 use mathlib.Core.List.{List, [], _∷_, map}
 use lib.IntN.{ℤ, pos}
-use Rattle.rules.specs.declared.Pair.{Pair}
 use Rattle.rules.specs.declared.Query.{Query}
 use Rattle.rules.specs.declared.Session.{Session}
-use Rattle.rules.specs.declared.Answer.the-variants.{Refused, Opened, Read, Settled, Given, NotYet, Finished}
+use Rattle.rules.specs.declared.Answer.the-variants.{Refused, Read, Given, Finished}
 use Rattle.rules.specs.Calls.{openCall}
 use Rattle.rules.specs.Run.{run}
 use Rattle.rules.specs.Example as Example
-use Rattle.demand.specs.Demand.{Call, reading, taking, Line, Sequence, Demand3, outs, lastRecord}
+use Rattle.demand.specs.Demand.{reading, taking, Line, Sequence, Demand3, lastRecord}
 use Rattle.demand.specs.Proved.{demand3}
 use Rattle.cases.specs.Transcript.{Lending, transcript, Fair, follows, refused}
 

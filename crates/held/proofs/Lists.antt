@@ -1,12 +1,12 @@
 -- Laws of the insertion. Assumes nothing.
-use mathlib.Core.Path.{_≡_, refl, sym, ap, subst, _∙_}
+use mathlib.Core.Path.{_≡_, refl, sym, ap, _∙_}
 use mathlib.Core.Bool.{Bool, true, false, cond}
 use mathlib.Core.List.{List, [], _∷_, _++_, append-assoc}
-use Prim.Native.Nat.{ℕ, zero, suc, _+_, _-_, _≤_, _<_, min, suc-le-suc}
+use Prim.Native.Nat.{ℕ, suc, _+_, _-_, _≤_, _<_}
 use native.Mathlib.Omega.{arith}
 use native.Mathlib.Numerals.{add-one}
-use lib.ListN.{length, getD, take, drop, set, length-take, length-set, drop-of-length-le}
-use lib.Seq.{take-suc-set, take-set-lt, drop-set-lt, drop-cons, getD-take, take-suc, length-take-le, append-snoc, take-all, take-length, drop-length, drop-drop}
+use lib.ListN.{length, getD, take, drop, set, drop-of-length-le}
+use lib.Seq.{take-suc-set, take-set-lt, drop-set-lt, drop-cons, getD-take, length-take-le, drop-drop}
 use Rattle.rules.specs.declared.Pair.{Pair}
 use Rattle.lists.specs.Lists.{ins}
 use Rattle.rules.specs.Tables.{ahead}

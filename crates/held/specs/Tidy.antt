@@ -1,9 +1,9 @@
 -- A list in 64 places is tidy, and is read off them again. Assumes nothing.
-use mathlib.Core.Path.{_≡_, refl, sym, ap}
+use mathlib.Core.Path.{_≡_, sym, ap}
 use mathlib.Core.List.{List}
 use Prim.Native.Nat.{ℕ, _-_, _≤_}
 use native.Mathlib.Omega.{arith}
-use lib.ListN.{length, take, replicate}
+use lib.ListN.{length, replicate}
 use lib.Seq.{take-append-seam}
 use Rattle.rules.specs.declared.Pair.{Pair}
 use Rattle.rules.specs.Session.{noPair, places}

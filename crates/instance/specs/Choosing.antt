@@ -1,15 +1,14 @@
 -- The table that is read next is the join's choice, so no read goes past a sure reading by a block or more. Assumes legal tables.
 use mathlib.Core.Path.{_≡_, refl, ap, _∙_}
-use mathlib.Core.Bool.{Bool, true, false, cond, _&&_, _||_}
+use mathlib.Core.Bool.{Bool, true, false, cond, _&&_}
 use mathlib.Core.List.{List}
 use mathlib.Core.Logic.{inl, inr, ⊎-elim}
-use Prim.Native.Nat.{ℕ, _+_, _≤_, _<_, max}
+use Prim.Native.Nat.{ℕ, _≤_, _<_, max}
 use native.Mathlib.Omega.{arith}
 use lib.Dec.{leb, ltb, eqb}
 use lib.IntN.{ℤ}
 use lib.ListN.{length}
 use borrow.Author.Tests.{leb-true, leb-false, lt-leb, ltb-true, ltb-false, eqb-true, eqb-false}
-use Rattle.lists.specs.Lists.{every}
 use Rattle.lists.specs.Bools.{clash, none-true}
 use Rattle.join.specs.Join.{Chosen, dropAt}
 use Rattle.join.specs.Limit.{row-limit, row-limit-trim}
@@ -19,7 +18,7 @@ use Rattle.rules.specs.declared.Pair.{Pair}
 use Rattle.rules.specs.declared.Query.{Query}
 use Rattle.rules.specs.declared.Session.{Session}
 use Rattle.rules.specs.Tables.{legal}
-use Rattle.rules.specs.Session.{heldPairs, fieldReadOut, trimReadOut, bothReadOut, aTableIsEmpty, secured, settled}
+use Rattle.rules.specs.Session.{fieldReadOut, trimReadOut, bothReadOut, settled}
 use Rattle.rules.specs.Read.{scoreDrop, fieldNext, oldDepth, newDepth}
 use Rattle.rules.specs.Sure.{Sure}
 use Rattle.laws.specs.Read.{unsettled}

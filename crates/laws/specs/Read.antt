@@ -1,23 +1,20 @@
 -- An unsettled read: what it keeps, and that it raises a depth. Assumes nothing.
-use mathlib.Core.Path.{_≡_, refl, sym, ap, subst, _∙_}
-use mathlib.Core.Bool.{Bool, true, false, cond, _&&_, _||_, not}
-use mathlib.Core.List.{List, [], _∷_, _++_}
-use Prim.Native.Nat.{ℕ, zero, suc, _+_, _*_, _-_, _≤_, _<_, min}
+use mathlib.Core.Path.{_≡_, refl, sym, _∙_}
+use mathlib.Core.Bool.{Bool, true, false, cond, _&&_, _||_}
+use mathlib.Core.List.{List}
+use Prim.Native.Nat.{ℕ, zero, suc, _+_, _-_, _≤_, _<_, min}
 use native.Mathlib.Omega.{arith}
-use lib.Dec.{T, eqb, leb, ltb}
+use lib.Dec.{eqb, leb, ltb}
 use lib.IntN.{ℤ}
-use lib.ListN.{drop}
-use borrow.Author.Tests.{eqb-true, eqb-false, leb-true, eq-eqb, ne-eqb}
-use Rattle.rules.specs.declared.Counts.{Counts}
-use Rattle.rules.specs.declared.Query.{Query}
+use borrow.Author.Tests.{eqb-true, eqb-false, ne-eqb}
 use Rattle.rules.specs.declared.Session.{Session}
 use Rattle.rules.specs.declared.Pair.{Pair}
-use Rattle.lists.specs.Lists.{every, ranked}
-use Rattle.rules.specs.Tables.{Block, qualifying, ahead}
+use Rattle.lists.specs.Lists.{every}
+use Rattle.rules.specs.Tables.{Block, qualifying}
 use Rattle.laws.specs.Bools.{or-left, or-right}
 use Rattle.laws.specs.Record.{Fits}
 use Rattle.rules.specs.Session.{fieldReadOut, trimReadOut, bothReadOut, aTableIsEmpty, heldPairs, secured, settled}
-use Rattle.rules.specs.Read.{blockAt, fieldNext, scoreDrop, oldDepth, newDepth, bestHeld, holding, meet, skipped, meetBlocks, readTo, readTable, readBlock}
+use Rattle.rules.specs.Read.{blockAt, fieldNext, scoreDrop, newDepth, bestHeld, holding, meet, skipped, meetBlocks, readTo, readTable, readBlock}
 
 -- ---- A met block changes the pairs held and the joined count, and nothing else
 

@@ -1,13 +1,13 @@
 -- What an unsettled read knows once its checks have passed. Assumes nothing.
 use mathlib.Core.Path.{_≡_, refl, sym, ap, ap₂, _∙_}
-use mathlib.Core.Bool.{Bool, true, false, cond, _&&_, _||_}
+use mathlib.Core.Bool.{Bool, true, false, cond, _&&_}
 use mathlib.Core.List.{List, [], _∷_, _++_}
-use Prim.Native.Nat.{ℕ, zero, suc, _+_, _*_, _-_, _/_, _≤_, _<_}
+use Prim.Native.Nat.{ℕ, _+_, _-_, _/_, _≤_, _<_}
 use native.Mathlib.Nat.{div-lt-iff-lt-mul, mul-le-mul}
 use native.Mathlib.Omega.{arith}
 use lib.Dec.{eqb}
 use lib.IntN.{ℤ}
-use lib.ListN.{length, take, drop, replicate, length-drop, take-append-drop}
+use lib.ListN.{length, drop, replicate, length-drop, take-append-drop}
 use lib.Seq.{length-take-le}
 use borrow.Author.Tests.{eqb-true, eqb-false}
 use Rattle.lists.specs.Lists.{every}
@@ -18,15 +18,15 @@ use Rattle.rules.specs.declared.Step.{Step}
 use Rattle.rules.specs.declared.Answer.the-variants.{Refused, Read}
 use Rattle.rules.specs.Tables.{ahead}
 use Rattle.rules.specs.Ranking.{ahead-strict}
-use Rattle.rules.specs.Session.{noPair, places, heldPairs, fieldReadOut, trimReadOut, bothReadOut, aTableIsEmpty, secured, settled}
+use Rattle.rules.specs.Session.{noPair, places, heldPairs, fieldReadOut, trimReadOut, settled}
 use Rattle.rules.specs.Read.{fieldNext, readTable, readBlock}
 use Rattle.rules.specs.Calls.{isZeros, step, newBlockCode}
-use Rattle.laws.specs.Bools.{and-left, and-right, or-left, or-right}
+use Rattle.laws.specs.Bools.{and-left, and-right}
 use Rattle.laws.specs.Record.{Fits}
 use Rattle.laws.specs.Sizes.{Lent}
 use Rattle.laws.specs.Read.{unsettled, chosen-unread}
 use Rattle.reading.specs.Ready.{Ready}
-use Rattle.reading.specs.Side.{ownRows, otherDepth, readSide, sideCode, sideStep, Due}
+use Rattle.reading.specs.Side.{readSide, sideCode, sideStep, Due}
 
 -- ---- The places beyond the held pairs
 

@@ -1,7 +1,7 @@
 -- Block pairs met by a record that is ready: it stays ready. Assumes nothing.
-use mathlib.Core.Path.{_≡_, refl, sym, ap, ap₂, _∙_}
+use mathlib.Core.Path.{_≡_, sym, ap, ap₂, _∙_}
 use mathlib.Core.Bool.{Bool, true, false, cond}
-use mathlib.Core.List.{List, [], _∷_, _++_}
+use mathlib.Core.List.{List, _++_}
 use Prim.Native.Nat.{ℕ, zero, suc, _+_, _*_, _-_, _≤_, _<_, min}
 use native.Mathlib.Nat.{mul-le-mul-right, suc-mul}
 use native.Mathlib.Numerals.{add-one}
@@ -17,9 +17,9 @@ use Rattle.rules.specs.declared.Session.{Session}
 use Rattle.rules.specs.Tables.{Block, qualifying, ahead}
 use Rattle.rules.specs.Ranking.{ahead-strict}
 use Rattle.rules.specs.Session.{noPair, places, heldPairs}
-use Rattle.rules.specs.Read.{lowest, skipped, bestHeld, holding, meet, rowsBetween, blockAt, meetBlocks}
+use Rattle.rules.specs.Read.{lowest, skipped, bestHeld, holding, meet, rowsBetween, meetBlocks}
 use Rattle.held.specs.declared.Held.{Held}
-use Rattle.held.specs.Held.{listOf, heldOf, Tidy}
+use Rattle.held.specs.Held.{heldOf, Tidy}
 use Rattle.held.specs.Tidy.{list-of-held}
 use Rattle.block.specs.Block.{at, Rows}
 use Rattle.ceiling.specs.Last.{lowest-is-last, last-taken}

@@ -1,5 +1,5 @@
 -- A record whose held pairs are in order, ready to meet a block pair. Definitions only. Assumes nothing.
-use Prim.Native.Nat.{ℕ, _+_, _≤_, _<_}
+use Prim.Native.Nat.{_+_, _≤_, _<_}
 use mathlib.Core.Path.{_≡_}
 use mathlib.Core.Bool.{Bool, cond}
 use lib.ListN.{length}

@@ -1,7 +1,7 @@
 -- 5 in the order of the code: the pair places together. Assumes nothing.
-use mathlib.Core.Path.{_≡_, refl, sym, ap}
+use mathlib.Core.Path.{_≡_, refl, ap}
 use mathlib.Core.Bool.{Bool, true, false, _&&_}
-use Prim.Native.Nat.{ℕ, _+_, _*_}
+use Prim.Native.Nat.{_+_, _*_}
 use lib.Dec.{eqb, leb}
 use lib.ListN.{drop}
 use Rattle.lists.specs.Lists.{every, ranked}

@@ -1,6 +1,6 @@
 -- Grounds of 5, over the numbers that they look at and not the whole record. Definitions only. Assumes nothing.
 use Prim.Native.Nat.{ℕ}
-use mathlib.Core.Bool.{Bool, true, false, cond, _&&_}
+use mathlib.Core.Bool.{Bool, false, cond, _&&_}
 use lib.Dec.{leb, ltb, eqb}
 use Rattle.rules.specs.declared.Pair.{Pair}
 use mathlib.Core.List.{List}

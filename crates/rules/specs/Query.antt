@@ -1,7 +1,7 @@
 -- Document 01, "One whole query": the two files and the input as bytes in, the listing as bytes out. Definitions only.
 -- Assumes nothing.
-use Prim.Native.Nat.{ℕ, zero, suc, _+_, _*_, _-_, _/_, _%_}
-use mathlib.Core.Bool.{Bool, true, false, cond, _&&_}
+use Prim.Native.Nat.{ℕ, zero, suc, _+_, _-_, _/_, _%_}
+use mathlib.Core.Bool.{Bool, true, false, _&&_}
 use mathlib.Core.List.{List, [], _∷_, _++_}
 use lib.Dec.{leb, ltb, eqb}
 use lib.IntN.{ℤ, pos}
@@ -9,12 +9,11 @@ use lib.ListN.{length, replicate}
 use Rattle.rules.specs.declared.Pair.{Pair}
 use Rattle.rules.specs.declared.Query.{Query}
 use Rattle.rules.specs.declared.Session.{Session}
-use Rattle.rules.specs.declared.Step.{Step}
 use Rattle.rules.specs.declared.Answer.{Answer}
 use Rattle.rules.specs.declared.Answer.the-variants.{Refused, Opened, Read, Settled, Given, NotYet, Finished}
 use Rattle.rules.specs.Tables.{natOf, row, squaredDistance}
 use Rattle.rules.specs.Numbers.{tableSize, cutFile, badColumn, unless, first}
-use Rattle.rules.specs.Calls.{step, openCode, openCall, readCall, takeCall}
+use Rattle.rules.specs.Calls.{openCode, openCall, readCall, takeCall}
 use Rattle.rules.specs.File.{blank, lineFeed, columns, columnFits, columnNumber, endsLine, fileCount, fileTable, checkFile, loadedCode}
 
 abbrev pub wasRead : Answer → Bool

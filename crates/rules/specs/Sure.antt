@@ -8,7 +8,6 @@ use lib.ListN.{take}
 use Rattle.lists.specs.Lists.{best}
 use Rattle.rules.specs.declared.FieldRows.{FieldRows}
 use Rattle.rules.specs.declared.TrimRows.{TrimRows}
-use Rattle.rules.specs.declared.Pair.{Pair}
 use Rattle.rules.specs.Tables.{rowCount, legal, Block, qualifying}
 
 abbrev pub whole : List ℤ → Block

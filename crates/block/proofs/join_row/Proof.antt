@@ -1,12 +1,12 @@
 -- `join_row` meets its contract: after j turns the pairs held are those of the first j rows met. Assumes nothing.
 use mathlib.Core.Path.{_≡_, refl, sym, ap, _∙_}
-use Prim.Native.Nat.{ℕ, _+_, _*_, _-_, _≤_, _<_, _/_}
+use Prim.Native.Nat.{ℕ, _-_, _≤_, _/_}
 use native.Mathlib.Omega.{arith}
 use mathlib.Core.Logic.{⊎-elim}
 use lib.ListN.{length}
 use borrow.Author.Needs.{needs}
 use Rattle.held.specs.Held.{listOf, heldOf}
-use Rattle.held.specs.Tidy.{list-of-held, held-tidy, few-held}
+use Rattle.held.specs.Tidy.{held-tidy, few-held}
 use Rattle.block.specs.Block.{at, metRow}
 use Rattle.block.specs.Twin.{row-few, row-joins, row-passes}
 use Rattle.block.proofs.join_row.Statement.{statement}

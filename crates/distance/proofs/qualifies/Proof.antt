@@ -1,6 +1,5 @@
 -- `qualifies` meets its contract: a gap above the radius is too far, else what is left of the radius' square decides.
 -- Assumes nothing.
-use mathlib.Core.Path.{_≡_}
 use native.Mathlib.Omega.{arith}
 use Rattle.distance.proofs.Square as S
 use borrow.Author.Needs.{needs}

@@ -1,12 +1,11 @@
-use mathlib.Core.Path.{_≡_, refl, sym, ap, subst, _∙_}
-use Prim.Native.Nat.{ℕ, suc, _+_, _-_, _≤_, _<_}
+use mathlib.Core.Path.{_≡_, sym, ap, _∙_}
+use Prim.Native.Nat.{_+_, _-_, _≤_, _<_}
 use native.Mathlib.Omega.{arith}
-use native.Mathlib.Numerals.{add-one}
 use borrow.Author.Needs.{needs}
 use lib.Seq.{length-take-le, getD-take}
 use Rattle.rules.specs.declared.Pair.{Pair}
 use Rattle.held.proofs.Lists.{place-on, place-here, place-none}
-use lib.ListN.{length, getD, take, drop}
+use lib.ListN.{length, take, drop}
 use Rattle.rules.specs.Tables.{ahead}
 use Rattle.held.specs.Held.{place}
 use Rattle.held.proofs.find.Statement.{statement}

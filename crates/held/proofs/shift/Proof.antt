@@ -1,13 +1,12 @@
-use mathlib.Core.Path.{_≡_, refl, sym, ap, subst, _∙_}
-use Prim.Native.Nat.{ℕ, suc, _+_, _-_, _≤_, _<_}
+use mathlib.Core.Path.{_≡_, refl, _∙_}
+use Prim.Native.Nat.{_+_, _-_, _≤_, _<_}
 use native.Mathlib.Omega.{arith}
-use native.Mathlib.Numerals.{add-one}
 use borrow.Author.Needs.{needs}
-use mathlib.Core.List.{List, [], _∷_, _++_}
-use lib.Seq.{drop-set-lt, take-suc-set, length-take-le, drop-drop, take-take}
+use mathlib.Core.List.{_∷_, _++_}
+use lib.Seq.{drop-set-lt, take-take}
 use Rattle.rules.specs.declared.Pair.{Pair}
 use Rattle.held.proofs.Lists.{one-on, at-end, beyond}
-use lib.ListN.{length, getD, take, drop, length-set}
+use lib.ListN.{length, take, drop, length-set}
 use Rattle.held.specs.Held.{putAt}
 use Rattle.held.proofs.shift.Statement.{statement}
 use Rattle.held.proofs.shift.Tie as tie

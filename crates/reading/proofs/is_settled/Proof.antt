@@ -1,5 +1,4 @@
 -- `is_settled` meets its contract: of ranked pairs the last decides. Assumes nothing.
-use mathlib.Core.Path.{_≡_}
 use Prim.Native.Nat.{_<_, _≤_}
 use native.Mathlib.Omega.{arith}
 use lib.ListN.{length}

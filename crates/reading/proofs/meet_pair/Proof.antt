@@ -1,5 +1,4 @@
 -- `meet_pair` meets its contract: skipped, or joined and counted. Assumes nothing.
-use mathlib.Core.Path.{ap}
 use Prim.Native.Nat.{_-_, _≤_}
 use native.Mathlib.Omega.{arith}
 use Rattle.rules.specs.Read.{meet, holding, bestHeld}

@@ -1,5 +1,5 @@
 -- `meet_parts` meets its contract: the parts are the blocks. Assumes nothing.
-use mathlib.Core.Path.{_≡_, ap₂, _∙_}
+use mathlib.Core.Path.{ap₂, _∙_}
 use native.Mathlib.Omega.{arith}
 use Rattle.rules.specs.Tables.{Block}
 use Rattle.rules.specs.Read.{meet}

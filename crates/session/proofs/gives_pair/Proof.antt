@@ -1,5 +1,4 @@
 -- `gives_pair` meets its contract: a held pair shows that rows of both tables were read. Assumes nothing.
-use mathlib.Core.Path.{_≡_}
 use Prim.Native.Nat.{_<_}
 use native.Mathlib.Omega.{arith}
 use lib.ListN.{length}

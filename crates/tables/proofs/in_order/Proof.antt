@@ -1,5 +1,4 @@
 -- `in_order` meets its contract: the flag is the test of the two scores. Assumes nothing.
-use mathlib.Core.Path.{_≡_}
 use Prim.Native.Nat.{_+_, _*_, _-_}
 use lib.IntN.{pos}
 use lib.ListN.{getD}
