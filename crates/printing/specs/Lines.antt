@@ -7,7 +7,9 @@ use native.Mathlib.Omega.{arith}
 use lib.Dec.{ltb}
 use lib.ListN.{length, set, replicate, length-append, length-replicate, replicate-append-replicate}
 use Rattle.rules.specs.File.{blank, lineFeed}
-use Rattle.rules.specs.Query.{decimal}
+use Rattle.rules.specs.declared.Query.{Query}
+use Rattle.rules.specs.declared.Session.{Session}
+use Rattle.rules.specs.Query.{decimal, queryLine, lastLine, refusalLine}
 use Rattle.printing.specs.declared.Line.{Line}
 use Rattle.printing.specs.Put.{putAt, put-on, put-before}
 
@@ -74,3 +76,21 @@ lineBytes x =
 -- a number of w columns, then other bytes
 pub then : (w at n : ℕ) (b l : List ℕ) → putAt at (decimal w n ++ b) l ≡ putAt (at + w) b (putAt at (decimal w n) l)
 then w at n b l = put-on at (decimal w n) b l ∙ ap (λ (m : ℕ). putAt (at + m) b (putAt at (decimal w n) l)) (decimal-length w n)
+
+-- ---- How long the lines are
+
+pub line-length : (x : Line) → length (lineBytes x) ≡ 37
+unfolding lineBytes
+line-length x = simp (length-append, decimal-length)
+
+pub query-length : (q : Query) → length (queryLine q) ≡ 19
+unfolding queryLine
+query-length q = simp (length-append, decimal-length)
+
+pub last-length : (s : Session) → length (lastLine s) ≡ 25
+unfolding lastLine
+last-length s = simp (length-append, decimal-length)
+
+pub refusal-length : (code : ℕ) → length (refusalLine code) ≡ 7
+unfolding refusalLine
+refusal-length code = simp (length-append, decimal-length)
