@@ -110,7 +110,7 @@ fn put_pairs(out: &mut [u8], at: usize, f: &[i32], t: &[i32], s: Session) -> usi
 // The listing, from the front of `out`: how many bytes it takes.
 pub fn put_listing(out: &mut [u8], q: Query, f: &[i32], t: &[i32]) -> usize
     requires { ⌜ 2412 ≤ length (now out) ⌝ }
-    ensures { λ r. ⌜ r ≡ length (listing q (now (f .entry)) (now (t .entry))) ⌝ }
+    ensures { λ r. ⌜ (r ≤ 2412) × (r ≡ length (listing q (now (f .entry)) (now (t .entry)))) ⌝ }
     ensures { λ _. ⌜ now (out .exit) ≡ putAt 0 (listing q (now (f .entry)) (now (t .entry))) (now (out .entry)) ⌝ }
 {
     printing::put_query(out, 0, q);

@@ -44,8 +44,10 @@ returns c =
     let settle = c .before .before .before .before .before .before .before .before .settle in
     let query = c .before .before .before .before .before .before .before .before .before .before .before .put-query in
     let s = c .before .before .before .before .before .before .before .before .before .before .before .before .before .before .args in
+    let end =
     listing-put (s .q) (s .f .now) (s .t .now) (settle .result) (pairs .result) (s .out .now) (query .last .0) (pairs .last .0) (c .before .before .put-last .last .0)
-    (query .ensures) (settle .ensures) (pairs .ensures .0 .1) (pairs .ensures .1) (c .before .before .put-last .ensures)
+    (query .ensures) (settle .ensures) (pairs .ensures .0 .1) (pairs .ensures .1) (c .before .before .put-last .ensures) in
+    ((omega (arith, pairs .ensures .0 .0), end .0), end .1)
 
 pub put-listing-spec : {M : Type 1} → statement M
 put-listing-spec =
