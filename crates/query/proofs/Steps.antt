@@ -164,8 +164,8 @@ module _ (field trim input : List ℕ) where
       ∙ rows-pass field (pos 1) m _ i
       ∙ sym (whole-is field trim input)
 
-pub to-front : {w l m : List ℕ} {n : ℕ} (x : List ℕ) → x ≡ w → 2412 ≤ length l → Written x l m n → (n ≡ length w) × (m ≡ w ++ drop n l)
+pub to-front : {w l m : List ℕ} {n : ℕ} (x : List ℕ) → x ≡ w → 2412 ≤ length l → Written x l m n → ((n ≤ 2412) × (n ≡ length w)) × (m ≡ w ++ drop n l)
 to-front {w} {l} {m} {n} x e h r =
     let v = written-as e r in
     let size : length w ≤ length l = omega (arith, v .count, v .short) in
-    (v .count, v .front ∙ put-front w l size ∙ ap (λ (k : ℕ). w ++ drop k l) (sym (v .count)))
+    ((v .short, v .count), v .front ∙ put-front w l size ∙ ap (λ (k : ℕ). w ++ drop k l) (sym (v .count)))

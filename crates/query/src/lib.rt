@@ -124,7 +124,7 @@ fn put_asked(out: &mut [u8], input: &[u8], f: &[i32], t: &[i32]) -> usize
 // What the program prints, at the front of `out`: how many bytes it is. The rest of `out` stays as it was.
 pub fn whole_query(field: &[u8], trim: &[u8], input: &[u8], out: &mut [u8]) -> usize
     requires { ⌜ 2412 ≤ length (now out) ⌝ }
-    ensures { λ r. ⌜ r ≡ length (wholeQuery (now (field .entry)) (now (trim .entry)) (now (input .entry))) ⌝ }
+    ensures { λ r. ⌜ (r ≤ 2412) × (r ≡ length (wholeQuery (now (field .entry)) (now (trim .entry)) (now (input .entry)))) ⌝ }
     ensures { λ r. ⌜ now (out .exit) ≡ wholeQuery (now (field .entry)) (now (trim .entry)) (now (input .entry)) ++ drop r (now (out .entry)) ⌝ }
 {
     let mut f = [0i32; 2048];
