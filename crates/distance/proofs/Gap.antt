@@ -76,6 +76,16 @@ dist-below (negsuc a) (negsuc b) h k = omega arith
 pub gap-below : (x y : ℤ) → SFits w32 x → SFits w32 y → gap x y < 2 ^ 32
 gap-below x y f g = rw (gap-is x y) (dist-below x y (f .sfits) (g .sfits))
 
+dist-mag : (x y : ℤ) → dist x y ≤ mag x + mag y + 1
+unfolding dist
+dist-mag (pos a) (pos b) = omega arith
+dist-mag (pos a) (negsuc b) = omega arith
+dist-mag (negsuc a) (pos b) = omega arith
+dist-mag (negsuc a) (negsuc b) = omega arith
+
+pub gap-mag : (x y : ℤ) → gap x y ≤ mag x + mag y + 1
+gap-mag x y = rw (gap-is x y) (dist-mag x y)
+
 -- a 32-bit number widened to 64 bits, as the code has it
 abbrev pub wide : ℤ → ℤ
 wide z = toZ w64 (ofZ w64 (toZ w32 (ofZ w32 z)))

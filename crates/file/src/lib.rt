@@ -141,7 +141,7 @@ fn number_at(bytes: &[u8], at: usize, width: usize, signed: bool) -> i32
 }
 
 // A number as one from 0 up: 0 where it is below.
-fn natural(x: i32) -> u32
+pub fn natural(x: i32) -> u32
     ensures { λ r. ⌜ r ≡ natOf x ⌝ }
 {
     if 0 <= x {

@@ -1,0 +1,54 @@
+-- `distance` meets its contract: the squared distance of rows inside their ranges is no more than 64 bits hold. Assumes nothing.
+use mathlib.Core.Path.{_≡_, sym, ap, _∙_}
+use Prim.Native.Nat.{_-_, _<_, _^_, min}
+use native.Mathlib.Omega.{arith}
+use Rattle.rules.specs.Tables.{row, squaredDistance}
+use borrow.Author.Needs.{needs}
+use Rattle.listing.proofs.distance.Statement.{statement}
+use Rattle.listing.proofs.distance.Tie as tie
+use Rattle.listing.proofs.distance.Reads as reads
+use Rattle.listing.proofs.distance.Lts as lts
+use Rattle.distance.proofs.squared_distance.Reads as squared-distance-reads
+use Rattle.tables.proofs.shade.Reads as shade-reads
+
+sub-shade : tie.Need-sub-shade
+sub-shade c = search needs
+
+cast-shade : tie.Need-cast-shade
+cast-shade c = search needs
+
+shade-requires : tie.Need-shade-requires
+shade-requires c κs = search needs
+
+sub-shade-2 : tie.Need-sub-shade-2
+sub-shade-2 c = search needs
+
+cast-shade-2 : tie.Need-cast-shade-2
+cast-shade-2 c = search needs
+
+shade-requires-2 : tie.Need-shade-requires-2
+shade-requires-2 c κs = search needs
+
+squared-distance-requires : tie.Need-squared-distance-requires
+squared-distance-requires c κs = search needs
+
+returns : tie.Need-returns
+returns c =
+    let s = c .before .before .before .before .before in
+    let d = squaredDistance (row (s .args .f .now) (s .args .p .field - 1) .shade) (row (s .args .t .now) (s .args .p .trim - 1) .shade) in
+    let small : d < 2 ^ 64 = s .pre .small in
+    let e : c .squared-distance .result ≡ min d (2 ^ 64 - 1) = simp (c .before .before .before .shade .ensures, c .before .shade2 .ensures) at (c .squared-distance .ensures) in
+    omega arith
+
+pub distance-spec : {M : Type 1} → statement M
+distance-spec =
+    tie.close
+    (tie.spec
+    sub-shade
+    cast-shade
+    shade-requires
+    sub-shade-2
+    cast-shade-2
+    shade-requires-2
+    squared-distance-requires
+    returns)

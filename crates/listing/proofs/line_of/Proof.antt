@@ -1,0 +1,25 @@
+-- `line_of` meets its contract. Assumes nothing.
+use Rattle.listing.specs.Inside.{lineOf}
+use borrow.Author.Needs.{needs}
+use Rattle.listing.proofs.line_of.Statement.{statement}
+use Rattle.listing.proofs.line_of.Tie as tie
+use Rattle.listing.proofs.line_of.Reads as reads
+use Rattle.listing.proofs.line_of.Lts as lts
+use Rattle.listing.proofs.distance.Reads as distance-reads
+use Rattle.listing.proofs.pattern.Reads as pattern-reads
+
+pattern-requires : tie.Need-pattern-requires
+pattern-requires c κs = search needs
+
+pattern-requires-2 : tie.Need-pattern-requires-2
+pattern-requires-2 c κs = search needs
+
+distance-requires : tie.Need-distance-requires
+distance-requires c κs = search needs
+
+returns : tie.Need-returns
+unfolding lineOf
+returns c = cc
+
+pub line-of-spec : {M : Type 1} → statement M
+line-of-spec = tie.close (tie.spec pattern-requires pattern-requires-2 distance-requires returns)

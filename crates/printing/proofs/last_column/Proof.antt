@@ -1,0 +1,24 @@
+-- `last_column` meets its contract. Assumes nothing.
+use Rattle.printing.specs.Lines.{lastColumn}
+use borrow.Author.Needs.{needs}
+use Rattle.printing.proofs.last_column.Statement.{statement}
+use Rattle.printing.proofs.last_column.Tie as tie
+use Rattle.printing.proofs.last_column.Reads as reads
+use Rattle.printing.proofs.last_column.Lts as lts
+
+add-result : tie.Need-add-result
+add-result c = search needs
+
+cast-result : tie.Need-cast-result
+cast-result c = search needs
+
+returns : tie.Need-returns
+unfolding lastColumn
+returns c = simp (c .if1 .taken)
+
+returns-2 : tie.Need-returns-2
+unfolding lastColumn
+returns-2 c = simp (c .if1 .left)
+
+pub last-column-spec : {M : Type 1} → statement M
+last-column-spec = tie.close (tie.spec add-result cast-result returns returns-2)

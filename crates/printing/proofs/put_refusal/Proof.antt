@@ -1,0 +1,32 @@
+-- `put_refusal` meets its contract: its numbers one behind the other. Assumes nothing.
+use mathlib.Core.Path.{_≡_, _∙_}
+use native.Mathlib.Omega.{arith}
+use Rattle.rules.specs.Query.{refusalLine}
+use Rattle.printing.specs.Lines.{then}
+use borrow.Author.Needs.{needs}
+use Rattle.printing.proofs.put_refusal.Statement.{statement}
+use Rattle.printing.proofs.put_refusal.Tie as tie
+use Rattle.printing.proofs.put_refusal.Reads as reads
+use Rattle.printing.proofs.put_refusal.Lts as lts
+use Rattle.printing.proofs.put_feed.Reads as put-feed-reads
+use Rattle.printing.proofs.put_number.Reads as put-number-reads
+
+put-number-requires : tie.Need-put-number-requires
+put-number-requires c κs = search needs
+
+add-put-feed : tie.Need-add-put-feed
+add-put-feed c = search needs
+
+put-feed-requires : tie.Need-put-feed-requires
+put-feed-requires c κs = search needs
+
+same-length : tie.Need-same-length
+same-length c = search needs
+
+returns : tie.Need-returns
+unfolding refusalLine
+returns c = simp then (cc)
+
+pub put-refusal-spec : {M : Type 1} → statement M
+put-refusal-spec =
+    tie.close (tie.spec put-number-requires add-put-feed put-feed-requires same-length returns)

@@ -1,0 +1,23 @@
+-- `refuse` meets its contract. Assumes nothing.
+use mathlib.Core.Path.{sym}
+use native.Mathlib.Omega.{arith}
+use Rattle.printing.specs.Lines.{refusal-length}
+use borrow.Author.Needs.{needs}
+use Rattle.query.proofs.refuse.Statement.{statement}
+use Rattle.query.proofs.refuse.Tie as tie
+use Rattle.query.proofs.refuse.Reads as reads
+use Rattle.query.proofs.refuse.Lts as lts
+use Rattle.printing.proofs.put_refusal.Reads as put-refusal-reads
+
+put-refusal-requires : tie.Need-put-refusal-requires
+put-refusal-requires c κs = search needs
+
+same-length : tie.Need-same-length
+same-length c = search needs
+
+returns : tie.Need-returns
+returns c =
+    record { count = sym (refusal-length (c .before .before .before .before .before .args .code)); short = omega arith; front = c .before .before .put-refusal .ensures }
+
+pub refuse-spec : {M : Type 1} → statement M
+refuse-spec = tie.close (tie.spec put-refusal-requires same-length returns)

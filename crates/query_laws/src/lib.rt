@@ -1,0 +1,1 @@
+// Laws of the whole query. No code.

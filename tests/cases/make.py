@@ -1,0 +1,295 @@
+#!/usr/bin/env python3
+"""Writes the stored cases of the pairing program: a folder each, with FIELD.TAB, TRIM.TAB (absent: not there), stdin and
+the stdout that the program must give. The expected bytes come from the model below, written from document 01 alone; it
+shares nothing with the program.
+
+usage: tests/cases/make.py            writes the folders beside itself
+       tests/cases/make.py --check    compares them with what stands there
+"""
+import os
+import re
+import sys
+
+HERE = os.path.dirname(os.path.abspath(__file__))
+
+
+# ---- The model: document 01's strict file, session and listing
+
+class Refused(Exception):
+    def __init__(self, number):
+        self.number = number
+
+
+def column(raw, signed):
+    """A right-justified number, or 9."""
+    m = re.fullmatch(rb" *(-?)(0|[1-9][0-9]*)", raw)
+    if not m or (m[1] and (not signed or m[2] == b"0")):
+        raise Refused(9)
+    return -int(m[2]) if m[1] else int(m[2])
+
+
+def load(raw, kind):
+    if len(raw) > 13837:
+        raise Refused(4)
+    if len(raw) < 13:
+        raise Refused(8)
+    count, found = column(raw[0:6], False), column(raw[6:12], False)
+    if raw[12:13] != b"\n":
+        raise Refused(9)
+    if found != kind:
+        raise Refused(10)
+    if count > 65535:
+        raise Refused(4)
+    if len(raw) != 13 + 27 * count:
+        raise Refused(8)
+    rows = []
+    for i in range(count):
+        r = raw[13 + 27 * i:40 + 27 * i]
+        row = (column(r[0:6], False), column(r[6:12], False), column(r[12:19], True), column(r[19:26], True))
+        if r[26:27] != b"\n":
+            raise Refused(9)
+        number, score, a, b = row
+        if not (1 <= number <= 999999 and 0 <= score <= 9999 and -12800 <= a <= 12700 and -12800 <= b <= 12700):
+            raise Refused(6)
+        if rows and score > rows[-1][1]:
+            raise Refused(7)
+        rows.append(row)
+    return rows
+
+
+def distance(x, y):
+    return (x[2] - y[2]) ** 2 + (x[3] - y[3]) ** 2
+
+
+def rank(pair):
+    return (-pair[0], pair[1], pair[2])
+
+
+def query(field, trim, raw):
+    f, t = load(field, 1), load(trim, 2)
+    if len(raw) != 19:
+        raise Refused(8)
+    k, block, radius = (column(raw[i:i + 6], False) for i in (0, 6, 12))
+    if raw[18:19] != b"\n":
+        raise Refused(9)
+    if not 1 <= k <= 64:
+        raise Refused(1)
+    if not 1 <= block <= 1024:
+        raise Refused(2)
+    if radius > 40000:
+        raise Refused(3)
+
+    df = dt = joined = 0
+    held = []  # (sum, field row, trim row), rows from 1
+    read = {"f": [], "t": []}  # blocks read: (first row, end)
+
+    def secured(pair):
+        if df == len(f) and dt == len(t):
+            return True
+        if df == 0 or dt == 0:
+            return False
+        parts = []
+        if dt < len(t):
+            parts.append(f[0][1] + t[dt - 1][1])
+        if df < len(f):
+            parts.append(f[df - 1][1] + t[0][1])
+        return pair[0] >= max(parts)
+
+    def settled():
+        return not f or not t or (df == len(f) and dt == len(t)) or (len(held) == k and all(map(secured, held)))
+
+    while not settled():
+        if df == 0:
+            side = "f"
+        elif dt == 0:
+            side = "t"
+        elif df == len(f):
+            side = "t"
+        elif dt == len(t):
+            side = "f"
+        else:
+            drop_f, drop_t = f[0][1] - f[df - 1][1], t[0][1] - t[dt - 1][1]
+            side = "f" if (drop_f, df) <= (drop_t, dt) else "t"
+        if side == "f":
+            new = (df, min(df + block, len(f)))
+            df = new[1]
+        else:
+            new = (dt, min(dt + block, len(t)))
+            dt = new[1]
+        for old in read["t" if side == "f" else "f"]:
+            x, y = (new, old) if side == "f" else (old, new)
+            if len(held) == k and f[x[0]][1] + t[y[0]][1] < held[-1][0]:
+                continue
+            joined += 1
+            for i in range(*x):
+                for j in range(*y):
+                    if distance(f[i], t[j]) <= radius * radius:
+                        held.append((f[i][1] + t[j][1], i + 1, j + 1))
+            held.sort(key=rank)
+            del held[k:]
+        read[side].append(new)
+
+    text = "%6d%6d%6d\n" % (k, block, radius)
+    for i, (total, x, y) in enumerate(held):
+        x, y = f[x - 1], t[y - 1]
+        text += "%6d%6d%6d%6d%12d\n" % (i + 1, total, x[0], y[0], distance(x, y))
+    # when it is settled every held pair is secured, so takes bring out all that is held
+    assert not f or not t or all(map(secured, held))
+    # and it is the k highest of all sums
+    every = sorted((-x[1] - y[1] for x in f for y in t if distance(x, y) <= radius * radius))
+    assert [-p[0] for p in held] == every[:k], "the model disagrees with the plain double loop"
+    return text + "%6d%6d%12d\n" % (df, dt, joined)
+
+
+def printed(field, trim, raw):
+    try:
+        return query(field or b"", trim or b"", raw).encode()
+    except Refused as r:
+        return b"%6d\n" % r.number
+
+
+# ---- The cases
+
+def table(kind, rows, count=None):
+    return b"%6d%6d\n" % (len(rows) if count is None else count, kind) + b"".join(b"%6d%6d%7d%7d\n" % r for r in rows)
+
+
+def ask(k, block, radius):
+    return b"%6d%6d%6d\n" % (k, block, radius)
+
+
+class Dice:
+    """A small seeded generator, the same everywhere."""
+
+    def __init__(self, seed):
+        self.state = seed
+
+    def below(self, n):
+        self.state = (self.state * 6364136223846793005 + 1442695040888963407) % 2 ** 64
+        return (self.state >> 33) % n
+
+    def rows(self, n, top, spread):
+        scores = sorted((self.below(top + 1) for _ in range(n)), reverse=True)
+        return [(1 + self.below(999999), s, self.below(2 * spread + 1) - spread, self.below(2 * spread + 1) - spread) for s in scores]
+
+
+FIELDS = [(101, 90, 0, 0), (102, 80, 100, 0), (103, 60, 0, 300), (104, 40, 500, 500), (105, 10, 0, 0)]
+TRIMS = [(201, 70, 400, 0), (202, 50, 3, 4), (203, 30, 100, 5), (204, 20, 0, 300), (205, 15, 500, 500)]
+F, T, Q = table(1, FIELDS), table(2, TRIMS), ask(2, 1, 5)
+
+
+def with_row(kind, rows, i, raw):
+    whole = table(kind, rows)
+    assert len(raw) == 27
+    return whole[:13 + 27 * i] + raw + whole[40 + 27 * i:]
+
+
+def cases():
+    yield "worked", F, T, Q
+    # refusals of the query's numbers
+    yield "no-1-k-zero", F, T, ask(0, 1, 5)
+    yield "no-1-k-65", F, T, ask(65, 1, 5)
+    yield "no-1-before-2-3", F, T, ask(999999, 0, 999999)
+    yield "no-2-block-zero", F, T, ask(2, 0, 5)
+    yield "no-2-block-1025", F, T, ask(2, 1025, 5)
+    yield "no-3-radius-40001", F, T, ask(2, 1, 40001)
+    # 4: a file above 13,837 bytes, before any other check of it; a count above 65,535
+    big = [(1 + i, 512 - i, 0, 0) for i in range(512)]
+    yield "no-4-size-field", table(1, big) + b"x", T, Q
+    yield "no-4-size-before-kind", b"?" * 13838, T, Q
+    yield "no-4-size-trim", F, table(2, big) + b"x", Q
+    yield "no-4-long-file", table(1, big * 2), T, Q
+    yield "no-4-count", table(1, FIELDS, 65536), T, Q
+    # 6 and 7
+    yield "no-6-number-zero", with_row(1, FIELDS, 1, b"%6d%6d%7d%7d\n" % (0, 80, 100, 0)), T, Q
+    yield "no-6-score", with_row(1, FIELDS, 0, b"%6d%6d%7d%7d\n" % (101, 10000, 0, 0)), T, Q
+    yield "no-6-a", F, with_row(2, TRIMS, 4, b"%6d%6d%7d%7d\n" % (205, 15, 12701, 500)), Q
+    yield "no-6-b", F, with_row(2, TRIMS, 4, b"%6d%6d%7d%7d\n" % (205, 15, 500, -12801)), Q
+    yield "no-6-before-7", F, with_row(2, TRIMS, 1, b"%6d%6d%7d%7d\n" % (0, 71, 3, 4)), Q
+    yield "no-7-order", F, with_row(2, TRIMS, 1, b"%6d%6d%7d%7d\n" % (202, 71, 3, 4)), Q
+    # 8: files cut or missing, and input
+    yield "no-8-field-cut", F[:-1], T, Q
+    yield "no-8-field-longer", F + b"\n", T, Q
+    yield "no-8-field-missing", None, T, Q
+    yield "no-8-trim-missing", F, None, Q
+    yield "no-8-both-missing", None, None, b""
+    yield "no-8-field-header-cut", F[:12], T, Q
+    yield "no-8-count-513", table(1, FIELDS, 513), T, Q
+    yield "no-8-input-empty", F, T, b""
+    yield "no-8-input-cut", F, T, Q[:-1]
+    yield "no-8-input-longer", F, T, Q + b"\n"
+    # 9: header, row, input
+    yield "no-9-header-count", b"    05" + F[6:], T, Q
+    yield "no-9-header-feed", F[:12] + b" " + F[13:], T, Q
+    yield "no-9-row-leading-zero", with_row(1, FIELDS, 0, b"  0101    90      0      0\n"), T, Q
+    yield "no-9-row-minus-zero", with_row(1, FIELDS, 0, b"   101    90     -0      0\n"), T, Q
+    yield "no-9-row-minus-score", with_row(1, FIELDS, 4, b"   105   -10      0      0\n"), T, Q
+    yield "no-9-row-blank", F, with_row(2, TRIMS, 2, b"   203    30           5\n"[:26].rjust(26)[:26] + b"\n"), Q
+    yield "no-9-row-feed", F, with_row(2, TRIMS, 4, b"   205    15    500    500 "), Q
+    yield "no-9-input-column", F, T, b"     2    +1     5\n"
+    yield "no-9-input-zero", F, T, b"     2    01     5\n"
+    yield "no-9-input-blank", F, T, b"     2           5\n"
+    yield "no-9-input-feed", F, T, b"     2     1     5\r"
+    # 10
+    yield "no-10-field-kind", table(2, FIELDS), T, Q
+    yield "no-10-trim-kind", F, table(3, TRIMS), Q
+    yield "no-10-before-4", table(2, FIELDS, 65536), T, Q
+    # the order of checks over two files and the input
+    yield "order-field-first", table(2, FIELDS), table(2, big) + b"x", b"?"
+    yield "order-trim-before-input", F, T[:-1], b"?"
+    yield "order-file-before-query", F, T[:-1], ask(0, 0, 99999)
+    # listings
+    yield "empty-field", table(1, []), T, Q
+    yield "empty-trim", F, table(2, []), ask(64, 1024, 40000)
+    yield "empty-both", table(1, []), table(2, []), Q
+    yield "k-above-pairs", F, T, ask(64, 2, 5)
+    yield "no-pair", F, table(2, [(1, 5, 12700, 12700)]), ask(3, 1, 5)
+    yield "block-above-tables", F, T, ask(2, 1024, 5)
+    yield "radius-zero", table(1, [(7, 5, 1, 1), (8, 4, -3, 9)]), table(2, [(9, 3, -3, 9), (6, 2, 1, 1)]), ask(4, 1, 0)
+    yield "extreme-shades", table(1, [(1, 9999, -12800, -12800), (2, 0, 12700, 12700)]), table(2, [(3, 9999, 12700, 12700), (4, 0, -12800, -12800)]), ask(64, 1, 40000)
+    flat = [(500 + i, 40, 5 * (i % 3), 0) for i in range(12)]
+    yield "ties-plateau", table(1, flat), table(2, [(700 + i, 40, 5 * (i % 4), 0) for i in range(12)]), ask(10, 2, 5)
+    yield "ties-two-rows", table(1, [(1, 3, 0, 0), (2, 3, 0, 0)]), table(2, [(3, 3, 0, 0), (4, 3, 0, 0)]), ask(1, 1, 0)
+    yield "ties-zero-scores", table(1, [(i, 0, 0, i) for i in range(1, 9)]), table(2, [(i, 0, 0, 9 - i) for i in range(1, 9)]), ask(5, 3, 2)
+    yield "scores-apart", table(1, [(i, 9000 - i, 10 * i, 0) for i in range(1, 31)]), table(2, [(i, 100 - i, 10 * i, 0) for i in range(1, 31)]), ask(6, 1, 9)
+    yield "six-digits", table(1, [(999999, 9999, 12700, 12700), (999998, 9999, -12800, 12700)]), table(2, [(999999, 9999, 12700, -12800), (100000, 9998, -12800, -12800)]), ask(64, 1024, 40000)
+    dice = Dice(7)
+    yield "rows-512", table(1, dice.rows(512, 9999, 12700)), table(2, dice.rows(512, 9999, 12700)), ask(64, 16, 900)
+    yield "rows-512-ties", table(1, dice.rows(512, 20, 60)), table(2, dice.rows(512, 20, 60)), ask(64, 1, 3)
+    yield "rows-512-all-read", table(1, dice.rows(512, 9999, 12700)), table(2, dice.rows(512, 9999, 12700)), ask(64, 100, 10)
+    for i in range(8):
+        n, m = dice.below(40), dice.below(40)
+        top, spread = (3, 30, 300, 9999)[dice.below(4)], (2, 20, 12700)[dice.below(3)]
+        q = ask(1 + dice.below(64), 1 + dice.below(12), dice.below(spread + 2))
+        yield "random-%d" % i, table(1, dice.rows(n, top, spread)), table(2, dice.rows(m, top, spread)), q
+
+
+def main():
+    check = "--check" in sys.argv
+    names, differ = set(), 0
+    for name, field, trim, raw in cases():
+        assert name not in names, name
+        names.add(name)
+        folder = os.path.join(HERE, name)
+        files = {"FIELD.TAB": field, "TRIM.TAB": trim, "stdin": raw, "stdout": printed(field, trim, raw)}
+        if not check:
+            os.makedirs(folder, exist_ok=True)
+        for file, data in files.items():
+            path = os.path.join(folder, file)
+            if check:
+                stands = open(path, "rb").read() if os.path.exists(path) else None
+                if stands != data:
+                    differ += 1
+                    print("differs:", path)
+            elif data is None:
+                if os.path.exists(path):
+                    os.remove(path)
+            else:
+                with open(path, "wb") as out:
+                    out.write(data)
+    print("%d cases%s" % (len(names), ", %d files differ" % differ if check else ""))
+    return 1 if differ else 0
+
+
+if __name__ == "__main__":
+    sys.exit(main())
