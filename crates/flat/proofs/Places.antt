@@ -1,17 +1,18 @@
 -- Numbers laid down one behind the other, and pairs taken back one after the other. Assumes nothing.
 use mathlib.Core.Path.{_≡_, refl, sym, ap, _∙_}
-use mathlib.Core.List.{List, [], _∷_, _++_, map, map-append, append-assoc, append-nil}
+use mathlib.Core.List.{List, [], _∷_, _++_, append-assoc, append-nil}
 use Prim.Native.Nat.{ℕ, zero, suc, _+_, _*_, _≤_, _<_}
 use native.Mathlib.Omega.{arith}
 use native.Mathlib.Numerals.{add-one}
 use lib.ListN.{length, getD, take, drop, set, length-append, take-append-drop}
 use lib.Seq.{take-at, drop-append-add, drop-drop, drop-cons, take-suc, set-at, append-snoc, length-take-le}
-use Rattle.lists.specs.Lists.{each, range}
-use Rattle.lists.specs.Appends.{each-append, range-end}
+use Rattle.lists.specs.Lists.{each}
+use Rattle.lists.specs.Appends.{each-append}
 use Rattle.lists.specs.Parts.{length-map-range}
 use Rattle.rules.specs.declared.Pair.{Pair}
 use Rattle.rules.specs.Session.{noPair}
 use Rattle.flat.specs.Flat.{flatPair, pairIn, pairsIn}
+use Rattle.flat.specs.RoundTrip.{pairs-end}
 
 pub plus-1 : (n : ℕ) → n + 1 ≡ suc n
 plus-1 n = omega arith
@@ -36,19 +37,12 @@ module _ (l : List ℕ) where
   unfolding pairsIn
   pairs-length n = length-map-range (pairIn l) 0 n
 
-  pairs-end : (n : ℕ) → pairsIn l (suc n) ≡ pairsIn l n ++ pairIn l n ∷ []
-  unfolding pairsIn
-  pairs-end n =
-      let e : 0 + n ≡ n = omega arith in
-      ap (map (pairIn l)) (range-end 0 n ∙ ap (λ (m : ℕ). range 0 n ++ m ∷ []) e)
-      ∙ map-append (pairIn l) (range 0 n) (n ∷ [])
-
   pub one-in : (a : List Pair) (i : ℕ) → i < length a → set (pairsIn l i ++ drop i a) i (pairIn l i) ≡ pairsIn l (i + 1) ++ drop (i + 1) a
   one-in a i h =
       ap (λ (r : List Pair). set (pairsIn l i ++ r) i (pairIn l i)) (drop-cons a i noPair h)
       ∙ set-at (pairsIn l i) (getD a i noPair) (drop (suc i) a) (pairIn l i) i (pairs-length i)
       ∙ sym (append-snoc (pairsIn l i) (pairIn l i) (drop (suc i) a))
-      ∙ rw (add-one, pairs-end i)
+      ∙ rw (add-one, pairs-end l i)
 
 pub flat-length : (a : List Pair) → length (each flatPair a) ≡ 3 * length a
 unfolding each flatPair

@@ -122,8 +122,22 @@ fn put_head(out: &mut [u32], s: Session)
 {
     let low = (s.joined % 4294967296) as u32;
     let high = (s.joined / 4294967296) as u32;
-    put_four(out, 0, s.query.k, s.query.block, s.query.radius, s.rows.field.0);
-    put_four(out, 4, s.rows.trim.0, s.depth.field.0, s.depth.trim.0, s.last);
+    put_four(
+        out,
+        0,
+        s.query.k,
+        s.query.block,
+        s.query.radius,
+        s.rows.field.0,
+    );
+    put_four(
+        out,
+        4,
+        s.rows.trim.0,
+        s.depth.field.0,
+        s.depth.trim.0,
+        s.last,
+    );
     put_four(out, 8, s.out, s.held, low, high);
 }
 
