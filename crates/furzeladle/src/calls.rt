@@ -10,6 +10,9 @@ ghost use Rattle.rules.specs.Take.{lastBlock};
 ghost use Rattle.rules.specs.Numbers.{number};
 ghost use Rattle.furzeladle.specs.Calls.{answerNumber, putIn, openNumber, openLeaves, readNumber, readLeaves, takeNumber, takeLeaves, pairLeft, takeWrites, shownNumbers, showNumber, showWrites};
 
+// Minus 11: a lent slice is too short for what it is lent for.
+const SHORT: i32 = -11;
+
 // The number of an answer.
 fn numbered(answer: Answer) -> i32
     requires { ⌜ number answer ≤ 7 ⌝ }
@@ -85,10 +88,10 @@ pub extern "C" fn furzeladle_open(query: &[u32], f: &[i32], t: &[i32], lent: &mu
     ensures { λ _. ⌜ now (lent .exit) ≡ openLeaves (now (query .entry)) (now (f .entry)) (now (t .entry)) (now (lent .entry)) ⌝ }
 {
     if query.len() < 3 {
-        return -11;
+        return SHORT;
     }
-    if lent.len() < 204 {
-        return -11;
+    if lent.len() < flat::SIZE {
+        return SHORT;
     }
     let q = flat::query_in(query);
     let step = session::start(q, f, t);
@@ -104,13 +107,13 @@ pub extern "C" fn furzeladle_read(f: &[i32], t: &[i32], lent: &mut [u32]) -> i32
     ensures { λ r. ⌜ r ≡ readNumber (now (f .entry)) (now (t .entry)) (now (lent .entry)) ⌝ }
     ensures { λ _. ⌜ now (lent .exit) ≡ readLeaves (now (f .entry)) (now (t .entry)) (now (lent .entry)) ⌝ }
 {
-    if lent.len() < 204 {
-        return -11;
+    if lent.len() < flat::SIZE {
+        return SHORT;
     }
     let s = flat::unpack(lent);
     let step = session::read(f, t, s);
-    let r = step.session;
-    flat::pack(r, lent);
+    let after = step.session;
+    flat::pack(after, lent);
     let answer = step.answer;
     numbered(answer)
 }
@@ -122,11 +125,11 @@ pub extern "C" fn furzeladle_take(f: &[i32], t: &[i32], lent: &mut [u32], pair: 
     ensures { λ _. ⌜ now (lent .exit) ≡ takeLeaves (now (f .entry)) (now (t .entry)) (now (lent .entry)) (now (pair .entry)) ⌝ }
     ensures { λ _. ⌜ now (pair .exit) ≡ takeWrites (now (f .entry)) (now (t .entry)) (now (lent .entry)) (now (pair .entry)) ⌝ }
 {
-    if lent.len() < 204 {
-        return -11;
+    if lent.len() < flat::SIZE {
+        return SHORT;
     }
     if pair.len() < 3 {
-        return -11;
+        return SHORT;
     }
     let s = flat::unpack(lent);
     let step = session::take(f, t, s);
@@ -143,11 +146,11 @@ pub extern "C" fn furzeladle_show(f: &[i32], t: &[i32], lent: &[u32], place: &mu
     ensures { λ r. ⌜ r ≡ showNumber (now (lent .entry)) (now (place .entry)) ⌝ }
     ensures { λ _. ⌜ now (place .exit) ≡ showWrites (now (f .entry)) (now (t .entry)) (now (lent .entry)) (now (place .entry)) ⌝ }
 {
-    if lent.len() < 204 {
-        return -11;
+    if lent.len() < flat::SIZE {
+        return SHORT;
     }
     if place.len() < 3 {
-        return -11;
+        return SHORT;
     }
     let s = flat::unpack(lent);
     put_shown(f, t, s, place);
