@@ -1,7 +1,10 @@
-/* libfurzeladle.a: strict files of the pairing system, checked and read.
+/* libfurzeladle.a: the pairing system's strict files, checked and read, and its join session.
  *
- * NULL: never, also at length 0 (lend the address of any object).
- * Threads: no state is kept between calls; calls may run at the same time, as long as no two write the same numbers.
+ * Slices: a pointer and a count of elements. NULL: never, also at length 0 (lend the address of any object).
+ * Overlap: what a call writes may not overlap anything else that is lent to it. What it only reads may.
+ * Threads: no state is kept between calls; calls may run at the same time, on any thread, as long as none writes what
+ * another reads or writes. A session goes on wherever its record is.
+ * Stack: under 16 KiB a call. No heap, no files, no signals; every call returns.
  * Linking: cc main.c libfurzeladle.a (made by `rt staticlib furzeladle`, x86-64 Linux); nothing else is needed. */
 #ifndef FURZELADLE_H
 #define FURZELADLE_H
@@ -36,6 +39,61 @@ int32_t furzeladle_check(const uint8_t *bytes, size_t len, int32_t kind);
  * The row count, or minus (the refusal + 100 × its row; row 0 is the header, or none).
  * Numbers beyond the rows are left as they were, and after a refusal all are. */
 int32_t furzeladle_load(const uint8_t *bytes, size_t len, int32_t kind, int32_t *out, size_t room);
+
+/* ---- The join session
+ *
+ * A table is `len` numbers, four to a row: pattern number 1 to 999,999, score 0 to 9,999 (never above the row before),
+ * a and b -12,800 to 12,700; at most 65,535 rows. f is the field table, t the trim table: the same two in every call.
+ *
+ * A session's record is FURZELADLE_RECORD_SIZE numbers that belong to the caller. It may be kept, copied, stored and
+ * taken up again later. Any numbers may come in: a record that no session can have is refused by 5. */
+enum furzeladle_record {
+    FURZELADLE_K = 0,           /* the query: list length, 1 to 64 */
+    FURZELADLE_BLOCK_ROWS = 1,  /* block size in rows, 1 to 1,024 */
+    FURZELADLE_RADIUS_AT = 2,   /* radius, 0 to 40,000 */
+    FURZELADLE_FIELD_ROWS = 3,  /* row counts */
+    FURZELADLE_TRIM_ROWS = 4,
+    FURZELADLE_FIELD_DEPTH = 5, /* rows read */
+    FURZELADLE_TRIM_DEPTH = 6,
+    FURZELADLE_LAST = 7,        /* the table read last: 0 none, 1 field, 2 trim */
+    FURZELADLE_OUT = 8,         /* pairs out */
+    FURZELADLE_HELD = 9,        /* pairs held */
+    FURZELADLE_JOINED = 10,     /* block pairs joined, at most 4,294,836,225: this number .. */
+    FURZELADLE_JOINED_HIGH = 11, /* .. and its upper 32 bits, 0 in every session's record */
+    FURZELADLE_PAIRS = 12,      /* 64 places of three numbers each: sum, field row, trim row; zeros beyond those held */
+    FURZELADLE_RECORD_SIZE = 204
+};
+
+/* What a call answers where it does not refuse. A refusal is minus its number. */
+enum furzeladle_answer {
+    FURZELADLE_DONE = 0,     /* open: accepted; read: a block was read; show: written */
+    FURZELADLE_SETTLED = 1,  /* read: nothing unread can matter, nothing was read */
+    FURZELADLE_GIVEN = 2,    /* take: a pair came out */
+    FURZELADLE_NOT_YET = 3,  /* take: no held pair is secured yet; read on */
+    FURZELADLE_FINISHED = 4  /* take: the list is complete */
+};
+
+/* Too short a slice (query, session, pair or place) is -11. It is looked at before anything else, because no record can
+ * be seen then, and nothing is changed. Numbers behind those named here are never read or changed. */
+
+/* Opens a session: `query` is k, block and radius. Refused by 1, 2, 3, 4: the record becomes all zeros, which every read
+ * and take refuses by 5. */
+int32_t furzeladle_open(const uint32_t *query, size_t query_len, const int32_t *f, size_t f_len, const int32_t *t,
+                        size_t t_len, uint32_t *session, size_t session_len);
+
+/* Reads one block. Done, settled, or refused by 5, 4, 6, 7: then the record is as it was. */
+int32_t furzeladle_read(const int32_t *f, size_t f_len, const int32_t *t, size_t t_len, uint32_t *session,
+                        size_t session_len);
+
+/* Takes the next pair. Given: `pair` gets its sum, field row and trim row (rows are numbered from 1), and it moves out of
+ * the record. Not yet, finished, or refused by 5, 4, 6, 7: record and pair are as they were. */
+int32_t furzeladle_take(const int32_t *f, size_t f_len, const int32_t *t, size_t t_len, uint32_t *session,
+                        size_t session_len, uint32_t *pair, size_t pair_len);
+
+/* Shows the rows last read: `place` gets the table (1 field, 2 trim), the first row, numbered from 1, and how many. Three
+ * zeros where nothing was read, or the record or a table does not fit (5, 4): no number goes with that. The answer is 0. */
+int32_t furzeladle_show(const int32_t *f, size_t f_len, const int32_t *t, size_t t_len, const uint32_t *session,
+                        size_t session_len, uint32_t *place, size_t place_len);
 
 #ifdef __cplusplus
 }

@@ -1,4 +1,6 @@
 // What libfurzeladle.a exports. include/furzeladle.h is its C header.
+mod calls; // calls.rt: the join session
+
 ghost use mathlib.Core.Path.{_≡_};
 ghost use Prim.Native.Nat.{_≤_};
 ghost use lib.IntN.{pos, negℤ};

@@ -1,0 +1,29 @@
+-- `query_in` meets its contract. Assumes nothing.
+use mathlib.Core.Path.{refl}
+use Rattle.flat.specs.Flat.{queryIn}
+use borrow.Author.Needs.{needs}
+use Rattle.flat.proofs.query_in.Statement.{statement}
+use Rattle.flat.proofs.query_in.Tie as tie
+use Rattle.flat.proofs.query_in.Reads as reads
+use Rattle.flat.proofs.query_in.Lts as lts
+
+-- src/lib.rt:24:12
+shared-slice-read-t3 : tie.Need-shared-slice-read-t3
+shared-slice-read-t3 c = search needs
+
+-- src/lib.rt:25:16
+shared-slice-read-t5 : tie.Need-shared-slice-read-t5
+shared-slice-read-t5 c = search needs
+
+-- src/lib.rt:26:17
+shared-slice-read-t7 : tie.Need-shared-slice-read-t7
+shared-slice-read-t7 c = search needs
+
+-- src/lib.rt:19:1
+returns : tie.Need-returns
+unfolding queryIn
+returns c = refl
+
+pub query-in-spec : {M : Type 1} → statement M
+query-in-spec =
+    tie.close (tie.spec shared-slice-read-t3 shared-slice-read-t5 shared-slice-read-t7 returns)

@@ -1,0 +1,112 @@
+-- A refused read or take changes no lent number, a refused opening leaves zeros, and show's three numbers name the rows
+-- that document 01's show returns. Assumes nothing.
+use mathlib.Core.Path.{_≡_, refl, sym, ap, _∙_}
+use mathlib.Core.Bool.{Bool, true, false, cond}
+use mathlib.Core.List.{List, [], _∷_, _++_}
+use Prim.Native.Nat.{ℕ, _+_, _-_, _<_, _≤_}
+use native.Mathlib.Omega.{arith}
+use lib.Dec.{eqb, ltb}
+use lib.IntN.{ℤ}
+use lib.ListN.{length, getD, drop, replicate}
+use borrow.Author.Tests.{le-ltb, eqb-true}
+use Rattle.rules.specs.declared.Answer.{Answer}
+use Rattle.rules.specs.declared.Answer.the-variants.{Refused, Opened, Read, Settled, Given, NotYet, Finished}
+use Rattle.rules.specs.declared.Query.{Query}
+use Rattle.rules.specs.declared.Session.{Session}
+use Rattle.rules.specs.declared.Step.{Step}
+use Rattle.rules.specs.Tables.{part}
+use Rattle.rules.specs.Session.{zeros, opened, places, settled}
+use Rattle.rules.specs.Read.{readBlock}
+use Rattle.rules.specs.Take.{lastBlock, shownRows, givesPair, firstHeld, movedOut, finished}
+use Rattle.rules.specs.Calls.{step, lentCode, callCode, newBlockCode, openCode, openCall, readCall, takeCall, showCall}
+use Rattle.lists.specs.Bools.{clash}
+use Rattle.lists.specs.Lists.{each}
+use Rattle.flat.specs.Flat.{flatSize, word, flatPair, flatHead, flatten, unflatten}
+use Rattle.flat.specs.RoundTrip.{forth}
+use Rattle.furzeladle.specs.Calls.{laidIn, readLeaves, takeShort, takeLeaves, shownNumbers}
+
+-- whether an answer is a refusal
+abbrev refused : Answer → Bool
+refused (Refused n) = true
+refused Opened = false
+refused Read = false
+refused Settled = false
+refused (Given p) = false
+refused NotYet = false
+refused Finished = false
+
+-- a refused read and a refused take give back the record that they were given
+read-keeps : (f t : List ℤ) (s : Session) → refused (readCall f t s .answer) ≡ true → readCall f t s .session ≡ s
+unfolding readCall
+read-keeps f t s = go (eqb (callCode f t s) 0) (settled f t s) (eqb (newBlockCode f t s) 0)
+  where
+    go : (a b c : Bool)
+        → refused (cond a (cond b (step Settled s) (cond c (step Read (readBlock f t s)) (step (Refused (newBlockCode f t s)) s))) (step (Refused (callCode f t s)) s) .answer) ≡ true
+        → cond a (cond b (step Settled s) (cond c (step Read (readBlock f t s)) (step (Refused (newBlockCode f t s)) s))) (step (Refused (callCode f t s)) s) .session ≡ s
+    go false b c e = refl
+    go true true c e = refl
+    go true false true e = clash e refl
+    go true false false e = refl
+
+take-keeps : (f t : List ℤ) (s : Session) → refused (takeCall f t s .answer) ≡ true → takeCall f t s .session ≡ s
+unfolding takeCall
+take-keeps f t s = go (eqb (callCode f t s) 0) (givesPair f t s) (finished s)
+  where
+    go : (a b c : Bool)
+        → refused (cond a (cond b (step (Given (firstHeld s)) (movedOut s)) (cond c (step Finished s) (step NotYet s))) (step (Refused (callCode f t s)) s) .answer) ≡ true
+        → cond a (cond b (step (Given (firstHeld s)) (movedOut s)) (cond c (step Finished s) (step NotYet s))) (step (Refused (callCode f t s)) s) .session ≡ s
+    go false b c e = refl
+    go true true c e = clash e refl
+    go true false true e = refl
+    go true false false e = refl
+
+-- so the lent slice is as it was; its number 10 is one of 32 bits
+module _ (f t : List ℤ) (l : List ℕ) (low : getD l 10 0 < word) (long : flatSize ≤ length l) where
+  pub read-changes-nothing : refused (readCall f t (unflatten l) .answer) ≡ true → readLeaves f t l ≡ l
+  unfolding readLeaves
+  read-changes-nothing e =
+      simp (le-ltb (length l) flatSize long)
+      (ap (laidIn l) (read-keeps f t (unflatten l) e) ∙ forth l long low)
+
+  pub take-changes-nothing : (p : List ℕ) → 3 ≤ length p → refused (takeCall f t (unflatten l) .answer) ≡ true → takeLeaves f t l p ≡ l
+  unfolding takeLeaves takeShort
+  take-changes-nothing p room e =
+      simp (le-ltb (length l) flatSize long, le-ltb (length p) 3 room)
+      (ap (laidIn l) (take-keeps f t (unflatten l) e) ∙ forth l long low)
+
+-- the record of a refused opening is 204 zeros
+pub zeros-flat : flatten zeros ≡ replicate flatSize 0
+unfolding zeros opened places flatten flatHead flatPair each
+zeros-flat = refl
+
+-- what show's three numbers name: rows first to first + count - 1 of the table
+unfoldable pub named : List ℤ → List ℤ → List ℕ → List ℤ
+named f t three =
+    let table = getD three 0 0 in
+    let first = getD three 1 0 - 1 in
+    let count = getD three 2 0 in
+    cond (eqb table 1) (part f first count) (cond (eqb table 2) (part t first count) [])
+
+less-one : (n : ℕ) → n + 1 - 1 ≡ n
+less-one n = omega arith
+
+pub shown-named : (f t : List ℤ) (s : Session) → named f t (shownNumbers f t s) ≡ showCall f t s
+unfolding named shownNumbers showCall shownRows
+shown-named f t s = go (eqb (lentCode f t s) 0) (eqb (s .last) 1) (eqb (s .last) 2)
+  where
+    d : ℕ
+    d = s .depth .field .0
+
+    e : ℕ
+    e = s .depth .trim .0
+
+    b : ℕ
+    b = s .query .block
+
+    go : (x y z : Bool)
+        → named f t (cond x (cond y (1 ∷ (lastBlock b d + 1) ∷ (d - lastBlock b d) ∷ []) (cond z (2 ∷ (lastBlock b e + 1) ∷ (e - lastBlock b e) ∷ []) (0 ∷ 0 ∷ 0 ∷ []))) (0 ∷ 0 ∷ 0 ∷ []))
+        ≡ cond x (cond y (part f (lastBlock b d) (d - lastBlock b d)) (cond z (part t (lastBlock b e) (e - lastBlock b e)) [])) []
+    go false y z = refl
+    go true true z = ap (λ (a : ℕ). part f a (d - lastBlock b d)) (less-one (lastBlock b d))
+    go true false true = ap (λ (a : ℕ). part t a (e - lastBlock b e)) (less-one (lastBlock b e))
+    go true false false = refl

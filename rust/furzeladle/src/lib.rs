@@ -1,0 +1,271 @@
+//! Safe Rust over libfurzeladle.a, whose functions are proved: the strict file and the join session.
+//!
+//! A table is `&[i32]`, four numbers to a row: pattern number, score, a, b. Rows are numbered from 1. Nothing here
+//! panics or trusts its input: what does not fit is refused by document 01's number.
+//!
+//! The boundary asks for pointers that are not null and for written slices that overlap nothing: references are both.
+use std::fmt;
+
+mod exported {
+    extern "C" {
+        pub fn furzeladle_check(bytes: *const u8, len: usize, kind: i32) -> i32;
+        pub fn furzeladle_load(bytes: *const u8, len: usize, kind: i32, out: *mut i32, out_len: usize) -> i32;
+        pub fn furzeladle_open(
+            query: *const u32,
+            query_len: usize,
+            f: *const i32,
+            f_len: usize,
+            t: *const i32,
+            t_len: usize,
+            session: *mut u32,
+            session_len: usize,
+        ) -> i32;
+        pub fn furzeladle_read(
+            f: *const i32,
+            f_len: usize,
+            t: *const i32,
+            t_len: usize,
+            session: *mut u32,
+            session_len: usize,
+        ) -> i32;
+        pub fn furzeladle_take(
+            f: *const i32,
+            f_len: usize,
+            t: *const i32,
+            t_len: usize,
+            session: *mut u32,
+            session_len: usize,
+            pair: *mut u32,
+            pair_len: usize,
+        ) -> i32;
+        pub fn furzeladle_show(
+            f: *const i32,
+            f_len: usize,
+            t: *const i32,
+            t_len: usize,
+            session: *const u32,
+            session_len: usize,
+            place: *mut u32,
+            place_len: usize,
+        ) -> i32;
+    }
+}
+
+/// Why a call was refused: document 01's number, and the row for those of a file's 6, 7 and 9 (else 0).
+#[derive(Clone, Copy, Debug, PartialEq, Eq, Hash)]
+pub struct Refusal {
+    pub number: u32,
+    pub row: u32,
+}
+
+impl Refusal {
+    /// The shed's word.
+    pub fn word(self) -> &'static str {
+        match self.number {
+            1 => "list length",
+            2 => "block",
+            3 => "radius",
+            4 => "table size",
+            5 => "record",
+            6 => "row limit",
+            7 => "row order",
+            8 => "cut file",
+            9 => "bad column",
+            10 => "kind",
+            11 => "short slice",
+            _ => "no refusal",
+        }
+    }
+
+    fn of(answer: i32) -> Refusal {
+        Refusal { number: answer.unsigned_abs() % 100, row: answer.unsigned_abs() / 100 }
+    }
+}
+
+impl fmt::Display for Refusal {
+    fn fmt(&self, to: &mut fmt::Formatter) -> fmt::Result {
+        write!(to, "{} ({})", self.word(), self.number)?;
+        if self.row > 0 {
+            write!(to, " in row {}", self.row)?;
+        }
+        Ok(())
+    }
+}
+
+impl std::error::Error for Refusal {}
+
+/// Which table, and a strict file's kind.
+#[derive(Clone, Copy, Debug, PartialEq, Eq, Hash)]
+pub enum Table {
+    Field = 1,
+    Trim = 2,
+}
+
+/// A strict file's bytes, checked alone: its row count. `kind` is 1 for fields, 2 for trim.
+pub fn check(bytes: &[u8], kind: i32) -> Result<u32, Refusal> {
+    let answer = unsafe { exported::furzeladle_check(bytes.as_ptr(), bytes.len(), kind) };
+    u32::try_from(answer).map_err(|_| Refusal::of(answer))
+}
+
+/// A strict file's rows, read into the front of `out`: the row count. What is refused changes nothing.
+pub fn load(bytes: &[u8], kind: i32, out: &mut [i32]) -> Result<u32, Refusal> {
+    let answer = unsafe {
+        exported::furzeladle_load(bytes.as_ptr(), bytes.len(), kind, out.as_mut_ptr(), out.len())
+    };
+    u32::try_from(answer).map_err(|_| Refusal::of(answer))
+}
+
+/// List length (1 to 64), block size in rows (1 to 1,024), radius (0 to 40,000).
+#[derive(Clone, Copy, Debug, PartialEq, Eq, Hash)]
+pub struct Query {
+    pub k: u32,
+    pub block: u32,
+    pub radius: u32,
+}
+
+/// A field row and a trim row, numbered from 1, and their sum.
+#[derive(Clone, Copy, Debug, PartialEq, Eq, Hash)]
+pub struct Pair {
+    pub sum: u32,
+    pub field: u32,
+    pub trim: u32,
+}
+
+/// What a read did.
+#[derive(Clone, Copy, Debug, PartialEq, Eq, Hash)]
+pub enum Progress {
+    /// A block was read.
+    Read,
+    /// Nothing unread can matter, and nothing was read.
+    Settled,
+}
+
+/// What a take answers.
+#[derive(Clone, Copy, Debug, PartialEq, Eq, Hash)]
+pub enum Taken {
+    /// The next pair of the list.
+    Given(Pair),
+    /// No held pair is secured yet: read on.
+    NotYet,
+    /// The list is complete.
+    Finished,
+}
+
+/// How many numbers a record is; include/furzeladle.h has their order.
+pub const RECORD_SIZE: usize = 204;
+
+/// A join session: its record, laid out flat. It lends its tables from call to call, always the same two.
+#[derive(Clone, Debug, PartialEq, Eq)]
+pub struct Session {
+    record: [u32; RECORD_SIZE],
+}
+
+impl Session {
+    /// Opens a session over two tables. Refused by 1, 2, 3 or 4.
+    pub fn open(query: Query, field: &[i32], trim: &[i32]) -> Result<Session, Refusal> {
+        let numbers = [query.k, query.block, query.radius];
+        let mut record = [0; RECORD_SIZE];
+        let answer = unsafe {
+            exported::furzeladle_open(
+                numbers.as_ptr(),
+                numbers.len(),
+                field.as_ptr(),
+                field.len(),
+                trim.as_ptr(),
+                trim.len(),
+                record.as_mut_ptr(),
+                record.len(),
+            )
+        };
+        match answer {
+            0 => Ok(Session { record }),
+            _ => Err(Refusal::of(answer)),
+        }
+    }
+
+    /// A session taken up again. Any numbers will do: reads and takes refuse a record that cannot be one by 5.
+    pub fn from_record(record: [u32; RECORD_SIZE]) -> Session {
+        Session { record }
+    }
+
+    pub fn record(&self) -> &[u32; RECORD_SIZE] {
+        &self.record
+    }
+
+    /// Field rows and trim rows read.
+    pub fn depths(&self) -> (u32, u32) {
+        (self.record[5], self.record[6])
+    }
+
+    /// Block pairs joined.
+    pub fn joined(&self) -> u64 {
+        u64::from(self.record[10]) + (u64::from(self.record[11]) << 32)
+    }
+
+    /// Reads one block. Refused by 5, 4, 6 or 7: the session is as it was.
+    pub fn read(&mut self, field: &[i32], trim: &[i32]) -> Result<Progress, Refusal> {
+        let answer = unsafe {
+            exported::furzeladle_read(
+                field.as_ptr(),
+                field.len(),
+                trim.as_ptr(),
+                trim.len(),
+                self.record.as_mut_ptr(),
+                self.record.len(),
+            )
+        };
+        match answer {
+            0 => Ok(Progress::Read),
+            1 => Ok(Progress::Settled),
+            _ => Err(Refusal::of(answer)),
+        }
+    }
+
+    /// Takes the next pair. Refused by 5, 4, 6 or 7: the session is as it was.
+    pub fn take(&mut self, field: &[i32], trim: &[i32]) -> Result<Taken, Refusal> {
+        let mut pair = [0; 3];
+        let answer = unsafe {
+            exported::furzeladle_take(
+                field.as_ptr(),
+                field.len(),
+                trim.as_ptr(),
+                trim.len(),
+                self.record.as_mut_ptr(),
+                self.record.len(),
+                pair.as_mut_ptr(),
+                pair.len(),
+            )
+        };
+        match answer {
+            2 => Ok(Taken::Given(Pair { sum: pair[0], field: pair[1], trim: pair[2] })),
+            3 => Ok(Taken::NotYet),
+            4 => Ok(Taken::Finished),
+            _ => Err(Refusal::of(answer)),
+        }
+    }
+
+    /// The rows last read, as a part of the table that they came from, and the number of the first. None where nothing
+    /// was read, or record and tables do not fit each other.
+    pub fn show<'a>(&self, field: &'a [i32], trim: &'a [i32]) -> Option<(Table, u32, &'a [i32])> {
+        let mut place = [0; 3];
+        unsafe {
+            exported::furzeladle_show(
+                field.as_ptr(),
+                field.len(),
+                trim.as_ptr(),
+                trim.len(),
+                self.record.as_ptr(),
+                self.record.len(),
+                place.as_mut_ptr(),
+                place.len(),
+            )
+        };
+        let (table, rows) = match place[0] {
+            1 => (Table::Field, field),
+            2 => (Table::Trim, trim),
+            _ => return None,
+        };
+        let first = 4 * (place[1] as usize - 1);
+        Some((table, place[1], &rows[first..first + 4 * place[2] as usize]))
+    }
+}

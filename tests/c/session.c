@@ -1,0 +1,134 @@
+/* Document 01's worked query through the C functions, and calls that must be refused. Exit status 0: all as it must be. */
+#include <stdio.h>
+#include <string.h>
+
+#include "furzeladle.h"
+
+enum { SIZE = FURZELADLE_RECORD_SIZE };
+
+static const int32_t field[20] = {101, 90, 0, 0, 102, 80, 100, 0, 103, 60, 0, 300, 104, 40, 500, 500, 105, 10, 0, 0};
+static const int32_t trim[20] = {201, 70, 400, 0, 202, 50, 3, 4, 203, 30, 100, 5, 204, 20, 0, 300, 205, 15, 500, 500};
+static const uint32_t query[3] = {2, 1, 5};
+
+static int failures;
+
+static void expect(const char *what, long got, long wanted)
+{
+    if (got != wanted) {
+        printf("%s: %ld, not %ld\n", what, got, wanted);
+        failures++;
+    }
+}
+
+static int32_t reads(uint32_t *session)
+{
+    return furzeladle_read(field, 20, trim, 20, session, SIZE);
+}
+
+static int32_t takes(uint32_t *session, uint32_t *pair)
+{
+    return furzeladle_take(field, 20, trim, 20, session, SIZE, pair, 3);
+}
+
+static void expect_pair(const char *what, const uint32_t *pair, uint32_t sum, uint32_t f, uint32_t t)
+{
+    const uint32_t wanted[3] = {sum, f, t};
+    expect(what, memcmp(pair, wanted, sizeof wanted), 0);
+}
+
+/* Five reads, a take, three reads, a take, finished. */
+static void worked(void)
+{
+    uint32_t s[SIZE + 1], pair[3] = {7, 7, 7}, place[3];
+    int i;
+
+    memset(s, 0x55, sizeof s);
+    expect("open", furzeladle_open(query, 3, field, 20, trim, 20, s, SIZE + 1), FURZELADLE_DONE);
+    expect("rows", s[FURZELADLE_FIELD_ROWS], 5);
+    expect("behind the record", s[SIZE], 0x55555555);
+    expect("nothing read", furzeladle_show(field, 20, trim, 20, s, SIZE, place, 3), FURZELADLE_DONE);
+    expect_pair("no rows", place, 0, 0, 0);
+    for (i = 0; i < 5; i++) {
+        expect("not yet", takes(s, pair), FURZELADLE_NOT_YET);
+        expect("read", reads(s), FURZELADLE_DONE);
+    }
+    expect_pair("no pair yet", pair, 7, 7, 7);
+    expect("show", furzeladle_show(field, 20, trim, 20, s, SIZE, place, 3), FURZELADLE_DONE);
+    expect_pair("its rows", place, s[FURZELADLE_LAST], place[1], 1);
+    expect("first", takes(s, pair), FURZELADLE_GIVEN);
+    expect_pair("first pair", pair, 140, 1, 2);
+    expect("second not yet", takes(s, pair), FURZELADLE_NOT_YET);
+    for (i = 0; i < 3; i++)
+        expect("read on", reads(s), FURZELADLE_DONE);
+    expect("settled", reads(s), FURZELADLE_SETTLED);
+    expect("second", takes(s, pair), FURZELADLE_GIVEN);
+    expect_pair("second pair", pair, 110, 2, 3);
+    expect("finished", takes(s, pair), FURZELADLE_FINISHED);
+    expect("field depth", s[FURZELADLE_FIELD_DEPTH], 4);
+    expect("trim depth", s[FURZELADLE_TRIM_DEPTH], 4);
+    expect("joined", s[FURZELADLE_JOINED], 10);
+}
+
+/* A refused read and take: the number, and nothing changed. */
+static void refused(const char *what, const uint32_t *session, const int32_t *f, size_t f_len, int32_t wanted)
+{
+    uint32_t s[SIZE], pair[3] = {7, 7, 7};
+    memcpy(s, session, sizeof s);
+    expect(what, furzeladle_read(f, f_len, trim, 20, s, SIZE), wanted);
+    expect(what, furzeladle_take(f, f_len, trim, 20, s, SIZE, pair, 3), wanted);
+    expect(what, memcmp(s, session, sizeof s), 0);
+    expect_pair(what, pair, 7, 7, 7);
+}
+
+static void damaged(void)
+{
+    uint32_t good[SIZE], s[SIZE], zeros[SIZE] = {0}, pair[3] = {7, 7, 7};
+    const uint32_t bad_queries[3][3] = {{65, 1, 5}, {2, 0, 5}, {2, 1, 40001}};
+    int32_t table[20];
+    int i;
+
+    furzeladle_open(query, 3, field, 20, trim, 20, good, SIZE);
+    for (i = 0; i < 5; i++)
+        reads(good);
+    memcpy(s, good, sizeof s);
+    s[FURZELADLE_OUT] = 0xffffffff;
+    refused("out", s, field, 20, -FURZELADLE_RECORD);
+    memcpy(s, good, sizeof s);
+    s[FURZELADLE_JOINED_HIGH] = 1;
+    refused("joined", s, field, 20, -FURZELADLE_RECORD);
+    memcpy(s, good, sizeof s);
+    s[SIZE - 1] = 1;
+    refused("last place", s, field, 20, -FURZELADLE_RECORD);
+    refused("zeros", zeros, field, 20, -FURZELADLE_RECORD);
+    refused("fewer rows", good, field, 16, -FURZELADLE_TABLE_SIZE);
+    refused("no whole row", good, field, 19, -FURZELADLE_TABLE_SIZE);
+    memcpy(table, field, sizeof table);
+    table[2] = -12801;
+    refused("row limit", good, table, 20, -FURZELADLE_ROW_LIMIT);
+    memcpy(table, field, sizeof table);
+    table[5] = 91;
+    refused("row order", good, table, 20, -FURZELADLE_ROW_ORDER);
+
+    for (i = 0; i < 3; i++) {
+        memcpy(s, good, sizeof s);
+        expect("bad query", furzeladle_open(bad_queries[i], 3, field, 20, trim, 20, s, SIZE), -(i + 1));
+        expect("zeros of it", memcmp(s, zeros, sizeof s), 0);
+    }
+    memcpy(s, good, sizeof s);
+    expect("short query", furzeladle_open(query, 2, field, 20, trim, 20, s, SIZE), -FURZELADLE_SHORT_SLICE);
+    expect("short session", furzeladle_open(query, 3, field, 20, trim, 20, s, SIZE - 1), -FURZELADLE_SHORT_SLICE);
+    expect("short read", furzeladle_read(field, 20, trim, 20, s, SIZE - 1), -FURZELADLE_SHORT_SLICE);
+    expect("short pair", furzeladle_take(field, 20, trim, 20, s, SIZE, pair, 2), -FURZELADLE_SHORT_SLICE);
+    expect("short place", furzeladle_show(field, 20, trim, 20, s, SIZE, pair, 2), -FURZELADLE_SHORT_SLICE);
+    expect("nothing changed", memcmp(s, good, sizeof s), 0);
+    expect_pair("nor the pair", pair, 7, 7, 7);
+}
+
+int main(void)
+{
+    worked();
+    damaged();
+    if (failures == 0)
+        printf("session.c: ok\n");
+    return failures != 0;
+}

@@ -1,0 +1,117 @@
+//! What demand 3 asks of a whole session, judged by the plain double loop over both tables.
+use crate::model::qualifies;
+use furzeladle::{Pair, Query};
+use std::collections::HashSet;
+
+/// What is wrong with a session.
+#[derive(Clone, Copy, Debug, PartialEq, Eq, Hash)]
+pub enum Fault {
+    NoSuchRow,
+    FarApart,
+    WrongSum,
+    Repeated,
+    BetterLeft,
+    FinishedEarly,
+    TooDeep,
+}
+
+/// What came out of a session, in order, whether it said finished, and its depths at the end.
+#[derive(Clone, Debug, Default)]
+pub struct Session {
+    pub given: Vec<Pair>,
+    pub finished: bool,
+    pub depth: (u32, u32),
+}
+
+pub struct Tables<'a> {
+    pub query: Query,
+    pub field: &'a [i32],
+    pub trim: &'a [i32],
+}
+
+impl Tables<'_> {
+    fn rows(t: &[i32]) -> impl Iterator<Item = &[i32]> {
+        t.chunks(4)
+    }
+
+    /// All qualifying pairs of the first p field rows and q trim rows, highest sum first.
+    pub fn pairs(&self, p: usize, q: usize) -> Vec<Pair> {
+        let mut all = Vec::new();
+        for (i, x) in Self::rows(self.field).take(p).enumerate() {
+            for (j, y) in Self::rows(self.trim).take(q).enumerate() {
+                if qualifies(self.query.radius, x, y) {
+                    let sum = (x[1] + y[1]) as u32;
+                    all.push(Pair { sum, field: i as u32 + 1, trim: j as u32 + 1 });
+                }
+            }
+        }
+        all.sort_by_key(|p| std::cmp::Reverse(p.sum));
+        all
+    }
+
+    pub fn counts(&self) -> (usize, usize) {
+        (self.field.len() / 4, self.trim.len() / 4)
+    }
+
+    /// Whether reading (p, q) is sure of k, by the closed form.
+    pub fn sure(&self, p: usize, q: usize) -> bool {
+        let (m, n) = self.counts();
+        if m == 0 || n == 0 || (p == m && q == n) {
+            return true;
+        }
+        if p == 0 || q == 0 {
+            return false;
+        }
+        let score = |t: &[i32], i: usize| t[4 * i + 1] as u32;
+        let trim_part = if q < n { score(self.field, 0) + score(self.trim, q - 1) } else { 0 };
+        let field_part = if p < m { score(self.field, p - 1) + score(self.trim, 0) } else { 0 };
+        let ceiling = trim_part.max(field_part);
+        let secured = self.pairs(p, q).iter().filter(|pair| pair.sum >= ceiling).count();
+        secured >= self.query.k as usize
+    }
+
+    /// The least max(p, q) of a sure reading: more rows keep a reading sure.
+    pub fn least_sure(&self) -> usize {
+        let (m, n) = self.counts();
+        (0..).find(|&d| self.sure(d.min(m), d.min(n))).unwrap()
+    }
+
+    /// The row limit against a sure reading of that max(p, q).
+    pub fn limit(&self, sure: usize) -> u32 {
+        sure as u32 + self.query.block - 1
+    }
+
+    /// The first fault of a session, if it has one.
+    pub fn judge(&self, session: &Session, limit: u32) -> Option<Fault> {
+        let (m, n) = self.counts();
+        let all = self.pairs(m, n);
+        let mut out = HashSet::new();
+        for pair in &session.given {
+            let (i, j) = (pair.field as usize, pair.trim as usize);
+            if !(1..=m).contains(&i) || !(1..=n).contains(&j) {
+                return Some(Fault::NoSuchRow);
+            }
+            let (x, y) = (&self.field[4 * i - 4..4 * i], &self.trim[4 * j - 4..4 * j]);
+            if !qualifies(self.query.radius, x, y) {
+                return Some(Fault::FarApart);
+            }
+            if pair.sum != (x[1] + y[1]) as u32 {
+                return Some(Fault::WrongSum);
+            }
+            if !out.insert((i, j)) {
+                return Some(Fault::Repeated);
+            }
+            let left = all.iter().find(|p| !out.contains(&(p.field as usize, p.trim as usize)));
+            if left.is_some_and(|p| p.sum > pair.sum) {
+                return Some(Fault::BetterLeft);
+            }
+        }
+        if session.finished && out.len() < all.len().min(self.query.k as usize) {
+            return Some(Fault::FinishedEarly);
+        }
+        if session.depth.0 > limit || session.depth.1 > limit {
+            return Some(Fault::TooDeep);
+        }
+        None
+    }
+}
