@@ -11,6 +11,7 @@ ghost use Rattle.lists.specs.Words.{Ordered};
 ghost use Rattle.rules.specs.Tables.{row, qualifies, pairAt, qualifying, ahead};
 ghost use Rattle.held.specs.Held.{Tidy, listOf, heldOf};
 ghost use Rattle.block.specs.Block.{at, Rows, metRow};
+ghost use Rattle.block.specs.Near.{rowNear, anyNear};
 
 // Whether row i + 1 of x and row j + 1 of y lie within the radius.
 fn near(radius: u32, x: &[i32], i: usize, y: &[i32], j: usize) -> bool
@@ -20,6 +21,37 @@ fn near(radius: u32, x: &[i32], i: usize, y: &[i32], j: usize) -> bool
     let p = tables::shade(x, i);
     let q = tables::shade(y, j);
     distance::qualifies(radius, p, q)
+}
+
+// Whether row i + 1 of x lies near any row of y. It looks at all of them: no branch stands in the loop.
+fn row_near(radius: u32, x: &[i32], i: usize, y: &[i32]) -> bool
+    requires { ⌜ 4 * i + 4 ≤ length (now x) ⌝ }
+    ensures { λ r. ⌜ r ≡ rowNear radius (now (x .entry)) (now (y .entry)) i (length (now (y .entry)) / 4) ⌝ }
+{
+    let n = y.len() / 4;
+    let mut seen = false;
+    let mut j: usize = 0;
+    while j < n {
+        let here = near(radius, x, i, y, j);
+        seen = seen | here;
+        j += 1;
+    }
+    seen
+}
+
+// Whether any row of x lies near any row of y.
+pub fn any_near(radius: u32, x: &[i32], y: &[i32]) -> bool
+    ensures { λ r. ⌜ r ≡ anyNear radius (now (x .entry)) (now (y .entry)) (length (now (x .entry)) / 4) ⌝ }
+{
+    let m = x.len() / 4;
+    let mut seen = false;
+    let mut i: usize = 0;
+    while i < m {
+        let here = row_near(radius, x, i, y);
+        seen = seen | here;
+        i += 1;
+    }
+    seen
 }
 
 // The pair of row i + 1 of x and row j + 1 of y; a and c rows stand before x and y in their tables.

@@ -2,3 +2,4 @@ pub mod Ready
 pub mod Side
 pub mod Meets
 pub mod Due
+pub mod Effect

@@ -16,6 +16,7 @@ ghost use Rattle.rules.specs.Read.{scoreDrop, fieldNext, skipped, meet, rowsBet
 ghost use Rattle.laws.specs.Sizes.{Lent};
 ghost use Rattle.block.specs.Block.{at, Rows};
 ghost use Rattle.reading.specs.Ready.{Ready, meetParts};
+ghost use Rattle.reading.specs.Effect.{Effect, EffectParts};
 ghost use Rattle.reading.specs.Side.{Due, readSide, sideStep};
 
 // How far a table's score has dropped from its first row to the last row read.
@@ -157,6 +158,54 @@ fn meet_parts(
     meet_pair(s, &other[k..l], c, &own[i..j], a)
 }
 
+// What a block pair comes to: 0, it is skipped; 1, it is joined, and no pair of it qualifies; 2, it is to be looked at
+// pair by pair. Only small blocks are tried for 1. `full` says that k pairs are held or out, `low` is the lowest held sum.
+fn effect(full: bool, low: u32, radius: u32, x: &[i32], y: &[i32]) -> u64
+    requires { ⌜ (4 ≤ length (now x)) × (4 ≤ length (now y)) ⌝ }
+    ensures { λ r. ⌜ Effect full low radius (now (x .entry)) (now (y .entry)) r ⌝ }
+{
+    let first = tables::score(x, 0);
+    let second = tables::score(y, 0);
+    if full & (first + second < low) {
+        return 0;
+    }
+    if 128 < x.len() {
+        return 2;
+    }
+    if block::any_near(radius, x, y) {
+        return 2;
+    }
+    1
+}
+
+// The effect of rows a + 1 to e of one table and rows c + 1 to g of the other; the flag says whether the first are of
+// the field table.
+fn effect_parts(
+    field: bool,
+    full: bool,
+    low: u32,
+    radius: u32,
+    own: &[i32],
+    a: usize,
+    e: usize,
+    other: &[i32],
+    c: usize,
+    g: usize,
+) -> u64
+    requires { ⌜ (a < e) × (e ≤ 65535) × (4 * e ≤ length (now own)) ⌝ }
+    requires { ⌜ (c < g) × (g ≤ 65535) × (4 * g ≤ length (now other)) ⌝ }
+    ensures { λ r. ⌜ EffectParts field full low radius (rowsBetween (now (own .entry)) a e) (rowsBetween (now (other .entry)) c g) r ⌝ }
+{
+    let i = 4 * a;
+    let j = 4 * e;
+    let k = 4 * c;
+    let l = 4 * g;
+    if field {
+        return effect(full, low, radius, &own[i..j], &other[k..l]);
+    }
+    effect(full, low, radius, &other[k..l], &own[i..j])
+}
+
 // The new block, rows a + 1 to e of one table, meets the first n blocks of the other table, down to its depth.
 fn meet_blocks(
     field: bool,
@@ -179,7 +228,15 @@ fn meet_blocks(
     let mut i: usize = 0;
     while i < n {
         let g = lesser(c + block, depth);
-        r = meet_parts(field, r, own, a, e, other, c, g);
+        let full = r.out + r.held == r.query.k;
+        let last = (r.held as usize + 63) % 64;
+        let low = r.pairs[last].sum;
+        let w = effect_parts(field, full, low, r.query.radius, own, a, e, other, c, g);
+        if w == 2 {
+            r = meet_parts(field, r, own, a, e, other, c, g);
+        } else {
+            r.joined = r.joined + w;
+        }
         c = c + block;
         i += 1;
     }

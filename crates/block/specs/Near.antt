@@ -1,0 +1,55 @@
+-- Whether any pair of two blocks qualifies, in the code's own shape, and what it says of the qualifying pairs. Assumes
+-- nothing.
+use mathlib.Core.Path.{_≡_, refl, sym, ap, ap₂, _∙_}
+use mathlib.Core.Bool.{Bool, true, false, _||_}
+use mathlib.Core.List.{List, [], _∷_, _++_, map}
+use Prim.Native.Nat.{ℕ, zero, suc, _+_}
+use native.Mathlib.Omega.{arith}
+use lib.IntN.{ℤ}
+use Rattle.lists.specs.Lists.{consIf, keep, range, each}
+use Rattle.lists.specs.Appends.{keep-append, each-append, range-end}
+use Rattle.lists.specs.Bools.{none-true}
+use Rattle.rules.specs.declared.Pair.{Pair}
+use Rattle.rules.specs.Tables.{Block, row, rowCount, qualifies, pairAt, qualifying}
+
+-- row i + 1 of x and one of the first rows of y
+unfoldable pub rowNear : ℕ → List ℤ → List ℤ → ℕ → ℕ → Bool
+rowNear radius x y i zero = false
+rowNear radius x y i (suc j) = rowNear radius x y i j || qualifies radius (row x i .shade) (row y j .shade)
+
+-- one of the first rows of x and a row of y
+unfoldable pub anyNear : ℕ → List ℤ → List ℤ → ℕ → Bool
+anyNear radius x y zero = false
+anyNear radius x y (suc i) = anyNear radius x y i || rowNear radius x y i (rowCount y)
+
+module _ (radius : ℕ) (x y : Block) where
+  abbrev test : ℕ → ℕ → Bool
+  test i j = qualifies radius (row (x .rows) i .shade) (row (y .rows) j .shade)
+
+  none-kept : (i n : ℕ) → rowNear radius (x .rows) (y .rows) i n ≡ false → keep (test i) (range 0 n) ≡ []
+  unfolding rowNear keep range consIf
+  none-kept i zero h = refl
+  none-kept i (suc n) h =
+      let both = none-true (rowNear radius (x .rows) (y .rows) i n) (test i n) h in
+      let e : 0 + n ≡ n = omega arith in
+      ap (keep (test i)) (range-end 0 n ∙ ap (λ (m : ℕ). range 0 n ++ m ∷ []) e)
+      ∙ keep-append (test i) (range 0 n) (n ∷ [])
+      ∙ ap₂ (λ (k l : List ℕ). k ++ l) (none-kept i n (both .0)) (ap (λ (b : Bool). consIf b n []) (both .1))
+
+  abbrev ofRow : ℕ → List Pair
+  ofRow i = map (pairAt x y i) (keep (test i) (range 0 (rowCount (y .rows))))
+
+  none-of : (n : ℕ) → anyNear radius (x .rows) (y .rows) n ≡ false → each ofRow (range 0 n) ≡ []
+  unfolding anyNear each range
+  none-of zero h = refl
+  none-of (suc n) h =
+      let both = none-true (anyNear radius (x .rows) (y .rows) n) (rowNear radius (x .rows) (y .rows) n (rowCount (y .rows))) h in
+      let e : 0 + n ≡ n = omega arith in
+      ap (each ofRow) (range-end 0 n ∙ ap (λ (m : ℕ). range 0 n ++ m ∷ []) e)
+      ∙ each-append ofRow (range 0 n) (n ∷ [])
+      ∙ ap₂ (λ (k l : List Pair). k ++ l) (none-of n (both .0))
+      (ap (λ (k : List ℕ). map (pairAt x y n) k ++ []) (none-kept n (rowCount (y .rows)) (both .1)))
+
+  pub none-qualify : anyNear radius (x .rows) (y .rows) (rowCount (x .rows)) ≡ false → qualifying radius x y ≡ []
+  unfolding qualifying
+  none-qualify h = none-of (rowCount (x .rows)) h

@@ -1,0 +1,136 @@
+-- What a block pair comes to before it is looked at pair by pair: skipped, or joined with no qualifying pair. Such a pair
+-- changes nothing but the joined count. Assumes nothing.
+use mathlib.Core.Path.{_≡_, refl, sym, ap, _∙_}
+use mathlib.Core.Bool.{Bool, true, false, cond, _&&_}
+use mathlib.Core.List.{List, [], _++_, append-nil}
+use Prim.Native.Nat.{ℕ, zero, suc, _+_, _-_, _%_, _≤_, _<_}
+use native.Mathlib.Omega.{arith}
+use lib.Dec.{ltb, eqb}
+use lib.IntN.{ℤ}
+use lib.ListN.{length, getD, take, replicate, length-append, length-replicate}
+use lib.Seq.{take-all}
+use borrow.Author.Tests.{eqb-true}
+use Rattle.lists.specs.Lists.{sort}
+use Rattle.lists.specs.Sorts.{ordered-sort}
+use Rattle.rules.specs.declared.Pair.{Pair}
+use Rattle.rules.specs.declared.Session.{Session}
+use Rattle.rules.specs.Tables.{Block, rowCount, qualifying, ahead}
+use Rattle.rules.specs.Session.{noPair, places, heldPairs, firstScore}
+use Rattle.rules.specs.Read.{lowest, skipped, bestHeld, holding, meet}
+use Rattle.block.specs.Near.{anyNear, none-qualify}
+use Rattle.reading.specs.Ready.{Ready}
+use Rattle.reading.specs.Meets.{lowest-held}
+
+abbrev pub skips : Bool → ℕ → List ℤ → List ℤ → Bool
+skips full low x y = full && ltb (firstScore x + firstScore y) low
+
+pub record Effect (full : Bool) (low radius : ℕ) (x y : List ℤ) (r : ℕ) : Type 0 where
+  pub skip : r ≡ 0 → skips full low x y ≡ true
+  pub quiet : r ≡ 1 → (skips full low x y ≡ false) × (anyNear radius x y (rowCount x) ≡ false)
+  pub most : r ≤ 2
+
+module _ (full : Bool) (low radius : ℕ) (x y : List ℤ) where
+  pub effect-skip : skips full low x y ≡ true → Effect full low radius x y 0
+  effect-skip h = record { skip = λ e. h; quiet = λ e. absurd (omega (arith, e)); most = omega arith }
+
+  pub effect-quiet : skips full low x y ≡ false → anyNear radius x y (rowCount x) ≡ false → Effect full low radius x y 1
+  effect-quiet h k = record { skip = λ e. absurd (omega (arith, e)); quiet = λ e. (h, k); most = omega arith }
+
+  pub effect-open : Effect full low radius x y 2
+  effect-open = record { skip = λ e. absurd (omega (arith, e)); quiet = λ e. absurd (omega (arith, e)); most = omega arith }
+
+-- of a new block and an old one, as field and trim
+abbrev pub EffectParts : Bool → Bool → ℕ → ℕ → Block → Block → ℕ → Type 0
+EffectParts field full low radius new old r = Effect full low radius (cond field new old .rows) (cond field old new .rows) r
+
+-- so many block pairs more are joined
+unfoldable pub counted : Session → ℕ → Session
+counted s w =
+    record {
+      query = s .query;
+      rows = s .rows;
+      depth = s .depth;
+      last = s .last;
+      out = s .out;
+      held = s .held;
+      pairs = s .pairs;
+      joined = s .joined + w;
+    }
+
+module _ (s : Session) (r : Ready s) where
+  -- a record that is ready has 64 places
+  pub ready-places : length (s .pairs) ≡ 64
+  unfolding places
+  ready-places =
+      let l = heldPairs s in
+      ap length (r .zeros)
+      ∙ (length-append l (replicate (64 - length l) noPair)
+      ∙ omega (arith, length-replicate (64 - length l) noPair, r .count, r .room, r .query .k .1))
+
+  -- no qualifying pair: the same pairs are held
+  same-held : bestHeld s [] ≡ heldPairs s
+  unfolding bestHeld
+  same-held =
+      ap (take (s .query .k - s .out)) (ap (sort ahead) (append-nil (heldPairs s)) ∙ ordered-sort ahead (heldPairs s) (r .order))
+      ∙ take-all (s .query .k - s .out) (heldPairs s) (omega (arith, r .count, r .room))
+
+  holding-same : holding s (heldPairs s) ≡ counted s 1
+  unfolding holding counted
+  holding-same =
+      λ i.
+      record {
+        query = s .query;
+        rows = s .rows;
+        depth = s .depth;
+        last = s .last;
+        out = s .out;
+        held = r .count i;
+        pairs = sym (r .zeros) i;
+        joined = s .joined + 1;
+      }
+
+  counted-none : counted s 0 ≡ s
+  unfolding counted
+  counted-none =
+      let e : s .joined + 0 ≡ s .joined = omega arith in
+      λ i.
+      record {
+        query = s .query;
+        rows = s .rows;
+        depth = s .depth;
+        last = s .last;
+        out = s .out;
+        held = s .held;
+        pairs = s .pairs;
+        joined = e i;
+      }
+
+  -- the code's test of a skipped block pair: the lowest held sum stands in the place before the first that is free
+  pub skips-is : (x y : Block) → skips (eqb (s .out + s .held) (s .query .k)) (getD (s .pairs) ((s .held + 63) % 64) noPair .sum) (x .rows) (y .rows) ≡ skipped s x y
+  unfolding skipped
+  skips-is x y = go (eqb (s .out + s .held) (s .query .k)) refl
+    where
+      go : (b : Bool) → eqb (s .out + s .held) (s .query .k) ≡ b
+          → (b && ltb (firstScore (x .rows) + firstScore (y .rows)) (getD (s .pairs) ((s .held + 63) % 64) noPair .sum)) ≡ (b && ltb (firstScore (x .rows) + firstScore (y .rows)) (lowest (heldPairs s)))
+      go false e = refl
+      go true e =
+          let full : s .out + s .held ≡ s .query .k = eqb-true (s .out + s .held) (s .query .k) e in
+          let some : 0 < s .held = omega (arith, r .wanted) in
+          let fit : s .held ≤ length (s .pairs) = omega (arith, ready-places, r .room, r .query .k .1) in
+          let i : (s .held + 63) % 64 ≡ s .held - 1 = omega (arith, r .room, r .query .k .1) in
+          ap (λ (n : ℕ). ltb (firstScore (x .rows) + firstScore (y .rows)) n)
+          (ap (λ (j : ℕ). getD (s .pairs) j noPair .sum) i ∙ sym (lowest-held s r fit some))
+
+  pub effect-counts : (x y : Block) (w : ℕ)
+      → Effect (eqb (s .out + s .held) (s .query .k)) (getD (s .pairs) ((s .held + 63) % 64) noPair .sum) (s .query .radius) (x .rows) (y .rows) w
+      → (w ≡ 2 → ⊥) → counted s w ≡ meet s x y
+  unfolding meet
+  effect-counts x y zero f h = counted-none ∙ sym (ap (λ (b : Bool). cond b s (holding s (bestHeld s (qualifying (s .query .radius) x y)))) (sym (skips-is x y) ∙ f .skip refl))
+  effect-counts x y (suc zero) f h =
+      let q = f .quiet refl in
+      sym
+      (ap (λ (b : Bool). cond b s (holding s (bestHeld s (qualifying (s .query .radius) x y)))) (sym (skips-is x y) ∙ q .0)
+      ∙ ap (λ (l : List Pair). holding s (bestHeld s l)) (none-qualify (s .query .radius) x y (q .1))
+      ∙ ap (holding s) same-held
+      ∙ holding-same)
+  effect-counts x y (suc (suc w)) f h = absurd (h (omega (arith, f .most)))
