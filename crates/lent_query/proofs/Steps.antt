@@ -55,10 +55,10 @@ turn f t s r p called answered n k out next target h w i j =
     let rest = listNumbers f t later in
     let o : 3 + 6 * (n + 1) ≡ 3 + 6 * n + 6 = omega arith in (
       ap (putAt (3 + 6 * (n + 1)) rest) w
-      ∙ ap (λ (m : ℕ). putAt m rest (putAt (3 + 6 * n) (pairNumbers f t p) out)) (o ∙ ap (λ (m : ℕ). 3 + 6 * n + m) (sym (six f t p)))
-      ∙ sym (put-on (3 + 6 * n) (pairNumbers f t p) rest out)
-      ∙ ap (λ (l : List Pair). putAt (3 + 6 * n) (listNumbers f t l) out) (sym one)
-      ∙ i,
+          ∙ ap (λ (m : ℕ). putAt m rest (putAt (3 + 6 * n) (pairNumbers f t p) out)) (o ∙ ap (λ (m : ℕ). 3 + 6 * n + m) (sym (six f t p)))
+          ∙ sym (put-on (3 + 6 * n) (pairNumbers f t p) rest out)
+          ∙ ap (λ (l : List Pair). putAt (3 + 6 * n) (listNumbers f t l) out) (sym one)
+          ∙ i,
       omega arith,
     )
 
@@ -82,7 +82,7 @@ list-put q f t s n out a b es ea en eb =
     let r = settledSession q f t in (
       en ∙ ap length taken,
       eb
-      ∙ ap (λ (l : List Pair). putAt 3 (listNumbers f t l) a) taken
-      ∙ ap (putAt 3 numbers) (ea ∙ ap (λ (x : Session). putAt 0 (x .depth .field .0 ∷ x .depth .trim .0 ∷ x .joined ∷ []) out) es)
-      ∙ sym (then-three 0 (r .depth .field .0) (r .depth .trim .0) (r .joined) numbers out),
+          ∙ ap (λ (l : List Pair). putAt 3 (listNumbers f t l) a) taken
+          ∙ ap (putAt 3 numbers) (ea ∙ ap (λ (x : Session). putAt 0 (x .depth .field .0 ∷ x .depth .trim .0 ∷ x .joined ∷ []) out) es)
+          ∙ sym (then-three 0 (r .depth .field .0) (r .depth .trim .0) (r .joined) numbers out),
     )

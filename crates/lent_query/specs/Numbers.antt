@@ -2,7 +2,7 @@
 use mathlib.Core.Path.{_≡_}
 use mathlib.Core.Bool.{Bool, true, false, cond, _&&_}
 use mathlib.Core.List.{List, [], _∷_, _++_}
-use Prim.Native.Nat.{ℕ, _+_, _-_}
+use Prim.Native.Nat.{ℕ, _+_, _-_, _≤_}
 use lib.Dec.{leb, eqb}
 use lib.IntN.{ℤ, pos, negℤ}
 use lib.ListN.{length, getD}
@@ -13,6 +13,7 @@ use Rattle.rules.specs.Tables.{row, squaredDistance}
 use Rattle.rules.specs.Calls.{openCode, readCall}
 use Rattle.rules.specs.Query.{settledSession, list}
 use Rattle.printing.specs.Put.{putAt}
+use Rattle.lent_query.specs.declared.Found.{Found}
 
 -- of a pair: its sum, its two rows, their pattern numbers, the squared distance
 unfoldable pub pairNumbers : List ℤ → List ℤ → Pair → List ℕ
@@ -51,3 +52,10 @@ lentQueryAnswer l f t out =
 -- the lent numbers after it: from the front the answer's, the rest as it was; refused, all as it was
 unfoldable pub lentQueryNumbers : List ℕ → List ℤ → List ℤ → List ℕ → List ℕ
 lentQueryNumbers l f t out = cond (eqb (lentQueryCode l f t out) 0) (putAt 0 (queryNumbers (queryOf l) f t) out) out
+
+-- what the code answers: the number, and the count that goes with none
+pub record FoundBy (l : List ℕ) (f t : List ℤ) (out : List ℕ) (r : Found) : Type 0 where
+  pub code : r .code ≡ lentQueryCode l f t out
+  pub small : r .code ≤ 11
+  pub few : r .count ≤ 64
+  pub count : r .code ≡ 0 → r .count ≡ length (list (queryOf l) f t)

@@ -7,11 +7,11 @@ use rules::Session;
 ghost use mathlib.Core.Path.{_≡_};
 ghost use mathlib.Core.List.{[], _∷_};
 ghost use Prim.Native.Nat.{_+_, _≤_, _<_};
-ghost use lib.ListN.{length};
+ghost use lib.ListN.{length, getD};
 ghost use Rattle.rules.specs.Query.{takeUntilFinished, settledSession, list};
 ghost use Rattle.printing.specs.Put.{putAt};
 ghost use Rattle.listing.specs.Inside.{Inside};
-ghost use Rattle.lent_query.specs.Numbers.{pairNumbers, listNumbers, queryNumbers, queryOf, lentCode, lentQueryCode};
+ghost use Rattle.lent_query.specs.Numbers.{pairNumbers, listNumbers, queryNumbers, queryOf, lentCode, lentQueryNumbers, FoundBy};
 
 const SHORT_SLICE: u32 = 11;
 
@@ -89,6 +89,62 @@ fn put_list(out: &mut [u64], q: Query, f: &[i32], t: &[i32], s: Session) -> usiz
     ensures { λ r. ⌜ (r ≤ 64) × (r ≡ length (list q (now (f .entry)) (now (t .entry)))) ⌝ }
     ensures { λ _. ⌜ now (out .exit) ≡ putAt 0 (queryNumbers q (now (f .entry)) (now (t .entry))) (now (out .entry)) ⌝ }
 {
-    put_three(out, 0, s.depth.field.0 as u64, s.depth.trim.0 as u64, s.joined);
+    put_three(
+        out,
+        0,
+        s.depth.field.0 as u64,
+        s.depth.trim.0 as u64,
+        s.joined,
+    );
     put_pairs(out, f, t, s)
+}
+
+// The number at place i; 0 where there is none.
+fn number_at(l: &[u32], i: usize) -> u32
+    ensures { λ r. ⌜ r ≡ getD (now (l .entry)) i 0 ⌝ }
+{
+    if i < l.len() {
+        return l[i];
+    }
+    0
+}
+
+fn read_query(l: &[u32]) -> Query
+    ensures { λ r. ⌜ r ≡ queryOf (now (l .entry)) ⌝ }
+{
+    Query {
+        k: number_at(l, 0),
+        block: number_at(l, 1),
+        radius: number_at(l, 2),
+    }
+}
+
+// A refusal's number, 0 where there is none, and how many pairs there are.
+pub struct Found {
+    pub code: u32,
+    pub count: u32,
+}
+
+// One whole query over two lent tables. Refused, no number of `out` changes.
+pub fn whole(query: &[u32], f: &[i32], t: &[i32], out: &mut [u64]) -> Found
+    ensures { λ r. ⌜ FoundBy (now (query .entry)) (now (f .entry)) (now (t .entry)) (now (out .entry)) r ⌝ }
+    ensures { λ _. ⌜ now (out .exit) ≡ lentQueryNumbers (now (query .entry)) (now (f .entry)) (now (t .entry)) (now (out .entry)) ⌝ }
+{
+    let q = read_query(query);
+    let s = listing::settle(q, f, t);
+    let code = code_of(q, f, t, s);
+    if code != 0 {
+        return Found { code, count: 0 };
+    }
+    if !((3 <= query.len()) & (387 <= out.len())) {
+        return Found {
+            code: SHORT_SLICE,
+            count: 0,
+        };
+    }
+    let n = put_list(out, q, f, t, s);
+    Found {
+        code: 0,
+        count: n as u32,
+    }
 }

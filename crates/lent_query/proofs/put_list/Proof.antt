@@ -1,3 +1,5 @@
+-- `put_list` meets its contract. Assumes nothing.
+use Rattle.lent_query.proofs.Steps.{list-put}
 use borrow.Author.Needs.{needs}
 use Rattle.lent_query.proofs.put_list.Statement.{statement}
 use Rattle.lent_query.proofs.put_list.Tie as tie
@@ -6,29 +8,29 @@ use Rattle.lent_query.proofs.put_list.Lts as lts
 use Rattle.lent_query.proofs.put_pairs.Reads as put-pairs-reads
 use Rattle.lent_query.proofs.put_three.Reads as put-three-reads
 
--- src/lib.rt:92:23
 cast-put-three : tie.Need-cast-put-three
 cast-put-three c = search needs
 
--- src/lib.rt:92:47
 cast-put-three-2 : tie.Need-cast-put-three-2
 cast-put-three-2 c = search needs
 
--- src/lib.rt:92:5
 put-three-requires : tie.Need-put-three-requires
 put-three-requires c κs = search needs
 
--- src/lib.rt:93:5
 put-pairs-requires : tie.Need-put-pairs-requires
 put-pairs-requires c κs = search needs
 
--- src/lib.rt:87:1
 same-length : tie.Need-same-length
 same-length c = search needs
 
--- src/lib.rt:87:1
 returns : tie.Need-returns
-returns c = ?
+returns c =
+    let s = c .before .before .before .before .before .before .before .before .before .before .before in
+    let pairs = c .before .before .put-pairs in
+    let three = c .before .before .before .before .before .before .put-three in
+    let end = list-put (s .args .q) (s .args .f .now) (s .args .t .now) (s .args .s) (pairs .result) (s .args .out .now) (three .last .0) (pairs .last .0)
+    (s .pre .1) (three .ensures) (pairs .ensures .0 .1) (pairs .ensures .1) in
+    ((pairs .ensures .0 .0, end .0), end .1)
 
 pub put-list-spec : {M : Type 1} → statement M
 put-list-spec =
