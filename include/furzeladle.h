@@ -37,6 +37,18 @@ int32_t furzeladle_check(const uint8_t *bytes, size_t len, int32_t kind);
  * Numbers beyond the rows are left as they were, and after a refusal all are. */
 int32_t furzeladle_load(const uint8_t *bytes, size_t len, int32_t kind, int32_t *out, size_t room);
 
+/* ---- One whole query over two tables of up to 65,535 rows each
+ *
+ * `query` is k, block and radius. From the front of `out`: field rows read, trim rows read, block pairs joined; then six
+ * numbers a pair, best first: sum, field row, trim row (from 1), field pattern number, trim pattern number, squared
+ * distance. The answer is how many pairs there are (0 to 64), or minus the refusal: 1, 2, 3, 4 at opening, 6 or 7 of a row
+ * that was read, and last 11: fewer than 3 numbers of a query, or fewer than FURZELADLE_QUERY_SIZE lent. Refused, `out` is
+ * as it was; accepted, so are the numbers behind the last pair. Rows that were not read were not looked at. */
+enum { FURZELADLE_QUERY_SIZE = 387 };
+
+int32_t furzeladle_query(const uint32_t *query, size_t query_len, const int32_t *f, size_t f_len, const int32_t *t,
+                         size_t t_len, uint64_t *out, size_t out_len);
+
 #ifdef __cplusplus
 }
 #endif
