@@ -95,6 +95,18 @@ int32_t furzeladle_take(const int32_t *f, size_t f_len, const int32_t *t, size_t
 int32_t furzeladle_show(const int32_t *f, size_t f_len, const int32_t *t, size_t t_len, const uint32_t *session,
                         size_t session_len, uint32_t *place, size_t place_len);
 
+/* ---- One whole query over two tables of up to 65,535 rows each
+ *
+ * `query` is k, block and radius. From the front of `out`: field rows read, trim rows read, block pairs joined; then six
+ * numbers a pair, best first: sum, field row, trim row (from 1), field pattern number, trim pattern number, squared
+ * distance. The answer is how many pairs there are (0 to 64), or minus the refusal: 1, 2, 3, 4 at opening, 6 or 7 of a row
+ * that was read, and last 11: fewer than 3 numbers of a query, or fewer than FURZELADLE_QUERY_SIZE lent. Refused, `out` is
+ * as it was; accepted, so are the numbers behind the last pair. Rows that were not read were not looked at. */
+enum { FURZELADLE_QUERY_SIZE = 387 };
+
+int32_t furzeladle_query(const uint32_t *query, size_t query_len, const int32_t *f, size_t f_len, const int32_t *t,
+                         size_t t_len, uint64_t *out, size_t out_len);
+
 #ifdef __cplusplus
 }
 #endif

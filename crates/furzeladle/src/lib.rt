@@ -9,6 +9,8 @@ ghost use Rattle.file_laws.specs.Sizes.{Within};
 ghost use Rattle.furzeladle.specs.Answers.{numberAndRow, loadSigned};
 use rules::Loaded;
 
+mod whole_query;
+
 // Minus a number.
 fn minus(n: u32) -> i32
     requires { ⌜ n ≤ 10000000 ⌝ }

@@ -71,7 +71,7 @@ fn distance(f: &[i32], t: &[i32], p: Pair) -> u64
 }
 
 // What a pair's line says.
-fn line_of(f: &[i32], t: &[i32], rank: u32, p: Pair) -> Line
+pub fn line_of(f: &[i32], t: &[i32], rank: u32, p: Pair) -> Line
     requires { ⌜ Inside (now f) (now t) p ⌝ }
     ensures { λ r. ⌜ r ≡ lineOf (now (f .entry)) (now (t .entry)) rank p ⌝ }
 {

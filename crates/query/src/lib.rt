@@ -18,7 +18,7 @@ const CUT_FILE: u32 = 8;
 const BAD_COLUMN: u32 = 9;
 
 // The refusal's number that goes with an answer; 0 where none does.
-fn number_of(a: Answer) -> u32
+pub fn number_of(a: Answer) -> u32
     ensures { λ r. ⌜ r ≡ number a ⌝ }
 {
     match a {

@@ -95,10 +95,11 @@ loop-again c =
     let told = c .before .before .before .before .before .before .before .answer .given in
     let line = c .before .before .before .before .before .line-of in
     let put = c .before .before .before .put-line in
+    let more : l .n < 64 = omega (arith, at .before .loop-test .taken) in
     let f = s .f .now in
     let t = s .t .now in
     let go = turn f t (l .left) (at .take .result) (told .0 .0) (at .take .ensures) (told .1) (l .inv .2) (s .at) (l .n) _ (line .result) (l .out) (put .last .0) _
-    (at .before .loop-test .taken) (line .ensures) (put .ensures) (l .inv .3) (l .inv .4) in (
+    more (line .ensures) (put .ensures) (l .inv .3) (l .inv .4) in (
       omega (arith, at .before .loop-test .taken),
       put .kept .0 ∙ l .inv .1,
       next-long f t (l .left) (at .take .result) (told .0 .0) (at .take .ensures) (told .1) (l .inv .2),

@@ -1,0 +1,61 @@
+-- One whole query over two lent tables, its answer as numbers: definitions. Assumes nothing.
+use mathlib.Core.Path.{_≡_}
+use mathlib.Core.Bool.{Bool, true, false, cond, _&&_}
+use mathlib.Core.List.{List, [], _∷_, _++_}
+use Prim.Native.Nat.{ℕ, _+_, _-_, _≤_}
+use lib.Dec.{leb, eqb}
+use lib.IntN.{ℤ, pos, negℤ}
+use lib.ListN.{length, getD}
+use Rattle.rules.specs.declared.Pair.{Pair}
+use Rattle.rules.specs.declared.Query.{Query}
+use Rattle.rules.specs.Numbers.{unless, first, number, shortSlice}
+use Rattle.rules.specs.Tables.{row, squaredDistance}
+use Rattle.rules.specs.Calls.{openCode, readCall}
+use Rattle.rules.specs.Query.{settledSession, list}
+use Rattle.printing.specs.Put.{putAt}
+use Rattle.lent_query.specs.declared.Found.{Found}
+
+-- of a pair: its sum, its two rows, their pattern numbers, the squared distance
+unfoldable pub pairNumbers : List ℤ → List ℤ → Pair → List ℕ
+pairNumbers f t p =
+    let x = row f (p .field - 1) in
+    let y = row t (p .trim - 1) in
+    p .sum ∷ p .field ∷ p .trim ∷ x .pattern ∷ y .pattern ∷ squaredDistance (x .shade) (y .shade) ∷ []
+
+unfoldable pub listNumbers : List ℤ → List ℤ → List Pair → List ℕ
+listNumbers f t [] = []
+listNumbers f t (p ∷ l) = pairNumbers f t p ++ listNumbers f t l
+
+-- field rows read, trim rows read, block pairs joined; then the list, six numbers a pair
+unfoldable pub queryNumbers : Query → List ℤ → List ℤ → List ℕ
+queryNumbers q f t =
+    let s = settledSession q f t in
+    s .depth .field .0 ∷ s .depth .trim .0 ∷ s .joined ∷ listNumbers f t (list q f t)
+
+-- a query as numbers: k, block, radius. One that is not there is 0 until the lengths are checked.
+unfoldable pub queryOf : List ℕ → Query
+queryOf l = record { k = getD l 0 0; block = getD l 1 0; radius = getD l 2 0 }
+
+-- 1, 2, 3, 4 at opening, then the refusal that ended the reading, if one did
+unfoldable pub lentCode : Query → List ℤ → List ℤ → ℕ
+lentCode q f t = first (openCode q f t) (number (readCall f t (settledSession q f t) .answer))
+
+-- last 11: three numbers of a query are lent, and room for three numbers and 64 pairs
+unfoldable pub lentQueryCode : List ℕ → List ℤ → List ℤ → List ℕ → ℕ
+lentQueryCode l f t out = first (lentCode (queryOf l) f t) (unless (leb 3 (length l) && leb 387 (length out)) shortSlice)
+
+-- how many pairs there are, or minus the refusal's number
+unfoldable pub lentQueryAnswer : List ℕ → List ℤ → List ℤ → List ℕ → ℤ
+lentQueryAnswer l f t out =
+    cond (eqb (lentQueryCode l f t out) 0) (pos (length (list (queryOf l) f t))) (negℤ (pos (lentQueryCode l f t out)))
+
+-- the lent numbers after it: from the front the answer's, the rest as it was; refused, all as it was
+unfoldable pub lentQueryNumbers : List ℕ → List ℤ → List ℤ → List ℕ → List ℕ
+lentQueryNumbers l f t out = cond (eqb (lentQueryCode l f t out) 0) (putAt 0 (queryNumbers (queryOf l) f t) out) out
+
+-- what the code answers: the number, and the count that goes with none
+pub record FoundBy (l : List ℕ) (f t : List ℤ) (out : List ℕ) (r : Found) : Type 0 where
+  pub code : r .code ≡ lentQueryCode l f t out
+  pub small : r .code ≤ 11
+  pub few : r .count ≤ 64
+  pub count : r .code ≡ 0 → r .count ≡ length (list (queryOf l) f t)

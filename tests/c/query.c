@@ -1,0 +1,57 @@
+/* furzeladle_query from C: document 01's worked query, the refusals that a whole query can give, and what is left alone. */
+#include "furzeladle.h"
+
+#include <stdio.h>
+#include <string.h>
+
+static const int32_t F[] = {101, 90, 0, 0, 102, 80, 100, 0, 103, 60, 0, 300, 104, 40, 500, 500, 105, 10, 0, 0};
+static const int32_t T[] = {201, 70, 400, 0, 202, 50, 3, 4, 203, 30, 100, 5, 204, 20, 0, 300, 205, 15, 500, 500};
+static int failed, tried;
+
+static void expect(const char *what, long got, long want) {
+    tried++;
+    if (got != want) {
+        failed++;
+        printf("%s: %ld, not %ld\n", what, got, want);
+    }
+}
+
+static int32_t ask(uint32_t k, uint32_t block, uint32_t radius, const int32_t *f, size_t m, uint64_t *out, size_t room) {
+    uint32_t q[3] = {k, block, radius};
+    return furzeladle_query(q, 3, f, m, T, 20, out, room);
+}
+
+int main(void) {
+    static const uint64_t worked[15] = {4, 4, 10, 140, 1, 2, 101, 202, 25, 110, 2, 3, 102, 203, 25};
+    uint64_t out[FURZELADLE_QUERY_SIZE + 1];
+    uint32_t two[2] = {2, 1};
+    int32_t bad[20];
+    memset(out, 0xab, sizeof out);
+    const uint64_t fill = out[0];
+
+    expect("worked", ask(2, 1, 5, F, 20, out, FURZELADLE_QUERY_SIZE), 2);
+    for (int i = 0; i < 15; i++) expect("number", (long)out[i], (long)worked[i]);
+    for (int i = 15; i <= FURZELADLE_QUERY_SIZE; i++) expect("behind", out[i] == fill, 1);
+
+    memset(out, 0xab, sizeof out);
+    expect("k", ask(0, 1, 5, F, 20, out, 0), -FURZELADLE_LIST_LENGTH);
+    expect("block", ask(2, 1025, 5, F, 20, out, 0), -FURZELADLE_BLOCK);
+    expect("radius", ask(2, 1, 40001, F, 20, out, 0), -FURZELADLE_RADIUS);
+    expect("size", ask(2, 1, 5, F, 19, out, 0), -FURZELADLE_TABLE_SIZE);
+    memcpy(bad, F, sizeof bad);
+    bad[4] = 0;
+    expect("row limit", ask(2, 1, 5, bad, 20, out, 0), -FURZELADLE_ROW_LIMIT);
+    bad[4] = 102, bad[5] = 91;
+    expect("row order", ask(2, 1, 5, bad, 20, out, 0), -FURZELADLE_ROW_ORDER);
+    memcpy(bad, F, sizeof bad);
+    bad[16] = 0; /* row 5 is never read */
+    expect("unread row", ask(2, 1, 5, bad, 20, out, FURZELADLE_QUERY_SIZE), 2);
+    memset(out, 0xab, sizeof out);
+    expect("room", ask(2, 1, 5, F, 20, out, FURZELADLE_QUERY_SIZE - 1), -FURZELADLE_SHORT_SLICE);
+    expect("no radius", furzeladle_query(two, 2, F, 20, T, 20, out, FURZELADLE_QUERY_SIZE), -FURZELADLE_SHORT_SLICE);
+    expect("no block", furzeladle_query(two, 1, F, 20, T, 20, out, FURZELADLE_QUERY_SIZE), -FURZELADLE_BLOCK);
+    for (int i = 0; i <= FURZELADLE_QUERY_SIZE; i++) expect("left alone", out[i] == fill, 1);
+    expect("empty", ask(2, 1, 5, F, 0, out, FURZELADLE_QUERY_SIZE), 0);
+    printf("query.c: %d of %d\n", tried - failed, tried);
+    return failed != 0;
+}
