@@ -155,3 +155,17 @@ pub fn run(full: bool, seeds: Option<u64>) {
         measure((3_800, 1_200), query(10, 1, radius), seeds);
     }
 }
+
+/// One query again and again, by one of the two, for a profiler.
+pub fn profile(args: &[String]) {
+    let number = |i: usize| args[i].parse::<u32>().expect("a number");
+    let query = Query { radius: number(3), k: number(4), block: number(5) };
+    let mut dice = Dice(0x9e37_79b9_7f4a_7c15);
+    let (f, t) = (table(&mut dice, number(1) as usize), table(&mut dice, number(2) as usize));
+    for _ in 0..number(6) {
+        match args[0].as_str() {
+            "ours" => drop(black_box(by_library(query, &f, &t))),
+            _ => drop(black_box(by_plain(query, &f, &t, Checks::EveryCall))),
+        }
+    }
+}
