@@ -86,7 +86,7 @@ fn least_of_both<A, B>(mut one: impl FnMut() -> A, mut two: impl FnMut() -> B) -
 }
 
 fn measure(rows: (usize, usize), query: Query, seeds: u64) {
-    let mut columns: [Vec<f64>; 7] = Default::default();
+    let mut columns: [Vec<f64>; 6] = Default::default();
     let mut ratios = Vec::new();
     for seed in 1..=seeds {
         let mut dice = Dice(seed * 0x9e37_79b9_7f4a_7c15);
@@ -100,11 +100,11 @@ fn measure(rows: (usize, usize), query: Query, seeds: u64) {
         assert_eq!(outcome.sums, sums);
         ratios.push(ours / checked);
         let (d, e) = outcome.depth;
-        let row = [f64::from(d + e), tests as f64, outcome.joined as f64, ours, checked, once, sorted];
+        let row = [f64::from(d + e), tests as f64, outcome.joined as f64, ours, once, sorted];
         columns.iter_mut().zip(row).for_each(|(column, value)| column.push(value));
     }
     let (low, high) = spread(&ratios);
-    let [read, tests, joined, ours, checked, once, sorted] = columns.map(median);
+    let [read, tests, joined, ours, once, sorted] = columns.map(median);
     println!(
         "{:>6}x{:<6}{:>6}{:>4}{:>6} |{:>8.0}{:>13.0}{:>10.0} |{:>9.2} | {:.2} ({:.2}-{:.2}){:>8.2}{:>10.4}",
         rows.0,
@@ -122,16 +122,15 @@ fn measure(rows: (usize, usize), query: Query, seeds: u64) {
         ours / once,
         ours / sorted,
     );
-    let _ = checked;
 }
 
-pub fn run(full: bool) {
+pub fn run(full: bool, seeds: Option<u64>) {
     println!("Whole queries, uniform shades and scores; medians of seeds; times are the library's over the other's.");
     println!(
         "  field x trim  radius  k block |    rows   pair tests block p. |  ours ms | same checks      once   join+sort"
     );
     let archive = (38_000, 12_000);
-    let seeds = if full { 7 } else { 3 };
+    let seeds = seeds.unwrap_or(if full { 7 } else { 3 });
     let query = |k, block, radius| Query { k, block, radius };
     if full {
         for radius in [3, 13, 26, 128, 255, 1_000] {
@@ -154,5 +153,19 @@ pub fn run(full: bool) {
     }
     for radius in [26, 255, 1_000] {
         measure((3_800, 1_200), query(10, 1, radius), seeds);
+    }
+}
+
+/// One query again and again, by one of the two, for a profiler.
+pub fn profile(args: &[String]) {
+    let number = |i: usize| args[i].parse::<u32>().expect("a number");
+    let query = Query { radius: number(3), k: number(4), block: number(5) };
+    let mut dice = Dice(0x9e37_79b9_7f4a_7c15);
+    let (f, t) = (table(&mut dice, number(1) as usize), table(&mut dice, number(2) as usize));
+    for _ in 0..number(6) {
+        match args[0].as_str() {
+            "ours" => drop(black_box(by_library(query, &f, &t))),
+            _ => drop(black_box(by_plain(query, &f, &t, Checks::EveryCall))),
+        }
     }
 }

@@ -1,3 +1,4 @@
 pub mod Block
 pub mod Twin
 pub mod Near
+pub mod Full

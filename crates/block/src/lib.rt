@@ -68,7 +68,7 @@ fn pair_at(x: &[i32], a: usize, i: usize, y: &[i32], c: usize, j: usize) -> Pair
     }
 }
 
-// Row i + 1 of x with every row of y.
+// Row i + 1 of x with every row of y. Where the room is used up, a pair that would fall off is not put.
 fn join_row(
     radius: u32,
     room: usize,
@@ -79,7 +79,7 @@ fn join_row(
     c: usize,
     h: Held,
 ) -> Held
-    requires { ⌜ Tidy h room ⌝ }
+    requires { ⌜ Tidy h room × Ordered ahead (listOf h) ⌝ }
     requires { ⌜ Rows a (now x) × Rows c (now y) × (i < length (now x) / 4) ⌝ }
     ensures { λ r. ⌜ r ≡ heldOf (metRow radius room (at a (now (x .entry))) (at c (now (y .entry))) i (listOf h) (length (now (y .entry)) / 4)) ⌝ }
 {
@@ -89,7 +89,11 @@ fn join_row(
     while j < n {
         if near(radius, x, i, y, j) {
             let p = pair_at(x, a, i, y, c, j);
-            g = held::put(g, room, p);
+            let last = (room + 63) % 64;
+            let q = g.pairs[last];
+            if !((g.n == room) & held::is_ahead(q, p)) {
+                g = held::put(g, room, p);
+            }
         }
         j += 1;
     }

@@ -6,8 +6,9 @@ use native.Mathlib.Omega.{arith}
 use lib.ListN.{length}
 use borrow.Author.Needs.{needs}
 use Rattle.held.specs.Held.{listOf, heldOf}
-use Rattle.held.specs.Tidy.{held-tidy, few-held}
+use Rattle.held.specs.Tidy.{list-of-held, held-tidy, few-held}
 use Rattle.block.specs.Block.{at, metRows}
+use Rattle.block.specs.Full.{rows-ordered}
 use Rattle.block.specs.Twin.{rows-few, rows-join, met-is}
 use Rattle.block.proofs.join.Statement.{statement}
 use Rattle.block.proofs.join.Tie as tie
@@ -34,11 +35,15 @@ join-row-requires c κs =
     let v = c .before .loop in
     let x = at (s .args .a) (s .args .x .now) in
     let y = at (s .args .c) (s .args .y .now) in
-    let l = listOf (s .args .h) in (
-      rw (v .inv .2)
-          (held-tidy (metRows (s .args .radius) (s .args .room) x y l (v .i)) (s .args .room)
-          (rows-few (s .args .radius) (s .args .room) x y l (v .i) (few-held (s .args .h) (s .args .room) (s .pre .0 .0)))
-          (s .pre .0 .0 .room-fits)),
+    let l = listOf (s .args .h) in
+    let m = metRows (s .args .radius) (s .args .room) x y l (v .i) in (
+      (
+        rw (v .inv .2)
+            (held-tidy m (s .args .room)
+            (rows-few (s .args .radius) (s .args .room) x y l (v .i) (few-held (s .args .h) (s .args .room) (s .pre .0 .0)))
+            (s .pre .0 .0 .room-fits)),
+        rw (ap listOf (v .inv .2) ∙ list-of-held m) (rows-ordered (s .args .radius) (s .args .room) x y l (v .i) (s .pre .0 .1)),
+      ),
       (s .pre .1 .0, s .pre .1 .1, omega arith),
     )
 
