@@ -13,7 +13,7 @@ use Rattle.rules.specs.declared.Pair.{Pair}
 use Rattle.rules.specs.Tables.{ahead}
 use borrow.Author.Needs.{needs}
 use Rattle.held.specs.Held.{listOf, heldOf}
-use Rattle.held.specs.Tidy.{held-tidy, few-held}
+use Rattle.held.specs.Tidy.{list-of-held, held-tidy, few-held}
 use Rattle.block.specs.Block.{at, metRow}
 use Rattle.block.specs.Full.{off, row-ordered}
 use Rattle.block.specs.Twin.{row-few, row-joins, row-passes}
