@@ -107,6 +107,13 @@ enum { FURZELADLE_QUERY_SIZE = 387 };
 int32_t furzeladle_query(const uint32_t *query, size_t query_len, const int32_t *f, size_t f_len, const int32_t *t,
                          size_t t_len, uint64_t *out, size_t out_len);
 
+/* The same query, its listing as the pairing program prints it: how many bytes, or minus the refusal. 11 is fewer than
+ * FURZELADLE_LISTING_SIZE bytes lent. */
+enum { FURZELADLE_LISTING_SIZE = 2412 };
+
+int32_t furzeladle_listing(const uint32_t *query, size_t query_len, const int32_t *f, size_t f_len, const int32_t *t,
+                           size_t t_len, uint8_t *out, size_t out_len);
+
 #ifdef __cplusplus
 }
 #endif

@@ -52,6 +52,17 @@ int main(void) {
     expect("no block", furzeladle_query(two, 1, F, 20, T, 20, out, FURZELADLE_QUERY_SIZE), -FURZELADLE_BLOCK);
     for (int i = 0; i <= FURZELADLE_QUERY_SIZE; i++) expect("left alone", out[i] == fill, 1);
     expect("empty", ask(2, 1, 5, F, 0, out, FURZELADLE_QUERY_SIZE), 0);
+
+    static const char listing[] = "     2     1     5\n     1   140   101   202          25\n"
+                                  "     2   110   102   203          25\n     4     4          10\n";
+    uint8_t text[FURZELADLE_LISTING_SIZE];
+    const uint32_t q[3] = {2, 1, 5};
+    memset(text, 'x', sizeof text);
+    expect("text room", furzeladle_listing(q, 3, F, 20, T, 20, text, FURZELADLE_LISTING_SIZE - 1), -FURZELADLE_SHORT_SLICE);
+    expect("text left alone", text[0], 'x');
+    expect("listing", furzeladle_listing(q, 3, F, 20, T, 20, text, FURZELADLE_LISTING_SIZE), (long)strlen(listing));
+    expect("text", memcmp(text, listing, strlen(listing)), 0);
+    expect("text behind", text[strlen(listing)], 'x');
     printf("query.c: %d of %d\n", tried - failed, tried);
     return failed != 0;
 }

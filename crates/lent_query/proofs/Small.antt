@@ -17,9 +17,9 @@ use Rattle.rules.specs.Session.{settled}
 use Rattle.rules.specs.Read.{fieldNext, oldDepth, newDepth, readBlock}
 use Rattle.rules.specs.Calls.{step, between, queryCode, sizeCode, openCode, sameSizeCode, rowCode, rowsCode, recordFits, recordCode, callCode, newBlockCode, readCall}
 use Rattle.rules.specs.Calls as Calls
-use Rattle.rules.specs.Query.{list, settledSession}
+use Rattle.rules.specs.Query.{list, listing, settledSession}
 use Rattle.printing.specs.Put.{putAt}
-use Rattle.lent_query.specs.Numbers.{queryNumbers, queryOf, lentCode, lentQueryCode, lentQueryNumbers}
+use Rattle.lent_query.specs.Numbers.{queryNumbers, queryOf, lentCode, lentQueryCode, lentQueryNumbers, lentListingCode, lentListingBytes}
 
 unless-small : (t : Bool) (n : ℕ) → n ≤ 11 → unless t n ≤ 11
 unless-small true n h = omega arith
@@ -96,3 +96,23 @@ module _ (l : List ℕ) (f t : List ℤ) (out : List ℕ) where
       (0 ≡ lentQueryCode l f t out) × (next ≡ lentQueryNumbers l f t out)
   unfolding lentQueryCode lentQueryNumbers
   found next e h w = (simp (e, h), simp (e, h) w)
+
+-- ---- The same of the listing
+
+module _ (l : List ℕ) (f t : List ℤ) (out : List ℕ) where
+  pub listing-refused : (code : ℕ) → code ≡ lentCode (queryOf l) f t → (code ≡ 0 → ⊥) →
+      (code ≡ lentListingCode l f t out) × (out ≡ lentListingBytes l f t out)
+  unfolding lentListingCode lentListingBytes
+  listing-refused code e h =
+      let n : eqb (lentCode (queryOf l) f t) 0 ≡ false = ne-eqb _ _ (λ z. h (e ∙ z)) in
+      (simp n e, simp (n, n))
+
+  pub listing-short : lentCode (queryOf l) f t ≡ 0 → (leb 3 (length l) && leb 2412 (length out)) ≡ false →
+      (11 ≡ lentListingCode l f t out) × (out ≡ lentListingBytes l f t out)
+  unfolding lentListingCode lentListingBytes
+  listing-short e h = (simp (e, h), simp (e, h))
+
+  pub listing-found : (next : List ℕ) → lentCode (queryOf l) f t ≡ 0 → (leb 3 (length l) && leb 2412 (length out)) ≡ true → next ≡ putAt 0 (listing (queryOf l) f t) out →
+      (0 ≡ lentListingCode l f t out) × (next ≡ lentListingBytes l f t out)
+  unfolding lentListingCode lentListingBytes
+  listing-found next e h w = (simp (e, h), simp (e, h) w)

@@ -11,7 +11,7 @@ use Rattle.rules.specs.declared.Query.{Query}
 use Rattle.rules.specs.Numbers.{unless, first, number, shortSlice}
 use Rattle.rules.specs.Tables.{row, squaredDistance}
 use Rattle.rules.specs.Calls.{openCode, readCall}
-use Rattle.rules.specs.Query.{settledSession, list}
+use Rattle.rules.specs.Query.{settledSession, list, listing}
 use Rattle.printing.specs.Put.{putAt}
 use Rattle.lent_query.specs.declared.Found.{Found}
 
@@ -59,3 +59,24 @@ pub record FoundBy (l : List ℕ) (f t : List ℤ) (out : List ℕ) (r : Found) 
   pub small : r .code ≤ 11
   pub few : r .count ≤ 64
   pub count : r .code ≡ 0 → r .count ≡ length (list (queryOf l) f t)
+
+-- ---- The same query, its listing as bytes
+
+-- last 11: three numbers of a query are lent, and room for the longest listing
+unfoldable pub lentListingCode : List ℕ → List ℤ → List ℤ → List ℕ → ℕ
+lentListingCode l f t out = first (lentCode (queryOf l) f t) (unless (leb 3 (length l) && leb 2412 (length out)) shortSlice)
+
+-- how many bytes the listing takes, or minus the refusal's number
+unfoldable pub lentListingAnswer : List ℕ → List ℤ → List ℤ → List ℕ → ℤ
+lentListingAnswer l f t out =
+    cond (eqb (lentListingCode l f t out) 0) (pos (length (listing (queryOf l) f t))) (negℤ (pos (lentListingCode l f t out)))
+
+-- the lent bytes after it
+unfoldable pub lentListingBytes : List ℕ → List ℤ → List ℤ → List ℕ → List ℕ
+lentListingBytes l f t out = cond (eqb (lentListingCode l f t out) 0) (putAt 0 (listing (queryOf l) f t) out) out
+
+pub record ListedBy (l : List ℕ) (f t : List ℤ) (out : List ℕ) (r : Found) : Type 0 where
+  pub code : r .code ≡ lentListingCode l f t out
+  pub small : r .code ≤ 11
+  pub few : r .count ≤ 2412
+  pub count : r .code ≡ 0 → r .count ≡ length (listing (queryOf l) f t)

@@ -11,7 +11,7 @@ ghost use lib.ListN.{length, getD};
 ghost use Rattle.rules.specs.Query.{takeUntilFinished, settledSession, list};
 ghost use Rattle.printing.specs.Put.{putAt};
 ghost use Rattle.listing.specs.Inside.{Inside};
-ghost use Rattle.lent_query.specs.Numbers.{pairNumbers, listNumbers, queryNumbers, queryOf, lentCode, lentQueryNumbers, FoundBy};
+ghost use Rattle.lent_query.specs.Numbers.{pairNumbers, listNumbers, queryNumbers, queryOf, lentCode, lentQueryNumbers, FoundBy, lentListingBytes, ListedBy};
 
 const SHORT_SLICE: u32 = 11;
 
@@ -143,6 +143,30 @@ pub fn whole(query: &[u32], f: &[i32], t: &[i32], out: &mut [u64]) -> Found
         };
     }
     let n = put_list(out, q, f, t, s);
+    Found {
+        code: 0,
+        count: n as u32,
+    }
+}
+
+// The same query, its listing written as bytes: `count` is how many.
+pub fn listed(query: &[u32], f: &[i32], t: &[i32], out: &mut [u8]) -> Found
+    ensures { λ r. ⌜ ListedBy (now (query .entry)) (now (f .entry)) (now (t .entry)) (now (out .entry)) r ⌝ }
+    ensures { λ _. ⌜ now (out .exit) ≡ lentListingBytes (now (query .entry)) (now (f .entry)) (now (t .entry)) (now (out .entry)) ⌝ }
+{
+    let q = read_query(query);
+    let s = listing::settle(q, f, t);
+    let code = code_of(q, f, t, s);
+    if code != 0 {
+        return Found { code, count: 0 };
+    }
+    if !((3 <= query.len()) & (2412 <= out.len())) {
+        return Found {
+            code: SHORT_SLICE,
+            count: 0,
+        };
+    }
+    let n = listing::put_settled(out, q, f, t, s);
     Found {
         code: 0,
         count: n as u32,

@@ -107,16 +107,25 @@ fn put_pairs(out: &mut [u8], at: usize, f: &[i32], t: &[i32], s: Session) -> usi
     n
 }
 
-// The listing, from the front of `out`: how many bytes it takes.
+// The listing of a settled record, from the front of `out`: how many bytes it takes.
+pub fn put_settled(out: &mut [u8], q: Query, f: &[i32], t: &[i32], s: Session) -> usize
+    requires { ⌜ (2412 ≤ length (now out)) × (s ≡ settledSession q (now f) (now t)) ⌝ }
+    ensures { λ r. ⌜ (r ≤ 2412) × (r ≡ length (listing q (now (f .entry)) (now (t .entry)))) ⌝ }
+    ensures { λ _. ⌜ now (out .exit) ≡ putAt 0 (listing q (now (f .entry)) (now (t .entry))) (now (out .entry)) ⌝ }
+{
+    printing::put_query(out, 0, q);
+    let n = put_pairs(out, 19, f, t, s);
+    let end = 19 + 37 * n;
+    printing::put_last(out, end, s);
+    end + 25
+}
+
+// The listing of a query, from the front of `out`: how many bytes it takes.
 pub fn put_listing(out: &mut [u8], q: Query, f: &[i32], t: &[i32]) -> usize
     requires { ⌜ 2412 ≤ length (now out) ⌝ }
     ensures { λ r. ⌜ (r ≤ 2412) × (r ≡ length (listing q (now (f .entry)) (now (t .entry)))) ⌝ }
     ensures { λ _. ⌜ now (out .exit) ≡ putAt 0 (listing q (now (f .entry)) (now (t .entry))) (now (out .entry)) ⌝ }
 {
-    printing::put_query(out, 0, q);
     let s = settle(q, f, t);
-    let n = put_pairs(out, 19, f, t, s);
-    let end = 19 + 37 * n;
-    printing::put_last(out, end, s);
-    end + 25
+    put_settled(out, q, f, t, s)
 }
