@@ -11,7 +11,7 @@ use lib.Signed.{leZ}
 use Rattle.rules.specs.declared.Loaded.{Loaded}
 use Rattle.rules.specs.declared.Loaded.the-variants.{Rows, Unfit}
 use Rattle.rules.specs.Tables.{natOf, inRange}
-use Rattle.rules.specs.Numbers.{tableSize, rowLimit, rowOrder, cutFile, badColumn, wrongKind, unless, first}
+use Rattle.rules.specs.Numbers.{tableSize, rowLimit, rowOrder, cutFile, badColumn, wrongKind, shortSlice, unless, first}
 use Rattle.rules.specs.Calls.{between}
 use Rattle.rules.specs.File.{columns, headerFits, fileCount, rowStart, rowColumnsFit, fileTable, rowsLoaded, kindFits}
 use Rattle.file.specs.declared.Header.{Header}
@@ -72,6 +72,16 @@ heldCode row isFirst before =
 unfoldable pub andRows : List ℕ → Loaded → Loaded
 andRows bytes (Rows n) = rowsLoaded bytes (fileTable bytes n) n
 andRows bytes (Unfit code row) = Unfit code row
+
+-- whether a check passed
+unfoldable pub passes : Loaded → Bool
+passes (Rows n) = true
+passes (Unfit code row) = false
+
+-- "then 11", where it is known whether the slice is too short
+unfoldable pub andShort : Bool → Loaded → Loaded
+andShort short (Rows n) = cond short (Unfit shortSlice 0) (Rows n)
+andShort short (Unfit code row) = Unfit code row
 
 unfoldable pub numbersOf : Row → List ℤ
 numbersOf row = row .pattern ∷ row .score ∷ row .a ∷ row .b ∷ []

@@ -5,9 +5,9 @@ ghost use Prim.Native.Nat.{_+_, _-_, _*_, _≤_, _<_};
 ghost use mathlib.Core.List.{[], _∷_, _++_};
 ghost use lib.ListN.{length, take, drop};
 ghost use Rattle.rules.specs.Tables.{natOf};
-ghost use Rattle.rules.specs.File.{columns, columnFits, columnNumber, rowColumnsFit, rowNumbers, fileTable, rowsLoaded, checkFile, loadAnswer, loadNumbers};
+ghost use Rattle.rules.specs.File.{columns, columnFits, columnNumber, rowColumnsFit, rowNumbers, fileTable, rowsLoaded, checkFile, andSlice, loadAnswer, loadNumbers};
 ghost use Rattle.file.specs.Column.{upTo, byteWorth, stepped, start, scanned, signedWorth, heldOf, columnHeld};
-ghost use Rattle.file.specs.Held.{headerHeld, kindHeld, headAnswer, rowHeld, heldCode, RowsFit};
+ghost use Rattle.file.specs.Held.{headerHeld, kindHeld, headAnswer, rowHeld, heldCode, passes, andShort, RowsFit};
 use rules::Loaded;
 
 // Document 01's numbers for the shed.
@@ -266,15 +266,44 @@ fn check_rows(bytes: &[u8], count: usize) -> Loaded
     Loaded::Rows(count as u32)
 }
 
-// A file checked alone, without a slice: the row count, or the refusal's number and row.
-pub fn check(bytes: &[u8], kind: i32) -> Loaded
-    ensures { λ r. ⌜ r ≡ checkFile (now (bytes .entry)) kind ⌝ }
+// Whether a check passed.
+fn passes(checked: Loaded) -> bool
+    ensures { λ r. ⌜ r ≡ passes checked ⌝ }
+{
+    match checked {
+        Loaded::Rows(_) => true,
+        Loaded::Unfit(_, _) => false,
+    }
+}
+
+// 11 comes last: a file that is refused for its rows is told so, however short the slice.
+fn and_room(checked: Loaded, short: bool) -> Loaded
+    ensures { λ r. ⌜ r ≡ andShort short checked ⌝ }
+{
+    let accepted = passes(checked);
+    if accepted & short {
+        return Loaded::Unfit(SHORT_SLICE, 0);
+    }
+    checked
+}
+
+// What is answered where `room` numbers are lent: by the header, then the rows, then 11.
+fn answer_for(bytes: &[u8], kind: i32, room: usize) -> Loaded
+    ensures { λ r. ⌜ r ≡ andSlice room (checkFile (now (bytes .entry)) kind) ⌝ }
 {
     let head = check_head(bytes, kind);
     let Loaded::Rows(count) = head else {
         return head;
     };
-    check_rows(bytes, count as usize)
+    let checked = check_rows(bytes, count as usize);
+    and_room(checked, room < 4 * (count as usize))
+}
+
+// A file checked alone, as if a slice long enough for every file were lent: the row count, or the refusal's number and row.
+pub fn check(bytes: &[u8], kind: i32) -> Loaded
+    ensures { λ r. ⌜ r ≡ checkFile (now (bytes .entry)) kind ⌝ }
+{
+    answer_for(bytes, kind, 262140)
 }
 
 // Four numbers from place o on.
@@ -320,13 +349,10 @@ pub fn load(bytes: &[u8], kind: i32, out: &mut [i32]) -> Loaded
     ensures { λ r. ⌜ r ≡ loadAnswer (now (bytes .entry)) kind (now (out .entry)) ⌝ }
     ensures { λ _. ⌜ now (out .exit) ≡ loadNumbers (now (bytes .entry)) kind (now (out .entry)) ⌝ }
 {
-    let checked = check(bytes, kind);
-    let Loaded::Rows(count) = checked else {
-        return checked;
+    let answer = answer_for(bytes, kind, out.len());
+    let Loaded::Rows(count) = answer else {
+        return answer;
     };
-    if out.len() < 4 * (count as usize) {
-        return Loaded::Unfit(SHORT_SLICE, 0);
-    }
     put_rows(bytes, count as usize, out);
-    Loaded::Rows(count)
+    answer
 }
