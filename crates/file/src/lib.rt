@@ -3,11 +3,12 @@ ghost use mathlib.Core.Path.{_≡_};
 ghost use mathlib.Core.Bool.{true};
 ghost use Prim.Native.Nat.{_+_, _-_, _*_, _≤_, _<_};
 ghost use mathlib.Core.List.{[], _∷_, _++_};
-ghost use lib.ListN.{length, take, drop};
+ghost use lib.ListN.{length, take, drop, getD};
+ghost use lib.IntN.{pos};
 ghost use Rattle.rules.specs.Tables.{natOf};
 ghost use Rattle.rules.specs.File.{columns, columnFits, columnNumber, rowColumnsFit, rowNumbers, fileTable, rowsLoaded, checkFile, andSlice, loadAnswer, loadNumbers};
 ghost use Rattle.file.specs.Column.{upTo, byteWorth, stepped, start, scanned, signedWorth, heldOf, columnHeld};
-ghost use Rattle.file.specs.Held.{headerHeld, kindHeld, headAnswer, rowHeld, heldCode, passes, andShort, RowsFit};
+ghost use Rattle.file.specs.Held.{headerHeld, kindHeld, headAnswer, rowHeld, heldCode, passes, andShort, numbersOf, RowsFit};
 use rules::Loaded;
 
 // Document 01's numbers for the shed.
@@ -306,15 +307,31 @@ pub fn check(bytes: &[u8], kind: i32) -> Loaded
     answer_for(bytes, kind, 262140)
 }
 
-// Four numbers from place o on.
-fn put_four(out: &mut [i32], o: usize, pattern: i32, score: i32, a: i32, b: i32)
-    requires { ⌜ o + 4 ≤ length (now out) ⌝ }
-    ensures { λ _. ⌜ now (out .exit) ≡ take o (now (out .entry)) ++ (pattern ∷ score ∷ a ∷ b ∷ []) ++ drop (o + 4) (now (out .entry)) ⌝ }
+// A row's number in column j, 0 past its last column.
+fn number_of(row: Row, j: usize) -> i32
+    ensures { λ r. ⌜ r ≡ getD (numbersOf row) j (pos 0) ⌝ }
 {
-    out[o] = pattern;
-    out[o + 1] = score;
-    out[o + 2] = a;
-    out[o + 3] = b;
+    match j {
+        0 => row.pattern,
+        1 => row.score,
+        2 => row.a,
+        3 => row.b,
+        _ => 0,
+    }
+}
+
+// A row's four numbers from place o on. What stands behind them stays.
+fn put_four(out: &mut [i32], o: usize, row: Row)
+    requires { ⌜ o + 4 ≤ length (now out) ⌝ }
+    ensures { λ _. ⌜ now (out .exit) ≡ take o (now (out .entry)) ++ numbersOf row ++ drop (o + 4) (now (out .entry)) ⌝ }
+{
+    let end = o + 4;
+    let mut p = o;
+    while p < end {
+        let number = number_of(row, p - o);
+        out[p] = number;
+        p += 1;
+    }
 }
 
 // Row i + 1, which fits, written to its place.
@@ -328,7 +345,8 @@ fn put_row(bytes: &[u8], i: usize, out: &mut [i32])
     let score = number_at(bytes, o + 6, 6, false);
     let a = number_at(bytes, o + 12, 7, true);
     let b = number_at(bytes, o + 19, 7, true);
-    put_four(out, 4 * i, pattern, score, a, b);
+    let row = Row { fits: true, pattern, score, a, b };
+    put_four(out, 4 * i, row);
 }
 
 // The first `count` rows, which fit, written from the front of `out`.

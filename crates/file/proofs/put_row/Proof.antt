@@ -7,6 +7,7 @@ use lib.ListN.{take, drop}
 use mir.Syntax.{w32}
 use mir.Facts.{toZ-ofZ}
 use Rattle.rules.specs.File.{rowNumbers}
+use Rattle.file.specs.Held.{numbersOf}
 use Rattle.file_laws.specs.Parts.{row-parts}
 use borrow.Author.Needs.{needs, sfits-of}
 use Rattle.file.proofs.put_row.Statement.{statement}
@@ -57,7 +58,7 @@ same-length : tie.Need-same-length
 same-length c = search needs
 
 returns : tie.Need-returns
-unfolding rowNumbers
+unfolding rowNumbers numbersOf
 returns c =
     let w = c .before in
     let s = w .before .before .before .before .before .before .before .args in
