@@ -345,7 +345,13 @@ fn put_row(bytes: &[u8], i: usize, out: &mut [i32])
     let score = number_at(bytes, o + 6, 6, false);
     let a = number_at(bytes, o + 12, 7, true);
     let b = number_at(bytes, o + 19, 7, true);
-    let row = Row { fits: true, pattern, score, a, b };
+    let row = Row {
+        fits: true,
+        pattern,
+        score,
+        a,
+        b,
+    };
     put_four(out, 4 * i, row);
 }
 

@@ -71,9 +71,9 @@ returns-2 c =
     let e : head .result ≡ headAnswer bytes (s .kind) = simp (toZ-ofZ (c .before .before .before .before .before .before .before .fits .kind)) at (head .ensures) in
     let checked : rowsLoaded bytes (fileTable bytes n) n ≡ checkFile bytes (s .kind) = ap (andRows bytes) (sym (given .1) ∙ e) ∙ check-is bytes (s .kind) in
     c .and-room .ensures
-        ∙ ap (andShort (ltb (s .room) (4 * n))) (c .before .check-rows .ensures)
-        ∙ room-of-rows bytes (fileTable bytes n) n (s .room)
-        ∙ ap (andSlice (s .room)) checked
+    ∙ ap (andShort (ltb (s .room) (4 * n))) (c .before .check-rows .ensures)
+    ∙ room-of-rows bytes (fileTable bytes n) n (s .room)
+    ∙ ap (andSlice (s .room)) checked
 
 pub answer-for-spec : {M : Type 1} → statement M
 answer-for-spec =

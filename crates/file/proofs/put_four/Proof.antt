@@ -27,10 +27,10 @@ step vs l out o p v ho hp e f =
     let here : p ≡ o + n = omega (arith, ho) in
     let more : suc n ≡ p + 1 - o = omega (arith, ho) in
     ap (λ (x : List ℤ). set x p v) e
-        ∙ ap (λ (w : ℤ). set (sets l o (take n vs)) p w) f
-        ∙ ap (λ (k : ℕ). set (sets l o (take n vs)) k (getD vs n (pos 0))) here
-        ∙ sets-on vs l o n (omega (arith, ho, hp))
-        ∙ ap (λ (k : ℕ). sets l o (take k vs)) more
+    ∙ ap (λ (w : ℤ). set (sets l o (take n vs)) p w) f
+    ∙ ap (λ (k : ℕ). set (sets l o (take n vs)) k (getD vs n (pos 0))) here
+    ∙ sets-on vs l o n (omega (arith, ho, hp))
+    ∙ ap (λ (k : ℕ). sets l o (take k vs)) more
 
 abbrev Inv-loop : tie.InvT-loop
 Inv-loop out₀ o row end p₀ out p =
