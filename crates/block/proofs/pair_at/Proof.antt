@@ -1,4 +1,5 @@
 -- `pair_at` meets its contract, by what `score` ensures. Assumes nothing.
+use mathlib.Core.Path.{refl}
 use Rattle.rules.specs.Tables.{pairAt, pairSum}
 use borrow.Author.Needs.{needs}
 use Rattle.block.proofs.pair_at.Statement.{statement}
@@ -46,7 +47,7 @@ cast-t15 c = search needs
 -- src/lib.rt:23:1
 returns : tie.Need-returns
 unfolding pairAt pairSum
-returns c = simp (c .before .score .ensures .0, c .score2 .ensures .0)
+returns c = simp (c .before .score .ensures .0, c .score2 .ensures .0) refl
 
 pub pair-at-spec : {M : Type 1} → statement M
 pair-at-spec =

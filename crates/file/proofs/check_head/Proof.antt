@@ -1,5 +1,5 @@
 -- `check_head` meets its contract: the checks in document 01's order. Assumes nothing.
-use mathlib.Core.Path.{_≡_, sym, _∙_}
+use mathlib.Core.Path.{_≡_, refl, sym, _∙_}
 use mathlib.Core.Bool.{true, false}
 use native.Mathlib.Omega.{arith}
 use mir.Facts.{toZ-ofZ}
@@ -74,7 +74,7 @@ returns-5 c =
     let same = toZ-ofZ (c .before .before .before .before .before .before .before .before .before .fits .kind) in
     let kind : kindHeld found (s .kind) ≡ true = sym (simp same at (c .before .before .before .kind-fits .ensures)) ∙ not-false (c .before .before .before .kind-fits .result) (c .before .before .if3 .left) in
     answers (s .bytes .now) (h .result) (s .kind) (Unfit 8 0) (h .ensures)
-    (simp (long, not-false (h .result .fits) (c .before .before .before .before .if2 .left), kind, le-ltb _ _ (c .before .if4 .left), ne-eqb _ _ (c .if5 .taken)))
+    (simp (long, not-false (h .result .fits) (c .before .before .before .before .if2 .left), kind, le-ltb _ _ (c .before .if4 .left), ne-eqb _ _ (c .if5 .taken)) refl)
 
 returns-6 : tie.Need-returns-6
 unfolding headOf
@@ -86,7 +86,7 @@ returns-6 c =
     let same = toZ-ofZ (c .before .before .before .before .before .before .before .before .before .fits .kind) in
     let kind : kindHeld found (s .kind) ≡ true = sym (simp same at (c .before .before .before .kind-fits .ensures)) ∙ not-false (c .before .before .before .kind-fits .result) (c .before .before .if3 .left) in
     answers (s .bytes .now) (h .result) (s .kind) (Rows (h .result .count)) (h .ensures)
-    (simp (long, not-false (h .result .fits) (c .before .before .before .before .if2 .left), kind, le-ltb _ _ (c .before .if4 .left), eq-eqb _ _ (c .if5 .left)))
+    (simp (long, not-false (h .result .fits) (c .before .before .before .before .if2 .left), kind, le-ltb _ _ (c .before .if4 .left), eq-eqb _ _ (c .if5 .left)) refl)
 
 pub check-head-spec : {M : Type 1} → statement M
 check-head-spec =

@@ -1,4 +1,5 @@
 -- `step` meets its contract. Assumes nothing.
+use mathlib.Core.Path.{refl}
 use mathlib.Core.Bool.{_&&_}
 use native.Mathlib.Omega.{arith}
 use lib.Dec.{eqb}
@@ -21,7 +22,7 @@ add-t15 c =
 
 returns : tie.Need-returns
 unfolding stepped
-returns c = simp (c .byte-worth .ensures)
+returns c = simp (c .byte-worth .ensures) refl
 
 pub step-spec : {M : Type 1} → statement M
 step-spec = tie.close (tie.spec mul-t13 byte-worth-requires add-t15 returns)

@@ -1,4 +1,5 @@
 -- `field_next` meets its contract: the choice of the table, rule by rule. Assumes nothing.
+use mathlib.Core.Path.{refl}
 use native.Mathlib.Omega.{arith}
 use borrow.Author.Tests.{lt-ltb, le-ltb, eq-eqb, ne-eqb}
 use Rattle.rules.specs.Read.{scoreDrop, fieldNext}
@@ -75,7 +76,7 @@ returns-7 c =
       ne-eqb _ _ (c .before .before .before .before .if4 .left),
       le-ltb x y (omega (arith, c .before .before .before .drop-of .ensures, c .before .before .drop-of2 .ensures, c .before .if5 .left)),
       le-ltb y x (omega (arith, c .before .before .before .drop-of .ensures, c .before .before .drop-of2 .ensures, c .if6 .left)),
-    )
+    ) refl
 
 pub field-next-spec : {M : Type 1} → statement M
 field-next-spec =

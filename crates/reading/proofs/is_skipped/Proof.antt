@@ -1,4 +1,5 @@
 -- `is_skipped` meets its contract: the lowest held sum stands in the last held place. Assumes nothing.
+use mathlib.Core.Path.{refl}
 use Prim.Native.Nat.{_<_, _≤_}
 use native.Mathlib.Omega.{arith}
 use lib.ListN.{length}
@@ -52,7 +53,7 @@ returns-2 c =
       c .before .before .before .place-at .ensures .0,
       c .before .before .score .ensures .0,
       c .before .score2 .ensures .0,
-    )
+    ) refl
 
 pub is-skipped-spec : {M : Type 1} → statement M
 is-skipped-spec =

@@ -1,4 +1,5 @@
 -- `meet_pair` meets its contract: skipped, or joined and counted. Assumes nothing.
+use mathlib.Core.Path.{refl}
 use Prim.Native.Nat.{_-_, _≤_}
 use native.Mathlib.Omega.{arith}
 use Rattle.rules.specs.Read.{meet, holding, bestHeld}
@@ -44,7 +45,7 @@ add-r c = search needs
 
 returns-2 : tie.Need-returns-2
 unfolding meet holding bestHeld
-returns-2 c = simp (← c .before .before .before .before .before .before .before .before .is-skipped .ensures, c .before .before .before .before .before .before .before .if1 .left, c .before .before .before .join .ensures)
+returns-2 c = simp (← c .before .before .before .before .before .before .before .before .is-skipped .ensures, c .before .before .before .before .before .before .before .if1 .left, c .before .before .before .join .ensures) refl
 
 pub meet-pair-spec : {M : Type 1} → statement M
 meet-pair-spec =

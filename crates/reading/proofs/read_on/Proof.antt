@@ -1,4 +1,5 @@
 -- `read_on` meets its contract: the new block and the other table's blocks are the rule's. Assumes nothing.
+use mathlib.Core.Path.{refl}
 use Prim.Native.Nat.{_+_, _*_, _-_, _<_}
 use native.Mathlib.Nat.{div-mul-le-self}
 use native.Mathlib.Omega.{arith}
@@ -71,7 +72,7 @@ returns c =
       c .before .before .before .before .pick3 .ensures,
       c .before .before .before .before .before .pick2 .ensures,
       c .before .before .before .before .before .before .pick .ensures,
-    )
+    ) refl
 
 pub read-on-spec : {M : Type 1} → statement M
 read-on-spec =

@@ -1,5 +1,5 @@
 -- `read_side` meets its contract. Assumes nothing.
-use mathlib.Core.Path.{_≡_}
+use mathlib.Core.Path.{_≡_, refl}
 use borrow.Author.Tests.{ne-eqb}
 use Rattle.reading.specs.Side.{sideStep, sideCode}
 use borrow.Author.Needs.{needs}
@@ -40,14 +40,14 @@ rows-code-requires c κs = search needs
 
 returns : tie.Need-returns
 unfolding sideStep
-returns c = simp (← code-is (c .before), ne-eqb _ _ (c .if1 .taken))
+returns c = simp (← code-is (c .before), ne-eqb _ _ (c .if1 .taken)) refl
 
 read-on-requires : tie.Need-read-on-requires
 read-on-requires c κs = search needs
 
 returns-2 : tie.Need-returns-2
 unfolding sideStep
-returns-2 c = simp (← code-is (c .before .before), c .before .if1 .left, c .read-on .ensures)
+returns-2 c = simp (← code-is (c .before .before), c .before .if1 .left, c .read-on .ensures) refl
 
 pub read-side-spec : {M : Type 1} → statement M
 read-side-spec =

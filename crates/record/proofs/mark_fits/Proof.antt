@@ -1,4 +1,5 @@
 -- `mark_fits` meets its contract, mark by mark. Assumes nothing.
+use mathlib.Core.Path.{refl}
 use borrow.Author.Tests.{eq-eqb, ne-eqb}
 use Rattle.record.specs.Grounds.{markOf}
 use Rattle.record.proofs.mark_fits.Statement.{statement}
@@ -12,11 +13,11 @@ returns c = simp (eq-eqb _ _ (c .if1 .taken))
 
 returns-2 : tie.Need-returns-2
 unfolding markOf
-returns-2 c = simp (c .if2 .taken)
+returns-2 c = simp (c .if2 .taken) refl
 
 returns-3 : tie.Need-returns-3
 unfolding markOf
-returns-3 c = simp (c .if3 .taken)
+returns-3 c = simp (c .if3 .taken) refl
 
 returns-4 : tie.Need-returns-4
 unfolding markOf

@@ -1,4 +1,5 @@
 -- `open_code` meets its contract: 1, 2, 3, then 4 of either table. Assumes nothing.
+use mathlib.Core.Path.{refl}
 use borrow.Author.Tests.{ne-eqb, not-true, not-false}
 use Rattle.rules.specs.Calls.{openCode, sizeCode}
 use borrow.Author.Needs.{needs}
@@ -54,7 +55,7 @@ returns-4 c =
       not-false (c .before .before .before .size-fits .result) (c .before .before .if2 .left),
       ← c .before .size-fits2 .ensures,
       not-false (c .before .size-fits2 .result) (c .if3 .left),
-    )
+    ) refl
 
 pub open-code-spec : {M : Type 1} → statement M
 open-code-spec =

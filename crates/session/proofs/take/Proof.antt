@@ -1,5 +1,5 @@
 -- `take` meets its contract: document 01's take. Assumes nothing.
-use mathlib.Core.Path.{_≡_, sym, _∙_}
+use mathlib.Core.Path.{_≡_, refl, sym, _∙_}
 use mathlib.Core.Bool.{true}
 use native.Mathlib.Omega.{arith}
 use lib.Dec.{eqb, ltb}
@@ -51,7 +51,7 @@ returns-2 : tie.Need-returns-2
 unfolding takeCall
 returns-2 c =
     simp
-    (passed (c .before .before .before .before), ← c .before .before .before .gives-pair .ensures, c .before .before .if2 .taken, c .moved-out .ensures)
+    (passed (c .before .before .before .before), ← c .before .before .before .gives-pair .ensures, c .before .before .if2 .taken, c .moved-out .ensures) refl
 
 is-finished-requires : tie.Need-is-finished-requires
 is-finished-requires c κs = search needs

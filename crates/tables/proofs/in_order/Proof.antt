@@ -1,4 +1,5 @@
 -- `in_order` meets its contract: the flag is the test of the two scores. Assumes nothing.
+use mathlib.Core.Path.{refl}
 use Prim.Native.Nat.{_+_, _*_, _-_}
 use lib.IntN.{pos}
 use lib.ListN.{getD}
@@ -64,7 +65,7 @@ returns-2 c =
       ne-eqb _ _ (c .before .before .if1 .left),
       toZ-ofZ {w = w32} {z = now} (sfits-of (c .before .result .given)),
       toZ-ofZ {w = w32} {z = before} (sfits-of (c .result2 .given)),
-    )
+    ) refl
 
 pub in-order-spec : {M : Type 1} → statement M
 in-order-spec =

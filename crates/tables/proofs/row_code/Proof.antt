@@ -1,4 +1,5 @@
 -- `row_code` meets its contract: 6 before 7. Assumes nothing.
+use mathlib.Core.Path.{refl}
 use borrow.Author.Tests.{not-true, not-false}
 use Rattle.rules.specs.Calls.{rowCode}
 use borrow.Author.Needs.{needs}
@@ -16,7 +17,7 @@ row-in-range-requires c κs = search needs
 -- src/lib.rt:43:9
 returns : tie.Need-returns
 unfolding rowCode
-returns c = simp (← c .before .row-in-range .ensures, not-true (c .before .row-in-range .result) (c .if1 .taken))
+returns c = simp (← c .before .row-in-range .ensures, not-true (c .before .row-in-range .result) (c .if1 .taken)) refl
 
 -- src/lib.rt:45:9
 in-order-requires : tie.Need-in-order-requires
