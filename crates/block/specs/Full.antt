@@ -59,13 +59,16 @@ put-ordered : (b : Bool) (room : ℕ) (p : Pair) (l : List Pair) → Ordered ahe
 put-ordered true room p l o = Sorts.take-ordered ahead room (ins ahead p l) (Sorts.ins-ordered ahead ahead-strict p l o)
 put-ordered false room p l o = o
 
-pub row-ordered : (radius room : ℕ) (x y : Block) (i : ℕ) (l : List Pair) (j : ℕ) → Ordered ahead l → Ordered ahead (metRow radius room x y i l j)
+row-ordered : (radius room : ℕ) (x y : Block) (i : ℕ) (l : List Pair) (j : ℕ) → Ordered ahead l → Ordered ahead (metRow radius room x y i l j)
 unfolding metRow
 row-ordered radius room x y i l zero o = o
 row-ordered radius room x y i l (suc j) o =
     put-ordered (qualifies radius (row (x .rows) i .shade) (row (y .rows) j .shade)) room (pairAt x y i j) _ (row-ordered radius room x y i l j o)
 
-pub rows-ordered : (radius room : ℕ) (x y : Block) (l : List Pair) (i : ℕ) → Ordered ahead l → Ordered ahead (metRows radius room x y l i)
+rows-ordered : (radius room : ℕ) (x y : Block) (l : List Pair) (i : ℕ) → Ordered ahead l → Ordered ahead (metRows radius room x y l i)
 unfolding metRows
 rows-ordered radius room x y l zero o = o
 rows-ordered radius room x y l (suc i) o = row-ordered radius room x y i _ (rowCount (y .rows)) (rows-ordered radius room x y l i o)
+
+pub to-ordered : (radius room : ℕ) (x y : Block) (l : List Pair) (i j : ℕ) → Ordered ahead l → Ordered ahead (metRow radius room x y i (metRows radius room x y l i) j)
+to-ordered radius room x y l i j o = row-ordered radius room x y i (metRows radius room x y l i) j (rows-ordered radius room x y l i o)

@@ -3,9 +3,11 @@
 use mathlib.Core.Path.{_≡_, refl, sym, ap, ap₂, _∙_}
 use mathlib.Core.Bool.{Bool, true, false, _||_}
 use mathlib.Core.List.{List, [], _∷_, _++_, map}
-use Prim.Native.Nat.{ℕ, zero, suc, _+_}
+use Prim.Native.Nat.{ℕ, zero, suc, _+_, _≤_, _<_}
 use native.Mathlib.Omega.{arith}
+use lib.Dec.{eqb}
 use lib.IntN.{ℤ}
+use borrow.Author.Tests.{eqb-true, eqb-false}
 use Rattle.lists.specs.Lists.{consIf, keep, range, each}
 use Rattle.lists.specs.Appends.{keep-append, each-append, range-end}
 use Rattle.lists.specs.Bools.{none-true}
@@ -53,3 +55,21 @@ module _ (radius : ℕ) (x y : Block) where
   pub none-qualify : anyNear radius (x .rows) (y .rows) (rowCount (x .rows)) ≡ false → qualifying radius x y ≡ []
   unfolding qualifying
   none-qualify h = none-of (rowCount (x .rows)) h
+
+-- r is the first row of y from row j on that lies near row i of x, rows counted from 0, or y's row count
+pub record NextNear (radius : ℕ) (x : List ℤ) (i : ℕ) (y : List ℤ) (j r : ℕ) : Type 0 where
+  pub from : j ≤ r
+  pub upto : r ≤ rowCount y
+  pub none-before : (k : ℕ) → j ≤ k → k < r → qualifies radius (row x i .shade) (row y k .shade) ≡ false
+  pub found : r < rowCount y → qualifies radius (row x i .shade) (row y r .shade) ≡ true
+
+-- one row more that does not lie near
+pub none-more : (radius : ℕ) (x : List ℤ) (i : ℕ) (y : List ℤ) (j r : ℕ)
+    → ((k : ℕ) → j ≤ k → k < r → qualifies radius (row x i .shade) (row y k .shade) ≡ false)
+    → qualifies radius (row x i .shade) (row y r .shade) ≡ false
+    → (k : ℕ) → j ≤ k → k < r + 1 → qualifies radius (row x i .shade) (row y k .shade) ≡ false
+none-more radius x i y j r none here k h l = go (eqb k r) refl
+  where
+    go : (t : Bool) → eqb k r ≡ t → qualifies radius (row x i .shade) (row y k .shade) ≡ false
+    go true e = ap (λ (b : ℕ). qualifies radius (row x i .shade) (row y b .shade)) (eqb-true k r e) ∙ here
+    go false e = let n = eqb-false k r e in none k h (omega (arith, l, n))

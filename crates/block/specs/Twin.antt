@@ -3,11 +3,13 @@
 use mathlib.Core.Path.{_≡_, refl, sym, ap, _∙_}
 use mathlib.Core.Bool.{Bool, true, false}
 use mathlib.Core.List.{List, [], _∷_, _++_, map, map-append, append-nil}
-use Prim.Native.Nat.{ℕ, zero, suc, _+_, _≤_}
+use Prim.Native.Nat.{ℕ, zero, suc, _+_, _≤_, _<_}
 use native.Mathlib.Omega.{arith}
 use native.Mathlib.Nat.{zero-add}
 use native.Mathlib.Numerals.{add-one}
+use lib.Dec.{eqb}
 use lib.ListN.{length, take, length-take}
+use borrow.Author.Tests.{eqb-true, eqb-false}
 use lib.Seq.{take-all}
 use Rattle.lists.specs.Lists.{consIf, keep, each, range, ins, sort}
 use Rattle.lists.specs.Words.{Ordered}
@@ -127,7 +129,7 @@ module _ (radius room : ℕ) (x y : Block) where
   rows-few l zero h = h
   rows-few l (suc i) h = row-few i (metRows radius room x y l i) (rowCount (y .rows)) (rows-few l i h)
 
-  -- one turn of the inner loop, the pairs held being those of the turns before
+  -- one near pair more, the pairs held being those of the turns before
   pub row-joins : (i j : ℕ) (l : List Pair) (g g′ : Held) (p : Pair) →
       g ≡ heldOf (metRow radius room x y i l j) →
       qualifies radius (row (x .rows) i .shade) (row (y .rows) j .shade) ≡ true →
@@ -142,21 +144,32 @@ module _ (radius room : ℕ) (x y : Block) where
       ∙ ap (λ (r : Pair). heldOf (take room (ins ahead r (metRow radius room x y i l j)))) f
       ∙ sym (rw (add-one, q))
 
-  pub row-passes : (i j : ℕ) (l : List Pair) (g : Held) →
-      g ≡ heldOf (metRow radius room x y i l j) →
-      qualifies radius (row (x .rows) i .shade) (row (y .rows) j .shade) ≡ false →
-      g ≡ heldOf (metRow radius room x y i l (j + 1))
+  -- rows of y that do not lie near row i + 1 of x leave the pairs held
+  pub row-skips : (i : ℕ) (l : List Pair) (j r : ℕ) → j ≤ r
+      → ((k : ℕ) → j ≤ k → k < r → qualifies radius (row (x .rows) i .shade) (row (y .rows) k .shade) ≡ false)
+      → metRow radius room x y i l j ≡ metRow radius room x y i l r
   unfolding metRow
-  row-passes i j l g e q = e ∙ sym (rw (add-one, q))
+  row-skips i l j zero h none = let e : j ≡ 0 = omega arith in ap (metRow radius room x y i l) e
+  row-skips i l j (suc r) h none = go (eqb j (suc r)) refl (row-skips i l j r)
+    where
+      go : (t : Bool) → eqb j (suc r) ≡ t
+          → (j ≤ r → ((k : ℕ) → j ≤ k → k < r → qualifies radius (row (x .rows) i .shade) (row (y .rows) k .shade) ≡ false) → metRow radius room x y i l j ≡ metRow radius room x y i l r)
+          → metRow radius room x y i l j ≡ metRow radius room x y i l (suc r)
+      go true e before = ap (metRow radius room x y i l) (eqb-true j (suc r) e)
+      go false e before =
+          let n = eqb-false j (suc r) e in
+          let here = none r (omega (arith, n)) (omega arith) in
+          before (omega (arith, n)) (λ k a b. none k a (omega (arith, b)))
+          ∙ sym (ap (λ (b : Bool). putIf b room (pairAt x y i r) (metRow radius room x y i l r)) here)
 
-  -- one turn of the outer loop
-  pub rows-join : (i : ℕ) (l : List Pair) (g g′ : Held) →
-      g ≡ heldOf (metRows radius room x y l i) →
-      g′ ≡ heldOf (metRow radius room x y i (listOf g) (rowCount (y .rows))) →
-      g′ ≡ heldOf (metRows radius room x y l (i + 1))
-  unfolding metRows
-  rows-join i l g g′ e h =
-      h
-      ∙ ap (λ (r : Held). heldOf (metRow radius room x y i (listOf r) (rowCount (y .rows)))) e
-      ∙ ap (λ (r : List Pair). heldOf (metRow radius room x y i r (rowCount (y .rows)))) (list-of-held (metRows radius room x y l i))
-      ∙ sym (rw add-one)
+  -- the pairs held when the first i rows of x have met all of y, and row i + 1 its first j rows
+  abbrev pub metTo : List Pair → ℕ → ℕ → List Pair
+  metTo l i j = metRow radius room x y i (metRows radius room x y l i) j
+
+  pub to-few : (l : List Pair) (i j : ℕ) → length l ≤ room → length (metTo l i j) ≤ room
+  to-few l i j h = row-few i (metRows radius room x y l i) j (rows-few l i h)
+
+  -- row i + 1 has met all of y
+  pub to-next : (l : List Pair) (i : ℕ) → metTo l i (rowCount (y .rows)) ≡ metTo l (i + 1) 0
+  unfolding metRow metRows
+  to-next l i = sym (rw add-one)

@@ -10,8 +10,8 @@ ghost use Rattle.lists.specs.Lists.{sort};
 ghost use Rattle.lists.specs.Words.{Ordered};
 ghost use Rattle.rules.specs.Tables.{row, qualifies, pairAt, qualifying, ahead};
 ghost use Rattle.held.specs.Held.{Tidy, listOf, heldOf};
-ghost use Rattle.block.specs.Block.{at, Rows, metRow};
-ghost use Rattle.block.specs.Near.{rowNear, anyNear};
+ghost use Rattle.block.specs.Block.{at, Rows};
+ghost use Rattle.block.specs.Near.{rowNear, anyNear, NextNear};
 
 // Whether row i + 1 of x and row j + 1 of y lie within the radius.
 fn near(radius: u32, x: &[i32], i: usize, y: &[i32], j: usize) -> bool
@@ -68,50 +68,48 @@ fn pair_at(x: &[i32], a: usize, i: usize, y: &[i32], c: usize, j: usize) -> Pair
     }
 }
 
-// Row i + 1 of x with every row of y. Where the room is used up, a pair that would fall off is not put.
-fn join_row(
-    radius: u32,
-    room: usize,
-    x: &[i32],
-    a: usize,
-    i: usize,
-    y: &[i32],
-    c: usize,
-    h: Held,
-) -> Held
-    requires { ⌜ Tidy h room × Ordered ahead (listOf h) ⌝ }
-    requires { ⌜ Rows a (now x) × Rows c (now y) × (i < length (now x) / 4) ⌝ }
-    ensures { λ r. ⌜ r ≡ heldOf (metRow radius room (at a (now (x .entry))) (at c (now (y .entry))) i (listOf h) (length (now (y .entry)) / 4)) ⌝ }
+// The first row of y from row j + 1 on that lies near row i + 1 of x, counted from 0; y's row count where none does.
+fn next_near(radius: u32, x: &[i32], i: usize, y: &[i32], j: usize) -> usize
+    requires { ⌜ (4 * i + 4 ≤ length (now x)) × (j ≤ length (now y) / 4) ⌝ }
+    ensures { λ r. ⌜ NextNear radius (now (x .entry)) i (now (y .entry)) j r ⌝ }
 {
     let n = y.len() / 4;
-    let mut g = h;
-    let mut j: usize = 0;
-    while j < n {
-        if near(radius, x, i, y, j) {
-            let p = pair_at(x, a, i, y, c, j);
-            let last = (room + 63) % 64;
-            let q = g.pairs[last];
-            if !((g.n == room) & held::is_ahead(q, p)) {
-                g = held::put(g, room, p);
-            }
+    let mut k = j;
+    while k < n {
+        if near(radius, x, i, y, k) {
+            return k;
         }
-        j += 1;
+        k += 1;
     }
-    g
+    n
 }
 
-// The block join: of the pairs held and the qualifying pairs of x and y the best-ranked, at most room.
+// The block join: of the pairs held and the qualifying pairs of x and y the best-ranked, at most room. It goes from
+// one near pair to the next; where the room is used up, a pair that would fall off is not put.
 pub fn join(radius: u32, room: usize, x: &[i32], a: usize, y: &[i32], c: usize, h: Held) -> Held
     requires { ⌜ Tidy h room × Ordered ahead (listOf h) ⌝ }
     requires { ⌜ Rows a (now x) × Rows c (now y) ⌝ }
     ensures { λ r. ⌜ r ≡ heldOf (take room (sort ahead (listOf h ++ qualifying radius (at a (now (x .entry))) (at c (now (y .entry)))))) ⌝ }
 {
     let m = x.len() / 4;
+    let n = y.len() / 4;
+    let last = (room + 63) % 64;
     let mut g = h;
     let mut i: usize = 0;
+    let mut j: usize = 0;
     while i < m {
-        g = join_row(radius, room, x, a, i, y, c, g);
-        i += 1;
+        let k = next_near(radius, x, i, y, j);
+        if k < n {
+            let p = pair_at(x, a, i, y, c, k);
+            let q = g.pairs[last];
+            if !((g.n == room) & held::is_ahead(q, p)) {
+                g = held::put(g, room, p);
+            }
+            j = k + 1;
+        } else {
+            i += 1;
+            j = 0;
+        }
     }
     g
 }
