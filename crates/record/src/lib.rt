@@ -4,14 +4,10 @@ use rules::Pair;
 use rules::Query;
 use rules::Session;
 ghost use mathlib.Core.Path.{_≡_};
-ghost use mathlib.Core.List.{_++_};
 ghost use Prim.Native.Nat.{_+_, _*_, _-_, _≤_, _<_, _/_};
-ghost use lib.ListN.{take, drop};
-ghost use Rattle.lists.specs.Lists.{every, ranked};
-ghost use Rattle.rules.specs.Tables.{ahead};
 ghost use Rattle.rules.specs.Read.{blockCount};
 ghost use Rattle.rules.specs.Calls.{queryCode, countsFit, isZeros, recordFits};
-ghost use Rattle.record.specs.Grounds.{pairWithin, markOf, placesFit};
+ghost use Rattle.record.specs.Grounds.{pairWithin, markOf, numbersFit, placeFits};
 
 // What a query is refused by, 1 to 3 in this order; 0 where it is not.
 pub fn query_code(q: Query) -> u32
@@ -37,10 +33,12 @@ fn counts_fit(block: u32, rows: u32, depth: u32) -> bool
     (rows <= 65535) & ((depth <= rows) & ((depth % block == 0) | (depth == rows)))
 }
 
-// A held pair's rows and sum.
-fn pair_fits(field: u32, trim: u32, p: Pair) -> bool
-    ensures { λ r. ⌜ r ≡ pairWithin field trim p ⌝ }
+// A held pair's rows, of the two depths, and its sum.
+fn pair_fits(depth: Counts, p: Pair) -> bool
+    ensures { λ r. ⌜ r ≡ pairWithin depth p ⌝ }
 {
+    let field = depth.field.0;
+    let trim = depth.trim.0;
     ((1 <= p.field) & (p.field <= field)) & (((1 <= p.trim) & (p.trim <= trim)) & (p.sum <= 19998))
 }
 
@@ -51,9 +49,11 @@ fn is_zeros(p: Pair) -> bool
 }
 
 // The last-read mark, of the two depths.
-fn mark_fits(last: u32, field: u32, trim: u32) -> bool
-    ensures { λ r. ⌜ r ≡ markOf last field trim ⌝ }
+fn mark_fits(last: u32, depth: Counts) -> bool
+    ensures { λ r. ⌜ r ≡ markOf last depth ⌝ }
 {
+    let field = depth.field.0;
+    let trim = depth.trim.0;
     if last == 0 {
         return (field == 0) & (trim == 0);
     }
@@ -74,91 +74,66 @@ pub fn block_count(block: u32, depth: u32) -> u64
     ((depth + block - 1) / block) as u64
 }
 
-// Every one of the first n pairs fits.
-fn pairs_fit(a: [Pair; 64], n: usize, field: u32, trim: u32) -> bool
-    requires { ⌜ n ≤ 64 ⌝ }
-    ensures { λ r. ⌜ r ≡ every (pairWithin field trim) (take n a) ⌝ }
+// All grounds but those of the pair places.
+fn numbers_fit(
+    q: Query,
+    rows: Counts,
+    depth: Counts,
+    last: u32,
+    out: u32,
+    held: u32,
+    joined: u64,
+) -> bool
+    ensures { λ r. ⌜ r ≡ numbersFit q rows depth last out held joined ⌝ }
 {
-    let mut i: usize = 0;
-    while i < n {
-        let p = a[i];
-        if !pair_fits(field, trim, p) {
-            return false;
-        }
-        i += 1;
-    }
-    true
-}
-
-// The first n pairs are strictly ranked.
-fn are_ranked(a: [Pair; 64], n: usize) -> bool
-    requires { ⌜ n ≤ 64 ⌝ }
-    ensures { λ r. ⌜ r ≡ ranked ahead (take n a) ⌝ }
-{
-    if n == 0 {
-        return true;
-    }
-    let mut i: usize = 0;
-    while i < n - 1 {
-        let p = a[i];
-        let q = a[i + 1];
-        if !held::is_ahead(p, q) {
-            return false;
-        }
-        i += 1;
-    }
-    true
-}
-
-// The places from n on are zeros.
-fn rest_is_zeros(a: [Pair; 64], n: usize) -> bool
-    requires { ⌜ n ≤ 64 ⌝ }
-    ensures { λ r. ⌜ r ≡ every isZeros (drop n a) ⌝ }
-{
-    let mut i = n;
-    while i < 64 {
-        let p = a[i];
-        if !is_zeros(p) {
-            return false;
-        }
-        i += 1;
-    }
-    true
-}
-
-// The pair places: those held fit and are ranked, the rest are zeros.
-fn places_fit(a: [Pair; 64], n: usize, field: u32, trim: u32) -> bool
-    requires { ⌜ n ≤ 64 ⌝ }
-    ensures { λ r. ⌜ r ≡ placesFit field trim n a ⌝ }
-{
-    let x = pairs_fit(a, n, field, trim);
-    let y = are_ranked(a, n);
-    let z = rest_is_zeros(a, n);
-    x & (y & z)
-}
-
-// Whether the record is not refused by 5.
-pub fn record_fits(s: Session) -> bool
-    ensures { λ r. ⌜ r ≡ recordFits s ⌝ }
-{
-    let q = s.query;
-    let d = s.depth.field.0;
-    let e = s.depth.trim.0;
     if query_code(q) != 0 {
         return false;
     }
-    if !counts_fit(q.block, s.rows.field.0, d) {
+    if !counts_fit(q.block, rows.field.0, depth.field.0) {
         return false;
     }
-    if !counts_fit(q.block, s.rows.trim.0, e) {
+    if !counts_fit(q.block, rows.trim.0, depth.trim.0) {
         return false;
     }
-    if !((s.out as u64) + (s.held as u64) <= (q.k as u64)) {
+    let few = (out as u64) + (held as u64) <= (q.k as u64);
+    let mark = mark_fits(last, depth);
+    let most = block_count(q.block, depth.field.0) * block_count(q.block, depth.trim.0);
+    few & (mark & (joined <= most))
+}
+
+// Pair place i: one of the n held, which fits and stands behind the one before it, or zeros.
+fn place_fits(i: usize, n: usize, depth: Counts, before: Pair, p: Pair) -> bool
+    ensures { λ r. ⌜ r ≡ placeFits i n depth before p ⌝ }
+{
+    if n <= i {
+        return is_zeros(p);
+    }
+    let fits = pair_fits(depth, p);
+    fits & ((i == 0) | held::is_ahead(before, p))
+}
+
+// Whether the record is not refused by 5. The places are looked at where they stand: none is copied but one by one.
+pub fn record_fits(s: Session) -> bool
+    ensures { λ r. ⌜ r ≡ recordFits s ⌝ }
+{
+    if !numbers_fit(s.query, s.rows, s.depth, s.last, s.out, s.held, s.joined) {
         return false;
     }
-    let a = s.pairs;
-    let places = places_fit(a, s.held as usize, d, e);
-    let mark = mark_fits(s.last, d, e);
-    let joined = s.joined <= block_count(q.block, d) * block_count(q.block, e);
-    places & (mark & joined)
+    let n = s.held as usize;
+    let depth = s.depth;
+    let mut before = Pair {
+        sum: 0,
+        field: 0,
+        trim: 0,
+    };
+    let mut i: usize = 0;
+    while i < 64 {
+        let p = s.pairs[i];
+        if !place_fits(i, n, depth, before, p) {
+            return false;
+        }
+        before = p;
+        i += 1;
+    }
+    true
 }

@@ -1,165 +1,111 @@
--- `record_fits` meets its contract: ground by ground. Assumes nothing.
-use mathlib.Core.Path.{_≡_, sym, _∙_}
-use mathlib.Core.Bool.{true}
+-- `record_fits` meets its contract: the numbers, then place after place. Assumes nothing.
+use mathlib.Core.Path.{_≡_, refl, sym, ap, _∙_}
+use mathlib.Core.Bool.{Bool, true, false, _&&_}
+use Prim.Native.Nat.{_-_, _≤_, _<_}
+use native.Mathlib.Numerals.{add-one}
 use native.Mathlib.Omega.{arith}
-use Prim.Native.Nat.{_+_, _≤_}
-use native.Mathlib.Nat.{mul-le-mul}
-use lib.Dec.{eqb, leb}
-use borrow.Author.Tests.{leb-true, eq-eqb, ne-eqb, not-true, not-false}
+use lib.ListN.{length, length-map, drop}
+use borrow.Author.Tests.{not-true, not-false}
 use Rattle.rules.specs.declared.Session.{Session}
-use Rattle.rules.specs.Calls.{queryCode, countsFit}
-use Rattle.laws.specs.Record.{QueryFits, query-fits, CountsFit, counts-fit}
-use Rattle.record.proofs.Answer.{answer}
+use Rattle.rules.specs.Session.{noPair}
+use Rattle.record.specs.Grounds.{numbersFit, placesFrom}
+use Rattle.record.proofs.Answer.{place-on, place-stop, places-end, answer}
 use borrow.Author.Needs.{needs}
 use Rattle.record.proofs.record_fits.Statement.{statement}
 use Rattle.record.proofs.record_fits.Tie as tie
-use Rattle.record.proofs.record_fits.Reads as reads
-use Rattle.record.proofs.record_fits.Lts as lts
-use Rattle.record.proofs.block_count.Reads as block-count-reads
-use Rattle.record.proofs.counts_fit.Reads as counts-fit-reads
-use Rattle.record.proofs.mark_fits.Reads as mark-fits-reads
-use Rattle.record.proofs.places_fit.Reads as places-fit-reads
-use Rattle.record.proofs.query_code.Reads as query-code-reads
 
--- what the tests passed say
-queried : (c : tie.Else1) → eqb (queryCode (c .before .before .before .args .s .query)) 0 ≡ true
-queried c = eq-eqb _ _ (sym (c .before .query-code .ensures) ∙ c .if1 .left)
+abbrev all-but : Session → Bool
+all-but s = numbersFit (s .query) (s .rows) (s .depth) (s .last) (s .out) (s .held) (s .joined)
 
-fits : (c : tie.Else1) → QueryFits (c .before .before .before .args .s .query)
-fits c = query-fits (c .before .before .before .args .s .query) (queried c)
+and-false : (t : Bool) → t && false ≡ false
+and-false true = refl
+and-false false = refl
 
-field : (c : tie.Else2) → countsFit (c .before .before .before .before .before .args .s .query .block) (c .before .before .before .before .before .args .s .rows .field .0) (c .before .before .before .before .before .args .s .depth .field .0) ≡ true
-field c = sym (c .before .counts-fit .ensures) ∙ not-false (c .before .counts-fit .result) (c .if2 .left)
+abbrev Inv-loop : tie.InvT-loop
+Inv-loop s n depth before₀ i₀ before i =
+    (i ≤ 64)
+    × (length (s .pairs) ≡ 64)
+    × (placesFrom 0 (s .held) (s .depth) noPair (s .pairs) ≡ placesFrom i (s .held) (s .depth) before (drop i (s .pairs)))
 
-trim : (c : tie.Else3) → countsFit (c .before .before .before .before .before .before .before .args .s .query .block) (c .before .before .before .before .before .before .before .args .s .rows .trim .0) (c .before .before .before .before .before .before .before .args .s .depth .trim .0) ≡ true
-trim c = sym (c .before .counts-fit2 .ensures) ∙ not-false (c .before .counts-fit2 .result) (c .if3 .left)
+abbrev μ-loop : tie.MeasureT-loop
+μ-loop s n depth before₀ i₀ before i = 64 - i
 
--- the record, once all but the places, the mark and the joined count have passed
-given : tie.Else4 → Session
-given c = c .before .before .before .before .before .before .before .before .before .before .before .args .s
+numbers-fit-requires : tie.Need-numbers-fit-requires Inv-loop μ-loop
+numbers-fit-requires c κs = search needs
 
-room : (c : tie.Else4) → leb (given c .out + given c .held) (given c .query .k) ≡ true
-unfolding given
-room c = not-false (leb (c .before .before .before .before .before .before .before .before .before .before .before .args .s .out + c .before .before .before .before .before .before .before .before .before .before .before .args .s .held) (c .before .before .before .before .before .before .before .before .before .before .before .args .s .query .k)) (c .if4 .left)
-
-few : (c : tie.Else4) → given c .held ≤ 64
-unfolding given
-few c =
-    let r = leb-true (given c .out + given c .held) (given c .query .k) (room c) in
-    let k = fits (c .before .before .before .before .before .before .before .before) .k .1 in
-    omega arith
-
-field-counts : (c : tie.Else4) → CountsFit (given c .rows .field .0) (given c .depth .field .0)
-unfolding given
-field-counts c = counts-fit _ _ _ (field (c .before .before .before .before .before .before))
-
-trim-counts : (c : tie.Else4) → CountsFit (given c .rows .trim .0) (given c .depth .trim .0)
-unfolding given
-trim-counts c = counts-fit _ _ _ (trim (c .before .before .before .before))
-
-query-code-requires : tie.Need-query-code-requires
-query-code-requires c κs = search needs
-
-returns : tie.Need-returns
+returns : tie.Need-returns Inv-loop μ-loop
 returns c =
-    let s = c .before .before .before .args .s in
-    rw (answer s) (simp (ne-eqb (queryCode (s .query)) 0 (λ e. c .if1 .taken (c .before .query-code .ensures ∙ e))))
+    let s = c .before .before .before .before .before .args .t1 in
+    let n = c .before .numbers-fit in
+    rw (answer s)
+    (simp (sym (n .ensures) ∙ not-true (n .result) (c .if1 .taken)) refl)
 
-counts-fit-requires : tie.Need-counts-fit-requires
-counts-fit-requires c κs = omega (arith, fits c .block .0)
+cast-n : tie.Need-cast-n Inv-loop μ-loop
+cast-n c = search needs
 
-returns-2 : tie.Need-returns-2
+loop-holds : tie.Need-loop-holds Inv-loop μ-loop
+loop-holds c =
+    let s = c .before .before .before .before .before .before in
+    let long : length (s .args .t1 .pairs) ≡ 64 = sym (length-map (s .args .t1 .pairs) _) ∙ s .good .0 .1 .1 .1 .1 .1 .1 .1 .1 .0 .1 .0 .1 in
+    (omega arith, long, refl)
+
+mul-p : tie.Need-mul-p Inv-loop μ-loop
+mul-p c = search needs
+
+element-copy-out-p : tie.Need-element-copy-out-p Inv-loop μ-loop
+element-copy-out-p c = search needs
+
+place-fits-requires : tie.Need-place-fits-requires Inv-loop μ-loop
+place-fits-requires c κs = search needs
+
+returns-2 : tie.Need-returns-2 Inv-loop μ-loop
 returns-2 c =
-    let s = c .before .before .before .before .before .args .s in
-    rw (answer s) (simp (queried (c .before .before), sym (c .before .counts-fit .ensures) ∙ not-true (c .before .counts-fit .result) (c .if2 .taken)))
+    let s = c .before .before .before .before .before .before .before .before .before .before .before .args .t1 in
+    let v = c .before .before .before .before .loop in
+    let p = c .before .place-fits in
+    let h : v .i < length (s .pairs) = omega (arith, v .inv .1, c .before .before .before .loop-test .taken) in
+    let stops = place-stop (s .depth) (v .i) (s .held) (v .before) (s .pairs) h (sym (p .ensures) ∙ not-true (p .result) (c .if2 .taken)) in
+    sym (answer s ∙ ap (λ (x : Bool). all-but s && x) (v .inv .2 ∙ stops) ∙ and-false (all-but s))
 
-counts-fit-requires-2 : tie.Need-counts-fit-requires-2
-counts-fit-requires-2 c κs = omega (arith, fits (c .before .before) .block .0)
+add-i : tie.Need-add-i Inv-loop μ-loop
+add-i c = search needs
 
-returns-3 : tie.Need-returns-3
+loop-less : tie.Need-loop-less Inv-loop μ-loop
+loop-less c = search needs
+
+loop-again : tie.Need-loop-again Inv-loop μ-loop
+loop-again c =
+    let s = c .before .before .before .before .before .before .before .before .before .before .before .args .t1 in
+    let v = c .before .before .before .before .loop in
+    let p = c .before .place-fits in
+    let h : v .i < length (s .pairs) = omega (arith, v .inv .1, c .before .before .before .loop-test .taken) in
+    let on = place-on (s .depth) (v .i) (s .held) (v .before) (s .pairs) h (sym (p .ensures) ∙ not-false (p .result) (c .if2 .left)) in
+    (omega (arith, h, v .inv .1), v .inv .1, v .inv .2 ∙ on ∙ sym (rw add-one))
+
+returns-3 : tie.Need-returns-3 Inv-loop μ-loop
 returns-3 c =
-    let s = c .before .before .before .before .before .before .before .args .s in
-    rw (answer s)
-    (simp (queried (c .before .before .before .before), field (c .before .before), sym (c .before .counts-fit2 .ensures) ∙ not-true (c .before .counts-fit2 .result) (c .if3 .taken)))
-
-cast-if4 : tie.Need-cast-if4
-cast-if4 c = search needs
-
-cast-if4-2 : tie.Need-cast-if4-2
-cast-if4-2 c = search needs
-
-add-if4 : tie.Need-add-if4
-add-if4 c = search needs
-
-cast-if4-3 : tie.Need-cast-if4-3
-cast-if4-3 c = search needs
-
-returns-4 : tie.Need-returns-4
-returns-4 c =
-    let s = c .before .before .before .before .before .before .before .before .before .before .before .args .s in
-    rw (answer s)
-    (simp (queried (c .before .before .before .before .before .before .before .before), field (c .before .before .before .before .before .before), trim (c .before .before .before .before), not-true (leb (s .out + s .held) (s .query .k)) (c .if4 .taken)))
-
-cast-places-fit : tie.Need-cast-places-fit
-cast-places-fit c = search needs
-
-places-fit-requires : tie.Need-places-fit-requires
-unfolding given
-places-fit-requires c κs = few (c .before .before)
-
-mark-fits-requires : tie.Need-mark-fits-requires
-mark-fits-requires c κs = search needs
-
-block-count-requires : tie.Need-block-count-requires
-unfolding given
-block-count-requires c κs =
-    omega (arith, fits (c .before .before .before .before .before .before .before .before .before .before .before .before) .block .0, fits (c .before .before .before .before .before .before .before .before .before .before .before .before) .block .1, field-counts (c .before .before .before .before) .few, field-counts (c .before .before .before .before) .within)
-
-block-count-requires-2 : tie.Need-block-count-requires-2
-unfolding given
-block-count-requires-2 c κs =
-    omega (arith, fits (c .before .before .before .before .before .before .before .before .before .before .before .before .before) .block .0, fits (c .before .before .before .before .before .before .before .before .before .before .before .before .before) .block .1, trim-counts (c .before .before .before .before .before) .few, trim-counts (c .before .before .before .before .before) .within)
-
-mul-joined : tie.Need-mul-joined
-mul-joined c =
-    let k = mul-le-mul (c .before .block-count .ensures .1) (c .block-count2 .ensures .1) in
-    record { fits = omega arith }
-
-returns-5 : tie.Need-returns-5
-unfolding given
-returns-5 c =
-    let s = c .before .before .before .before .before .before .before .before .before .before .before .before .before .before .before .before .before .before .args .s in
-    rw (answer s)
-    (simp (
-      queried (c .before .before .before .before .before .before .before .before .before .before .before .before .before .before .before),
-      field (c .before .before .before .before .before .before .before .before .before .before .before .before .before),
-      trim (c .before .before .before .before .before .before .before .before .before .before .before),
-      room (c .before .before .before .before .before .before .before),
-      c .before .before .before .before .places-fit .ensures,
-      c .before .before .before .mark-fits .ensures,
-      c .before .before .block-count .ensures .0,
-      c .before .block-count2 .ensures .0,
-    ))
+    let s = c .before .before .before .before .before .before .before .before .args .t1 in
+    let v = c .before .loop in
+    let n = c .before .before .before .before .numbers-fit in
+    let end = places-end (s .depth) (v .i) (s .held) (v .before) (s .pairs) (omega (arith, v .inv .1, c .loop-test .left)) in
+    let numbers = sym (n .ensures) ∙ not-false (n .result) (c .before .before .before .if1 .left) in
+    sym (answer s ∙ ap (λ (x : Bool). all-but s && x) (v .inv .2 ∙ end) ∙ ap (λ (x : Bool). x && true) numbers)
 
 pub record-fits-spec : {M : Type 1} → statement M
 record-fits-spec =
     tie.close
     (tie.spec
-    query-code-requires
+    Inv-loop
+    μ-loop
+    numbers-fit-requires
     returns
-    counts-fit-requires
+    cast-n
+    loop-holds
+    mul-p
+    element-copy-out-p
+    place-fits-requires
     returns-2
-    counts-fit-requires-2
-    returns-3
-    cast-if4
-    cast-if4-2
-    add-if4
-    cast-if4-3
-    returns-4
-    cast-places-fit
-    places-fit-requires
-    mark-fits-requires
-    block-count-requires
-    block-count-requires-2
-    mul-joined
-    returns-5)
+    add-i
+    loop-less
+    loop-again
+    returns-3)
