@@ -2,8 +2,7 @@
 use rules::Pair;
 ghost use mathlib.Core.Path.{_≡_};
 ghost use Prim.Native.Nat.{_+_, _<_, _≤_};
-ghost use lib.ListN.{length, getD, take, drop};
-ghost use Rattle.rules.specs.Session.{noPair};
+ghost use lib.ListN.{take, drop};
 ghost use Rattle.lists.specs.Lists.{ins};
 ghost use Rattle.rules.specs.Tables.{ahead};
 ghost use Rattle.held.specs.Held.{Tidy, listOf, heldOf, place, putAt};
@@ -19,14 +18,6 @@ pub fn is_ahead(p: Pair, q: Pair) -> bool
 {
     (q.sum < p.sum)
         | ((p.sum == q.sum) & ((p.field < q.field) | ((p.field == q.field) & (p.trim < q.trim))))
-}
-
-// Place i of 64; that there are 64 is what its callers learn of a record's places.
-pub fn place_at(a: [Pair; 64], i: usize) -> Pair
-    requires { ⌜ i < 64 ⌝ }
-    ensures { λ r. ⌜ (r ≡ getD a i noPair) × (length a ≡ 64) ⌝ }
-{
-    a[i]
 }
 
 // The place of p among the first n pairs.

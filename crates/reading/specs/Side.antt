@@ -5,6 +5,7 @@ use mathlib.Core.List.{List}
 use lib.Dec.{eqb}
 use lib.IntN.{ℤ}
 use lib.ListN.{length}
+use Rattle.rules.specs.declared.Counts.{Counts}
 use Rattle.rules.specs.declared.Session.{Session}
 use Rattle.rules.specs.declared.Step.{Step}
 use Rattle.rules.specs.declared.Answer.the-variants.{Refused, Read}
@@ -18,6 +19,14 @@ ownRows field s = cond field (s .rows .field .0) (s .rows .trim .0)
 
 abbrev pub otherDepth : Bool → Session → ℕ
 otherDepth field s = cond field (s .depth .trim .0) (s .depth .field .0)
+
+-- the depths with one table's at e
+unfoldable pub downTo : Bool → ℕ → Counts → Counts
+downTo field e depth =
+    record {
+      field = record { 0 = cond field e (depth .field .0) };
+      trim = record { 0 = cond field (depth .trim .0) e };
+    }
 
 -- `readTable`, of the table that is read and of the other one
 unfoldable pub readSide : Bool → List ℤ → List ℤ → Session → Session

@@ -12,12 +12,12 @@ ghost use mathlib.Core.Bool.{cond};
 ghost use Prim.Native.Nat.{_+_, _*_, _-_, _≤_, _<_, _^_, min};
 ghost use lib.ListN.{length, take, drop};
 ghost use Rattle.rules.specs.Session.{settled};
-ghost use Rattle.rules.specs.Read.{scoreDrop, fieldNext, skipped, meet, rowsBetween, meetBlocks, nextDepth, readTo};
+ghost use Rattle.rules.specs.Read.{scoreDrop, fieldNext, skipped, meet, rowsBetween, meetBlocks, nextDepth};
 ghost use Rattle.laws.specs.Sizes.{Lent};
 ghost use Rattle.block.specs.Block.{at, Rows};
 ghost use Rattle.reading.specs.Ready.{Ready, meetParts};
 ghost use Rattle.reading.specs.Effect.{Effect, EffectParts};
-ghost use Rattle.reading.specs.Side.{Due, readSide, sideStep};
+ghost use Rattle.reading.specs.Side.{Due, downTo, readSide, sideStep};
 
 // How far a table's score has dropped from its first row to the last row read.
 fn drop_of(t: &[i32], depth: u32) -> u32
@@ -81,8 +81,7 @@ pub fn is_settled(f: &[i32], t: &[i32], s: Session) -> bool
     if s.out + s.held != s.query.k {
         return false;
     }
-    let a = s.pairs;
-    let p = held::place_at(a, s.held as usize - 1);
+    let p = s.pairs[s.held as usize - 1];
     ceiling::is_secured(f, t, s, p)
 }
 
@@ -95,8 +94,7 @@ fn is_skipped(s: Session, x: &[i32], a: usize, y: &[i32], c: usize) -> bool
     if s.out + s.held != s.query.k {
         return false;
     }
-    let places = s.pairs;
-    let low = held::place_at(places, s.held as usize - 1);
+    let low = s.pairs[s.held as usize - 1];
     let first = tables::score(x, 0);
     let second = tables::score(y, 0);
     first + second < low.sum
@@ -249,21 +247,16 @@ fn pick(t: bool, a: u32, b: u32) -> u32
     if t { a } else { b }
 }
 
-// The record with one table read down to row e, and marked as read last.
-fn read_down(field: bool, e: u32, s: Session) -> Session
-    ensures { λ r. ⌜ r ≡ readTo field e s ⌝ }
+// The depths with one table's read down to row e.
+fn down_to(field: bool, e: u32, depth: Counts) -> Counts
+    ensures { λ r. ⌜ r ≡ downTo field e depth ⌝ }
 {
-    let d = pick(field, e, s.depth.field.0);
-    let g = pick(field, s.depth.trim.0, e);
-    let last = pick(field, 1, 2);
-    let depth = Counts {
+    let d = pick(field, e, depth.field.0);
+    let g = pick(field, depth.trim.0, e);
+    Counts {
         field: FieldRows(d),
         trim: TrimRows(g),
-    };
-    let mut r = s;
-    r.depth = depth;
-    r.last = last;
-    r
+    }
 }
 
 // The depth that a read leads to: one block further, or all rows.
@@ -277,7 +270,7 @@ fn next_depth(block: u32, rows: u32, depth: u32) -> u32
     rows
 }
 
-// One block of a table is read and meets the other table's.
+// One block of a table is read and meets the other table's; the table is read down to its end, and marked as read last.
 fn read_on(field: bool, own: &[i32], other: &[i32], s: Session) -> Session
     requires { ⌜ Due field (now own) (now other) s ⌝ }
     ensures { λ r. ⌜ r ≡ readSide field (now (own .entry)) (now (other .entry)) s ⌝ }
@@ -288,7 +281,7 @@ fn read_on(field: bool, own: &[i32], other: &[i32], s: Session) -> Session
     let depth = pick(field, s.depth.trim.0, s.depth.field.0);
     let e = next_depth(block, rows, d);
     let n = record::block_count(block, depth);
-    let r = meet_blocks(
+    let mut r = meet_blocks(
         field,
         s,
         own,
@@ -298,7 +291,11 @@ fn read_on(field: bool, own: &[i32], other: &[i32], s: Session) -> Session
         depth as usize,
         n as usize,
     );
-    read_down(field, e, r)
+    let to = down_to(field, e, r.depth);
+    let last = pick(field, 1, 2);
+    r.depth = to;
+    r.last = last;
+    r
 }
 
 // The new block is checked by 6 and 7, then read.

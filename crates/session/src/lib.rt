@@ -10,10 +10,9 @@ use rules::Step;
 use rules::TrimRows;
 ghost use mathlib.Core.Path.{_≡_};
 ghost use Prim.Native.Nat.{_+_, _*_, _-_, _≤_, _<_, _/_, _%_};
-ghost use mathlib.Core.List.{[], _∷_, _++_};
 ghost use denote.Ref.{ptr};
-ghost use lib.ListN.{length, drop};
-ghost use Rattle.rules.specs.Session.{noPair, opened, zeros};
+ghost use lib.ListN.{length};
+ghost use Rattle.rules.specs.Session.{opened, zeros};
 ghost use Rattle.rules.specs.Take.{givesPair, movedOut, finished, lastBlock};
 ghost use Rattle.rules.specs.Tables.{part};
 ghost use Rattle.laws.specs.Sizes.{Lent};
@@ -118,15 +117,16 @@ pub fn read(f: &[i32], t: &[i32], s: Session) -> Step
     reading::read_side(false, t, f, s)
 }
 
-// All but the first of 64 pair places, and a place of zeros behind them.
-fn without_first(a: [Pair; 64]) -> [Pair; 64]
-    ensures { λ r. ⌜ r ≡ drop 1 a ++ (noPair ∷ []) ⌝ }
+// The first held pair moves out: those behind it move up, and a place of zeros stands at the end.
+fn moved_out(s: Session) -> Session
+    requires { ⌜ (0 < s .held) × (s .out ≤ 64) ⌝ }
+    ensures { λ r. ⌜ r ≡ movedOut s ⌝ }
 {
-    let mut b = a;
+    let mut r = s;
     let mut j: usize = 0;
     while j < 63 {
-        let q = b[j + 1];
-        b[j] = q;
+        let q = r.pairs[j + 1];
+        r.pairs[j] = q;
         j += 1;
     }
     let z = Pair {
@@ -134,21 +134,9 @@ fn without_first(a: [Pair; 64]) -> [Pair; 64]
         field: 0,
         trim: 0,
     };
-    b[63] = z;
-    b
-}
-
-// The first held pair moves out.
-fn moved_out(s: Session) -> Session
-    requires { ⌜ (0 < s .held) × (s .out ≤ 64) ⌝ }
-    ensures { λ r. ⌜ r ≡ movedOut s ⌝ }
-{
-    let a = s.pairs;
-    let b = without_first(a);
-    let mut r = s;
-    r.out = s.out + 1;
-    r.held = s.held - 1;
-    r.pairs = b;
+    r.pairs[63] = z;
+    r.out = r.out + 1;
+    r.held = r.held - 1;
     r
 }
 
@@ -160,8 +148,7 @@ fn gives_pair(f: &[i32], t: &[i32], s: Session) -> bool
     if s.held == 0 {
         return false;
     }
-    let a = s.pairs;
-    let p = held::place_at(a, 0);
+    let p = s.pairs[0];
     ceiling::is_secured(f, t, s, p)
 }
 

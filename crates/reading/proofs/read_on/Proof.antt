@@ -3,17 +3,11 @@ use mathlib.Core.Path.{refl}
 use Prim.Native.Nat.{_+_, _*_, _-_, _<_}
 use native.Mathlib.Nat.{div-mul-le-self}
 use native.Mathlib.Omega.{arith}
-use Rattle.reading.specs.Side.{readSide}
+use Rattle.rules.specs.Read.{readTo}
+use Rattle.reading.specs.Side.{downTo, readSide}
 use borrow.Author.Needs.{needs}
 use Rattle.reading.proofs.read_on.Statement.{statement}
 use Rattle.reading.proofs.read_on.Tie as tie
-use Rattle.reading.proofs.read_on.Reads as reads
-use Rattle.reading.proofs.read_on.Lts as lts
-use Rattle.reading.proofs.meet_blocks.Reads as meet-blocks-reads
-use Rattle.reading.proofs.next_depth.Reads as next-depth-reads
-use Rattle.reading.proofs.pick.Reads as pick-reads
-use Rattle.reading.proofs.read_down.Reads as read-down-reads
-use Rattle.record.proofs.block_count.Reads as block-count-reads
 
 pick-requires : tie.Need-pick-requires
 pick-requires c κs = search needs
@@ -58,21 +52,26 @@ meet-blocks-requires c κs =
       ),
     )
 
-read-down-requires : tie.Need-read-down-requires
-read-down-requires c κs = search needs
+down-to-requires : tie.Need-down-to-requires
+down-to-requires c κs = search needs
+
+pick-requires-4 : tie.Need-pick-requires-4
+pick-requires-4 c κs = search needs
 
 returns : tie.Need-returns
-unfolding readSide
+unfolding readSide readTo downTo
 returns c =
     simp (
-      c .read-down .ensures,
-      c .before .meet-blocks .ensures,
-      c .before .before .block-count .ensures .0,
-      c .before .before .before .next-depth .ensures,
-      c .before .before .before .before .pick3 .ensures,
-      c .before .before .before .before .before .pick2 .ensures,
-      c .before .before .before .before .before .before .pick .ensures,
-    ) refl
+      c .pick4 .ensures,
+      c .before .down-to .ensures,
+      c .before .before .meet-blocks .ensures,
+      c .before .before .before .block-count .ensures .0,
+      c .before .before .before .before .next-depth .ensures,
+      c .before .before .before .before .before .pick3 .ensures,
+      c .before .before .before .before .before .before .pick2 .ensures,
+      c .before .before .before .before .before .before .before .pick .ensures,
+    )
+    refl
 
 pub read-on-spec : {M : Type 1} → statement M
 read-on-spec =
@@ -87,5 +86,6 @@ read-on-spec =
     cast-meet-blocks-2
     cast-meet-blocks-3
     meet-blocks-requires
-    read-down-requires
+    down-to-requires
+    pick-requires-4
     returns)
