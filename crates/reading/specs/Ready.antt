@@ -1,13 +1,14 @@
 -- A record whose held pairs are in order, ready to meet a block pair. Definitions only. Assumes nothing.
-use Prim.Native.Nat.{_+_, _≤_, _<_}
+use Prim.Native.Nat.{_+_, _%_, _≤_, _<_}
 use mathlib.Core.Path.{_≡_}
 use mathlib.Core.Bool.{Bool, cond}
-use lib.ListN.{length}
+use lib.ListN.{length, getD}
 use Rattle.lists.specs.Words.{Ordered}
+use Rattle.rules.specs.declared.Pair.{Pair}
 use Rattle.rules.specs.declared.Session.{Session}
 use Rattle.rules.specs.Tables.{Block, ahead}
 use Rattle.rules.specs.Read.{meet}
-use Rattle.rules.specs.Session.{places, heldPairs}
+use Rattle.rules.specs.Session.{noPair, places, heldPairs}
 use Rattle.laws.specs.Record.{QueryFits}
 
 pub record Ready (s : Session) : Type 0 where
@@ -17,6 +18,10 @@ pub record Ready (s : Session) : Type 0 where
   pub count : length (heldPairs s) ≡ s .held
   pub zeros : s .pairs ≡ places (heldPairs s)
   pub order : Ordered ahead (heldPairs s)
+
+-- the pair in the last held place; where none is held, what stands in the last place of all
+abbrev pub lastHeld : Session → Pair
+lastHeld s = getD (s .pairs) ((s .held + 63) % 64) noPair
 
 -- a new block and an old one meet, as field and trim; the flag says whether the new block is of the field table
 abbrev pub meetParts : Bool → Session → Block → Block → Session

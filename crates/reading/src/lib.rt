@@ -4,6 +4,7 @@ use held::Held;
 use rules::Answer;
 use rules::Counts;
 use rules::FieldRows;
+use rules::Pair;
 use rules::Session;
 use rules::Step;
 use rules::TrimRows;
@@ -15,7 +16,7 @@ ghost use Rattle.rules.specs.Session.{settled};
 ghost use Rattle.rules.specs.Read.{scoreDrop, fieldNext, skipped, meet, rowsBetween, meetBlocks, nextDepth};
 ghost use Rattle.laws.specs.Sizes.{Lent};
 ghost use Rattle.block.specs.Block.{at, Rows};
-ghost use Rattle.reading.specs.Ready.{Ready, meetParts};
+ghost use Rattle.reading.specs.Ready.{Ready, lastHeld, meetParts};
 ghost use Rattle.reading.specs.Effect.{Effect, EffectParts};
 ghost use Rattle.reading.specs.Side.{Due, downTo, readSide, sideStep};
 
@@ -62,9 +63,9 @@ pub fn field_next(f: &[i32], t: &[i32], s: Session) -> bool
     d <= e
 }
 
-// Whether nothing unread can matter.
-pub fn is_settled(f: &[i32], t: &[i32], s: Session) -> bool
-    requires { ⌜ Lent (now f) (now t) s ⌝ }
+// Whether nothing unread can matter. `last` is the last held pair: of ranked pairs it decides.
+pub fn is_settled(f: &[i32], t: &[i32], s: Session, last: Pair) -> bool
+    requires { ⌜ Lent (now f) (now t) s × (last ≡ lastHeld s) ⌝ }
     ensures { λ r. ⌜ r ≡ settled (now (f .entry)) (now (t .entry)) s ⌝ }
 {
     let m = s.rows.field.0;
@@ -81,8 +82,7 @@ pub fn is_settled(f: &[i32], t: &[i32], s: Session) -> bool
     if s.out + s.held != s.query.k {
         return false;
     }
-    let p = s.pairs[s.held as usize - 1];
-    ceiling::is_secured(f, t, s, p)
+    ceiling::is_secured(f, t, s, last)
 }
 
 // Whether a block pair cannot change the pairs held: k are held or out, and its first scores add to less than the

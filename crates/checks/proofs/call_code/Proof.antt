@@ -1,26 +1,23 @@
 -- `call_code` meets its contract: the rows are looked at only once 5 and 4 have passed. Assumes nothing.
-use mathlib.Core.Path.{sym, _∙_}
+use mathlib.Core.Path.{_≡_, refl, sym, _∙_}
+use mathlib.Core.Bool.{true}
 use mathlib.Core.List.{List}
 use Prim.Native.Nat.{ℕ, _+_, _*_, _≤_}
 use native.Mathlib.Omega.{arith}
 use lib.IntN.{ℤ}
 use lib.ListN.{length}
 use borrow.Author.Tests.{eq-eqb, ne-eqb}
-use Rattle.rules.specs.Calls.{callCode}
 use Rattle.laws.specs.Record.{CountsFit}
-use Rattle.laws.specs.Sizes.{SameSize, Lent, lent}
+use Rattle.laws.specs.Sizes.{SameSize}
+use Rattle.checks.specs.Codes.{callOf, lent-passed}
 use borrow.Author.Needs.{needs}
 use Rattle.checks.proofs.call_code.Statement.{statement}
 use Rattle.checks.proofs.call_code.Tie as tie
-use Rattle.checks.proofs.call_code.Reads as reads
-use Rattle.checks.proofs.call_code.Lts as lts
-use Rattle.checks.proofs.lent_code.Reads as lent-code-reads
-use Rattle.tables.proofs.rows_code.Reads as rows-code-reads
 
-known : (c : tie.Else1) → Lent (c .before .before .args .f .now) (c .before .before .args .t .now) (c .before .before .args .s)
+known : (c : tie.Else1) → (c .before .before .args .fits ≡ true) × (SameSize (c .before .before .args .rows .field .0) (c .before .before .args .f .now) × SameSize (c .before .before .args .rows .trim .0) (c .before .before .args .t .now))
 known c =
-    lent (c .before .before .args .f .now) (c .before .before .args .t .now) (c .before .before .args .s)
-    (eq-eqb _ _ (sym (c .before .lent-code .ensures) ∙ c .if1 .left))
+    let s = c .before .before .args in
+    lent-passed (s .fits) (s .rows) (s .f .now) (s .t .now) (eq-eqb _ _ (sym (c .before .lent-code .ensures) ∙ c .if1 .left))
 
 rows-within : (t : List ℤ) (rows depth : ℕ) → SameSize rows t → CountsFit rows depth → (0 + depth ≤ 65535) × (4 * (0 + depth) ≤ length t)
 rows-within t rows depth h k = omega (arith, h .size .whole, h .count, k .few, k .within)
@@ -29,8 +26,8 @@ lent-code-requires : tie.Need-lent-code-requires
 lent-code-requires c κs = search needs
 
 returns : tie.Need-returns
-unfolding callCode
-returns c = simp (← c .before .lent-code .ensures, ne-eqb _ _ (c .if1 .taken))
+unfolding callOf
+returns c = simp (← c .before .lent-code .ensures, ne-eqb _ _ (c .if1 .taken)) refl
 
 cast-rows-code : tie.Need-cast-rows-code
 cast-rows-code c = search needs
@@ -38,26 +35,33 @@ cast-rows-code c = search needs
 rows-code-requires : tie.Need-rows-code-requires
 rows-code-requires c κs =
     let k = known (c .before) in
-    rows-within _ _ _ (k .field) (k .fits .field)
+    rows-within _ _ _ (k .1 .0) (c .before .before .before .pre (k .0) .field)
 
 returns-2 : tie.Need-returns-2
-unfolding callCode
+unfolding callOf
 returns-2 c =
-    simp (← c .before .before .before .before .lent-code .ensures, c .before .before .before .if1 .left, ← c .before .rows-code .ensures, ne-eqb _ _ (c .if2 .taken))
+    simp (← c .before .before .before .before .lent-code .ensures, c .before .before .before .if1 .left, ← c .before .rows-code .ensures, ne-eqb _ _ (c .if2 .taken)) refl
 
 cast-rows-code-2 : tie.Need-cast-rows-code-2
 cast-rows-code-2 c = search needs
 
 rows-code-requires-2 : tie.Need-rows-code-requires-2
 rows-code-requires-2 c κs =
-    let k = known (c .before .before .before .before) in
-    rows-within _ _ _ (k .trim) (k .fits .trim)
+    let at = c .before .before .before .before in
+    let k = known at in
+    rows-within _ _ _ (k .1 .1) (at .before .before .pre (k .0) .trim)
 
 returns-3 : tie.Need-returns-3
-unfolding callCode
+unfolding callOf
 returns-3 c =
-    simp
-    (← c .before .before .before .before .before .before .lent-code .ensures, c .before .before .before .before .before .if1 .left, ← c .before .before .before .rows-code .ensures, c .before .before .if2 .left, ← c .rows-code2 .ensures)
+    simp (
+      ← c .before .before .before .before .before .before .lent-code .ensures,
+      c .before .before .before .before .before .if1 .left,
+      ← c .before .before .before .rows-code .ensures,
+      c .before .before .if2 .left,
+      ← c .rows-code2 .ensures,
+    )
+    refl
 
 pub call-code-spec : {M : Type 1} → statement M
 call-code-spec =

@@ -1,6 +1,6 @@
 -- `show` meets its contract: which table it is a part of, and which rows. Assumes nothing.
-use mathlib.Core.Path.{_≡_, sym, _∙_}
-use mathlib.Core.Bool.{true}
+use mathlib.Core.Path.{_≡_, refl, sym, ap, _∙_}
+use mathlib.Core.Bool.{Bool, true}
 use native.Mathlib.Omega.{arith}
 use lib.Dec.{eqb}
 use borrow.Author.Tests.{eq-eqb, ne-eqb}
@@ -8,19 +8,25 @@ use Rattle.rules.specs.Take.{shownRows}
 use Rattle.rules.specs.Calls.{lentCode, showCall, showPlace}
 use Rattle.laws.specs.Record.{mark-field, mark-trim}
 use Rattle.laws.specs.Sizes.{Lent, lent}
+use Rattle.checks.specs.Codes.{lentOf, lent-is}
 use borrow.Author.Needs.{needs}
 use Rattle.session.proofs.show.Statement.{statement}
 use Rattle.session.proofs.show.Tie as tie
-use Rattle.session.proofs.show.Reads as reads
-use Rattle.session.proofs.show.Lts as lts
-use Rattle.checks.proofs.lent_code.Reads as lent-code-reads
-use Rattle.session.proofs.last_rows.Reads as last-rows-reads
 
-passed : (c : tie.Else1) → eqb (lentCode (c .before .before .args .f .now) (c .before .before .args .t .now) (c .before .before .args .s)) 0 ≡ true
-passed c = eq-eqb _ _ (sym (c .before .lent-code .ensures) ∙ c .if1 .left)
+-- what the checks answer is the rule's
+code-is : (c : tie.After-lent-code) → c .lent-code .result ≡ lentCode (c .before .before .args .f .now) (c .before .before .args .t .now) (c .before .before .args .s)
+code-is c =
+    let s = c .before .before .args in
+    c .lent-code .ensures ∙ ap (λ (b : Bool). lentOf b (s .s .rows) (s .f .now) (s .t .now)) (c .before .record-fits .ensures) ∙ lent-is (s .f .now) (s .t .now) (s .s)
 
-known : (c : tie.Else1) → Lent (c .before .before .args .f .now) (c .before .before .args .t .now) (c .before .before .args .s)
-known c = lent (c .before .before .args .f .now) (c .before .before .args .t .now) (c .before .before .args .s) (passed c)
+passed : (c : tie.Else1) → eqb (lentCode (c .before .before .before .args .f .now) (c .before .before .before .args .t .now) (c .before .before .before .args .s)) 0 ≡ true
+passed c = eq-eqb _ _ (sym (code-is (c .before)) ∙ c .if1 .left)
+
+known : (c : tie.Else1) → Lent (c .before .before .before .args .f .now) (c .before .before .before .args .t .now) (c .before .before .before .args .s)
+known c = lent (c .before .before .before .args .f .now) (c .before .before .before .args .t .now) (c .before .before .before .args .s) (passed c)
+
+record-fits-requires : tie.Need-record-fits-requires
+record-fits-requires c κs = search needs
 
 lent-code-requires : tie.Need-lent-code-requires
 lent-code-requires c κs = search needs
@@ -32,7 +38,7 @@ returns : tie.Need-returns
 unfolding showCall showPlace
 returns c =
     let refused = ne-eqb _ _ (c .before .if1 .taken) in
-    (simp (← c .before .before .lent-code .ensures, refused), simp (← c .before .before .lent-code .ensures, refused))
+    (simp (← code-is (c .before .before), refused), simp (← code-is (c .before .before), refused))
 
 last-rows-requires : tie.Need-last-rows-requires
 last-rows-requires c κs =
@@ -75,6 +81,7 @@ pub show-spec : {M : Type 1} → statement M
 show-spec =
     tie.close
     (tie.spec
+    record-fits-requires
     lent-code-requires
     slice-aggregate-result
     returns

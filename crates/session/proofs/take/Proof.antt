@@ -1,6 +1,6 @@
 -- `take` meets its contract: document 01's take. Assumes nothing.
-use mathlib.Core.Path.{_≡_, refl, sym, _∙_}
-use mathlib.Core.Bool.{true}
+use mathlib.Core.Path.{_≡_, refl, sym, ap, _∙_}
+use mathlib.Core.Bool.{Bool, true}
 use native.Mathlib.Omega.{arith}
 use lib.Dec.{eqb, ltb}
 use borrow.Author.Tests.{eq-eqb, ne-eqb, ltb-true}
@@ -9,28 +9,34 @@ use Rattle.rules.specs.Take.{firstHeld, givesPair}
 use Rattle.rules.specs.Calls.{callCode, takeCall}
 use Rattle.laws.specs.Bools.{and-left}
 use Rattle.laws.specs.Sizes.{Lent, call-lent}
+use Rattle.checks.specs.Codes.{within, callOf, call-is}
 use borrow.Author.Needs.{needs}
 use Rattle.session.proofs.take.Statement.{statement}
 use Rattle.session.proofs.take.Tie as tie
-use Rattle.session.proofs.take.Reads as reads
-use Rattle.session.proofs.take.Lts as lts
-use Rattle.checks.proofs.call_code.Reads as call-code-reads
-use Rattle.session.proofs.gives_pair.Reads as gives-pair-reads
-use Rattle.session.proofs.is_finished.Reads as is-finished-reads
-use Rattle.session.proofs.moved_out.Reads as moved-out-reads
 
-passed : (c : tie.Else1) → eqb (callCode (c .before .before .args .f .now) (c .before .before .args .t .now) (c .before .before .args .t3)) 0 ≡ true
-passed c = eq-eqb _ _ (sym (c .before .call-code .ensures) ∙ c .if1 .left)
+-- what the checks answer is the rule's
+code-is : (c : tie.After-call-code) → c .call-code .result ≡ callCode (c .before .before .before .before .args .f .now) (c .before .before .before .before .args .t .now) (c .before .before .before .before .args .t3)
+code-is c =
+    let s = c .before .before .before .before .args in
+    c .call-code .ensures
+    ∙ ap (λ (b : Bool). callOf b (s .t3 .rows) (s .t3 .depth) (s .f .now) (s .t .now)) (c .before .before .before .record-fits .ensures)
+    ∙ call-is (s .f .now) (s .t .now) (s .t3)
 
-known : (c : tie.Else1) → Lent (c .before .before .args .f .now) (c .before .before .args .t .now) (c .before .before .args .t3)
-known c = call-lent (c .before .before .args .f .now) (c .before .before .args .t .now) (c .before .before .args .t3) (passed c)
+passed : (c : tie.Else1) → eqb (callCode (c .before .before .before .before .before .args .f .now) (c .before .before .before .before .before .args .t .now) (c .before .before .before .before .before .args .t3)) 0 ≡ true
+passed c = eq-eqb _ _ (sym (code-is (c .before)) ∙ c .if1 .left)
+
+known : (c : tie.Else1) → Lent (c .before .before .before .before .before .args .f .now) (c .before .before .before .before .before .args .t .now) (c .before .before .before .before .before .args .t3)
+known c = call-lent (c .before .before .before .before .before .args .f .now) (c .before .before .before .before .before .args .t .now) (c .before .before .before .before .before .args .t3) (passed c)
+
+record-fits-requires : tie.Need-record-fits-requires
+record-fits-requires c κs = search needs
 
 call-code-requires : tie.Need-call-code-requires
-call-code-requires c κs = search needs
+call-code-requires c κs h = within (c .before .before .before .args .t3) (sym (c .before .before .record-fits .ensures) ∙ h)
 
 returns : tie.Need-returns
 unfolding takeCall
-returns c = simp (← c .before .call-code .ensures, ne-eqb _ _ (c .if1 .taken))
+returns c = simp (← code-is (c .before), ne-eqb _ _ (c .if1 .taken)) refl
 
 gives-pair-requires : tie.Need-gives-pair-requires
 gives-pair-requires c κs = known c
@@ -41,7 +47,7 @@ element-copy-out-p c = search needs
 moved-out-requires : tie.Need-moved-out-requires
 unfolding givesPair
 moved-out-requires c κs =
-    let s = c .before .before .before .before .before .args in
+    let s = c .before .before .before .before .before .before .before .before .args in
     let gives = sym (c .before .before .gives-pair .ensures) ∙ c .before .if2 .taken in
     let some = ltb-true 0 (s .t3 .held) (and-left (ltb 0 (s .t3 .held)) (secured (s .f .now) (s .t .now) (s .t3) (firstHeld (s .t3))) gives) in
     let k = known (c .before .before .before) .fits in
@@ -82,6 +88,7 @@ pub take-spec : {M : Type 1} → statement M
 take-spec =
     tie.close
     (tie.spec
+    record-fits-requires
     call-code-requires
     returns
     gives-pair-requires

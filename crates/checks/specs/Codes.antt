@@ -1,0 +1,50 @@
+-- The numbers that a call is refused by, of what the checks look at: whether 5 has passed, row counts and depths, and the
+-- two slices. Assumes nothing.
+use mathlib.Core.Path.{_≡_, refl}
+use mathlib.Core.Bool.{Bool, true}
+use mathlib.Core.List.{List}
+use Prim.Native.Nat.{ℕ}
+use lib.Dec.{eqb}
+use lib.IntN.{ℤ}
+use Rattle.rules.specs.declared.Counts.{Counts}
+use Rattle.rules.specs.declared.Session.{Session}
+use Rattle.rules.specs.Numbers.{badRecord, unless, first}
+use Rattle.rules.specs.Calls.{sameSizeCode, rowsCode, recordFits, recordCode, lentCode, callCode}
+use Rattle.laws.specs.Bools.{first-none, unless-passed}
+use Rattle.laws.specs.Record.{CountsFit, record-fits}
+use Rattle.laws.specs.Sizes.{SameSize, same-size}
+
+-- no table is read beyond its rows, of which there are at most 65,535
+pub record Within (rows depth : Counts) : Type 0 where
+  pub field : CountsFit (rows .field .0) (depth .field .0)
+  pub trim : CountsFit (rows .trim .0) (depth .trim .0)
+
+-- a record that passed 5 keeps them
+pub within : (s : Session) → recordFits s ≡ true → Within (s .rows) (s .depth)
+within s h = let f = record-fits s h in record { field = f .field; trim = f .trim }
+
+unfoldable pub lentOf : Bool → Counts → List ℤ → List ℤ → ℕ
+lentOf fits rows f t =
+    first (unless fits badRecord) (first (sameSizeCode (rows .field .0) f) (sameSizeCode (rows .trim .0) t))
+
+unfoldable pub callOf : Bool → Counts → Counts → List ℤ → List ℤ → ℕ
+callOf fits rows depth f t =
+    first (lentOf fits rows f t) (first (rowsCode f 0 (depth .field .0)) (rowsCode t 0 (depth .trim .0)))
+
+-- they are the rules'
+pub lent-is : (f t : List ℤ) (s : Session) → lentOf (recordFits s) (s .rows) f t ≡ lentCode f t s
+unfolding lentOf lentCode recordCode
+lent-is f t s = refl
+
+pub call-is : (f t : List ℤ) (s : Session) → callOf (recordFits s) (s .rows) (s .depth) f t ≡ callCode f t s
+unfolding callOf callCode lentOf lentCode recordCode
+call-is f t s = refl
+
+-- neither 5 nor 4
+pub lent-passed : (fits : Bool) (rows : Counts) (f t : List ℤ) → eqb (lentOf fits rows f t) 0 ≡ true
+    → (fits ≡ true) × (SameSize (rows .field .0) f × SameSize (rows .trim .0) t)
+unfolding lentOf
+lent-passed fits rows f t h =
+    let a = first-none (unless fits badRecord) (first (sameSizeCode (rows .field .0) f) (sameSizeCode (rows .trim .0) t)) h in
+    let b = first-none (sameSizeCode (rows .field .0) f) (sameSizeCode (rows .trim .0) t) (a .1) in
+    (unless-passed fits badRecord refl (a .0), (same-size (rows .field .0) f (b .0), same-size (rows .trim .0) t (b .1)))
