@@ -122,7 +122,7 @@ fn put_asked(out: &mut [u8], input: &[u8], f: &[i32], t: &[i32]) -> usize
 }
 
 // What the program prints, at the front of `out`: how many bytes it is. The rest of `out` stays as it was.
-pub fn whole_query(field: &[u8], trim: &[u8], input: &[u8], out: &mut [u8]) -> usize
+fn put_whole(out: &mut [u8], field: &[u8], trim: &[u8], input: &[u8]) -> usize
     requires { ⌜ 2412 ≤ length (now out) ⌝ }
     ensures { λ r. ⌜ (r ≤ 2412) × (r ≡ length (wholeQuery (now (field .entry)) (now (trim .entry)) (now (input .entry)))) ⌝ }
     ensures { λ r. ⌜ now (out .exit) ≡ wholeQuery (now (field .entry)) (now (trim .entry)) (now (input .entry)) ++ drop r (now (out .entry)) ⌝ }
@@ -140,4 +140,12 @@ pub fn whole_query(field: &[u8], trim: &[u8], input: &[u8], out: &mut [u8]) -> u
     let e = 4 * (m as usize);
     let g = 4 * (n as usize);
     put_asked(out, input, &f[..e], &t[..g])
+}
+
+// What the program prints, at the front of a place for the longest listing: how many bytes it is.
+pub fn whole_query(field: &[u8], trim: &[u8], input: &[u8], out: &mut [u8; 2412]) -> usize
+    ensures { λ r. ⌜ (r ≤ 2412) × (r ≡ length (wholeQuery (now (field .entry)) (now (trim .entry)) (now (input .entry)))) ⌝ }
+    ensures { λ r. ⌜ now (out .exit) ≡ wholeQuery (now (field .entry)) (now (trim .entry)) (now (input .entry)) ++ drop r (now (out .entry)) ⌝ }
+{
+    put_whole(out, field, trim, input)
 }

@@ -1,17 +1,14 @@
 -- `main` only moves bytes: every part that it lends lies within its array. Assumes nothing.
-use mathlib.Core.Path.{_≡_, sym, _∙_}
+use mathlib.Core.Path.{_≡_, sym, ap}
+use mathlib.Core.List.{List, _++_}
+use Prim.Native.Nat.{ℕ, _≤_}
 use native.Mathlib.Omega.{arith}
-use lib.ListN.{length, length-replicate}
+use lib.ListN.{length, length-append, drop, replicate}
 use lib.Seq.{length-take-le}
+use Rattle.rules.specs.Query.{wholeQuery}
 use borrow.Author.Needs.{needs}
 use Rattle.pairing.proofs.main.Statement.{statement}
 use Rattle.pairing.proofs.main.Tie as tie
-use Rattle.pairing.proofs.main.Reads as reads
-use Rattle.pairing.proofs.main.Lts as lts
-use Rattle.io.proofs.read_full.Reads as read-full-reads
-use Rattle.io.proofs.write_all.Reads as write-all-reads
-use Rattle.pairing.proofs.read_file.Reads as read-file-reads
-use Rattle.query.proofs.whole_query.Reads as whole-query-reads
 
 slice-aggregate-read-file : tie.Need-slice-aggregate-read-file
 slice-aggregate-read-file c = search needs
@@ -55,20 +52,23 @@ array-share-prefix-input c = search needs
 slice-aggregate-whole-query-3 : tie.Need-slice-aggregate-whole-query-3
 slice-aggregate-whole-query-3 c = search needs
 
-slice-aggregate-whole-query-4 : tie.Need-slice-aggregate-whole-query-4
-slice-aggregate-whole-query-4 c = search needs
-
 whole-query-requires : tie.Need-whole-query-requires
 whole-query-requires c κs = search needs
 
+-- what was written lies within the place for it
+front : (f t i l m : List ℕ) (r : ℕ) → r ≡ length (wholeQuery f t i) → l ≡ wholeQuery f t i ++ drop r m → r ≤ length l
+front f t i l m r e h = omega (arith, ap length h, length-append (wholeQuery f t i) (drop r m))
+
+fits : (c : tie.After-whole-query) → c .whole-query .result ≤ length (c .whole-query .last .1 .1 .1 .0)
+fits c =
+    let w = c .whole-query in
+    front _ _ _ (w .last .1 .1 .1 .0) (replicate 2412 0) (w .result) (w .ensures .0 .1) (w .ensures .1)
+
 array-share-prefix-out : tie.Need-array-share-prefix-out
-array-share-prefix-out c = search needs
+array-share-prefix-out c = fits c
 
 slice-aggregate-write-all : tie.Need-slice-aggregate-write-all
-slice-aggregate-write-all c =
-    let whole = c .before .before .whole-query in
-    let size : length (whole .last .1 .1 .1 .0) ≡ 2412 = whole .kept .1 .1 .1 .0 ∙ simp length-replicate in
-    sym (length-take-le (whole .result) (whole .last .1 .1 .1 .0) (omega (arith, whole .ensures .0 .0, size)))
+slice-aggregate-write-all c = let w = c .before .whole-query in sym (length-take-le (w .result) (w .last .1 .1 .1 .0) (fits (c .before)))
 
 write-all-requires : tie.Need-write-all-requires
 write-all-requires c κs = search needs
@@ -94,7 +94,6 @@ main-spec =
     slice-aggregate-whole-query-2
     array-share-prefix-input
     slice-aggregate-whole-query-3
-    slice-aggregate-whole-query-4
     whole-query-requires
     array-share-prefix-out
     slice-aggregate-write-all

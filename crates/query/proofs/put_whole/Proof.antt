@@ -1,4 +1,4 @@
--- `whole_query` meets its contract: the checks in document 01's order, then the listing. Assumes nothing.
+-- `put_whole` meets its contract: the checks in document 01's order, then the listing. Assumes nothing.
 use mathlib.Core.Path.{_≡_, sym, ap, _∙_}
 use Prim.Native.Nat.{_*_, _≤_}
 use native.Mathlib.Omega.{arith}
@@ -9,10 +9,10 @@ use Rattle.rules.specs.Query.{refusalLine}
 use Rattle.query.specs.Program.{program-rows, inputBytes}
 use Rattle.query.proofs.Steps.{table-front, field-unfit, trim-unfit, files-fit, to-front}
 use borrow.Author.Needs.{needs}
-use Rattle.query.proofs.whole_query.Statement.{statement}
-use Rattle.query.proofs.whole_query.Tie as tie
-use Rattle.query.proofs.whole_query.Reads as reads
-use Rattle.query.proofs.whole_query.Lts as lts
+use Rattle.query.proofs.put_whole.Statement.{statement}
+use Rattle.query.proofs.put_whole.Tie as tie
+use Rattle.query.proofs.put_whole.Reads as reads
+use Rattle.query.proofs.put_whole.Lts as lts
 use Rattle.query.proofs.code_of.Reads as code-of-reads
 use Rattle.query.proofs.load_table.Reads as load-table-reads
 use Rattle.query.proofs.put_asked.Reads as put-asked-reads
@@ -152,8 +152,8 @@ returns-3 c =
     (table-front (s .trim .now) (pos 2) _ (load2 .last .1 .1 .0) (n .0 .0) j (load2 .ensures .1)))
     (c .before .before .before .before .before .before .before .before .before .before .before .before .before .before .before .before .before .before .before .before .before .before .pre) (c .before .before .put-asked .ensures)
 
-pub whole-query-spec : {M : Type 1} → statement M
-whole-query-spec =
+pub put-whole-spec : {M : Type 1} → statement M
+put-whole-spec =
     tie.close
     (tie.spec
     slice-aggregate-load-table
