@@ -1,10 +1,11 @@
 -- `is_settled` meets its contract: of ranked pairs the last decides. Assumes nothing.
 use mathlib.Core.Path.{_≡_, refl, sym, ap, _∙_}
+use mathlib.Core.Bool.{true}
 use Prim.Native.Nat.{ℕ, _+_, _-_, _%_, _<_, _≤_}
 use native.Mathlib.Omega.{arith}
 use lib.ListN.{length, length-map, getD}
 use borrow.Author.Tests.{eq-eqb, ne-eqb}
-use Rattle.rules.specs.Session.{noPair, settled}
+use Rattle.rules.specs.Session.{noPair, aTableIsEmpty, settled}
 use Rattle.ceiling.specs.Last.{held-then-reached, held-secured}
 use borrow.Author.Needs.{needs}
 use Rattle.reading.proofs.is_settled.Statement.{statement}
@@ -20,7 +21,9 @@ some c = omega (arith, c .if4 .left, c .before .before .before .if3 .left)
 
 returns : tie.Need-returns
 unfolding settled
-returns c = simp (c .if1 .taken) refl
+returns c =
+    let none : aTableIsEmpty (c .before .args .s) ≡ true = c .if1 .taken in
+    simp none refl
 
 returns-2 : tie.Need-returns-2
 unfolding settled

@@ -60,32 +60,32 @@ returns c =
 -- src/calls.rt:13:1
 returns-2 : tie.Need-returns-2
 unfolding answerNumber
-returns-2 c = cc
+returns-2 c = sym (ap answerNumber (c .enum-told .given .1))
 
 -- src/calls.rt:13:1
 returns-3 : tie.Need-returns-3
 unfolding answerNumber
-returns-3 c = cc
+returns-3 c = sym (ap answerNumber (c .enum-told2 .given .1))
 
 -- src/calls.rt:13:1
 returns-4 : tie.Need-returns-4
 unfolding answerNumber
-returns-4 c = cc
+returns-4 c = sym (ap answerNumber (c .enum-told3 .given .1))
 
 -- src/calls.rt:13:1
 returns-5 : tie.Need-returns-5
 unfolding answerNumber
-returns-5 c = cc
+returns-5 c = sym (ap answerNumber (c .enum-told4 .given .1))
 
 -- src/calls.rt:13:1
 returns-6 : tie.Need-returns-6
 unfolding answerNumber
-returns-6 c = cc
+returns-6 c = sym (ap answerNumber (c .enum-told5 .given .1))
 
 -- src/calls.rt:13:1
 returns-7 : tie.Need-returns-7
 unfolding answerNumber
-returns-7 c = cc
+returns-7 c = sym (ap answerNumber (c .enum-told6 .given .1))
 
 pub numbered-spec : {M : Type 1} → statement M
 numbered-spec =
