@@ -1,4 +1,5 @@
 -- `unpack` meets its contract. Assumes nothing.
+use mathlib.Core.Path.{refl}
 use native.Mathlib.Omega.{arith}
 use Rattle.flat.specs.Flat.{unflatten}
 use borrow.Author.Needs.{needs}
@@ -73,7 +74,8 @@ add-t23 c = omega arith
 -- src/lib.rt:69:1
 returns : tie.Need-returns
 unfolding unflatten
-returns c = cc
+returns c =
+    simp (c .before .before .before .wide2 .ensures .0, c .before .before .before .before .before .wide .ensures .0, c .before .before .before .before .before .before .before .pairs-in .ensures, c .before .before .before .before .before .before .before .before .before .before .before .before .query-in .ensures) refl
 
 pub unpack-spec : {M : Type 1} → statement M
 unpack-spec =
