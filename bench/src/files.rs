@@ -20,7 +20,12 @@ fn rows() -> Vec<[i32; 4]> {
             let digits = 10u64.pow(1 + next(6) as u32);
             let pattern = 1 + next(digits - 1) as i32;
             let shade = |x: u64| x as i32 - 12_800;
-            [pattern, next(10_000) as i32, shade(next(25_501)), shade(next(25_501))]
+            [
+                pattern,
+                next(10_000) as i32,
+                shade(next(25_501)),
+                shade(next(25_501)),
+            ]
         })
         .collect();
     rows.sort_by_key(|row| -row[1]);
@@ -59,6 +64,12 @@ pub fn run() {
     }
     assert_eq!(ours, theirs);
     let [load, plain_load, check, plain_check] = times.map(least);
-    println!("load:  {load:6.1} ns/row, plain Rust {plain_load:6.1} ns/row, ratio {:.2}", load / plain_load);
-    println!("check: {check:6.1} ns/row, plain Rust {plain_check:6.1} ns/row, ratio {:.2}", check / plain_check);
+    println!(
+        "load:  {load:6.1} ns/row, plain Rust {plain_load:6.1} ns/row, ratio {:.2}",
+        load / plain_load
+    );
+    println!(
+        "check: {check:6.1} ns/row, plain Rust {plain_check:6.1} ns/row, ratio {:.2}",
+        check / plain_check
+    );
 }
