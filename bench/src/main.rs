@@ -44,13 +44,20 @@ fn section(section: &suite::Section, seeds: u64) -> Vec<Measured> {
 }
 
 fn queries(full: bool, seeds: u64, plot_to: &str) {
-    for (i, cases) in suite::sections(full).iter().enumerate() {
+    let mut all = Vec::new();
+    for cases in &suite::sections(full) {
         let measured = section(cases, seeds);
-        if i == 0 {
+        if all.is_empty() {
             std::fs::write(plot_to, plot::svg(&measured)).expect("the plot can be written");
             println!("\nPlot: {plot_to}");
         }
+        all.extend(measured);
     }
+    println!(
+        "\n## All {} cases: the library's time over the other's\n",
+        all.len()
+    );
+    report::summary(&all);
 }
 
 fn main() {
@@ -61,7 +68,7 @@ fn main() {
         ["profile", rest @ ..] => return profile::run(rest),
         ["files"] => files::run(),
         ["short", plot_to] => queries(false, 3, plot_to),
-        ["full", plot_to] => queries(true, 7, plot_to),
+        ["full", plot_to] => queries(true, 5, plot_to),
         _ => {
             eprintln!("usage: bench/run [short|full|files], or bench/run profile CONTENDER RADIUS K BLOCK RUNS");
             std::process::exit(2);

@@ -1,5 +1,7 @@
 //! Times and counts of a case, seed by seed; the lists of sums are compared in every run.
-use crate::contenders::{Contender, CONTENDERS, COUNT, LIBRARY, SAME_CHECKS, WHOLE_QUERY};
+use crate::contenders::{
+    Contender, CONTENDERS, COUNT, EACH_ROW_ONCE, LIBRARY, SAME_CHECKS, WHOLE_QUERY,
+};
 use crate::outcome::Outcome;
 use crate::sure::least_sure;
 use crate::tables::{tables, Shape, Tables};
@@ -10,6 +12,9 @@ use std::time::Instant;
 
 /// A run shorter than this is repeated until it is not.
 const LEAST_MS: f64 = 4.0;
+/// Of so many rounds the least time counts; who has spent so long gets no further round.
+const ROUNDS: usize = 3;
+const ENOUGH_MS: f64 = 400.0;
 
 #[derive(Clone, Copy)]
 pub struct Case {
@@ -39,7 +44,7 @@ pub struct Spread {
 }
 
 impl Spread {
-    fn of(mut values: Vec<f64>) -> Spread {
+    pub fn of(mut values: Vec<f64>) -> Spread {
         values.sort_by(f64::total_cmp);
         Spread {
             median: values[values.len() / 2],
@@ -92,16 +97,18 @@ fn timed(contender: &Contender, query: Query, t: &Tables) -> (f64, Outcome) {
 /// Rounds alternate between the contenders; the least time counts, which other work disturbs least.
 fn least_times(query: Query, t: &Tables) -> ([f64; COUNT], Vec<Outcome>) {
     let mut least = [f64::INFINITY; COUNT];
+    let mut spent = [0.0; COUNT];
     let mut outcomes = Vec::new();
-    let most = CONTENDERS.iter().map(|c| c.rounds).max().unwrap_or(0);
-    for round in 0..most {
+    for round in 0..ROUNDS {
         for (i, contender) in CONTENDERS.iter().enumerate() {
-            if round < contender.rounds {
-                let (ms, outcome) = timed(contender, query, t);
-                least[i] = least[i].min(ms);
-                if round == 0 {
-                    outcomes.push(outcome);
-                }
+            if spent[i] > ENOUGH_MS {
+                continue;
+            }
+            let (ms, outcome) = timed(contender, query, t);
+            least[i] = least[i].min(ms);
+            spent[i] += ms;
+            if round == 0 {
+                outcomes.push(outcome);
             }
         }
     }
@@ -114,7 +121,7 @@ fn assert_agreed(outcomes: &[Outcome]) {
     for (outcome, contender) in outcomes.iter().zip(&CONTENDERS) {
         assert_eq!(outcome.sums, ours.sums, "{}", contender.name);
     }
-    for same in [WHOLE_QUERY, SAME_CHECKS, SAME_CHECKS + 1] {
+    for same in [WHOLE_QUERY, SAME_CHECKS, EACH_ROW_ONCE] {
         let other = &outcomes[same];
         assert_eq!((other.depths, other.joined), (ours.depths, ours.joined));
     }

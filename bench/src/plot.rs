@@ -13,6 +13,10 @@ const LABEL_GAP: f64 = 17.0;
 /// Left edges of the two panels.
 const LEFT: [f64; 2] = [70.0, 730.0];
 
+const SOLID: &str = "stroke-width='2'";
+const DASHED: &str = "stroke-width='2' stroke-dasharray='6 4'";
+/// Shows below a line that covers it.
+const BROAD: &str = "stroke-width='7' stroke-opacity='0.35'";
 const HEAD: &str = "\
 <svg xmlns='http://www.w3.org/2000/svg' width='1320' height='490' viewBox='0 0 1320 490' \
 font-family='DejaVu Sans, Helvetica, Arial, sans-serif' font-size='13' fill='#222'>
@@ -23,7 +27,7 @@ font-family='DejaVu Sans, Helvetica, Arial, sans-serif' font-size='13' fill='#22
 struct Series {
     name: String,
     colour: &'static str,
-    dashed: bool,
+    stroke: &'static str,
     points: Vec<(f64, f64)>,
 }
 
@@ -134,15 +138,11 @@ fn curve(svg: &mut String, scale: &Scale, series: &Series) {
         .map(|(x, y)| format!("{x:.1},{y:.1}"))
         .collect();
     let colour = series.colour;
-    let dash = if series.dashed {
-        r#" stroke-dasharray="6 4""#
-    } else {
-        ""
-    };
     let _ = writeln!(
         svg,
-        r#"<polyline points="{}" fill="none" stroke="{colour}" stroke-width="2"{dash}/>"#,
-        path.join(" ")
+        r#"<polyline points="{}" fill="none" stroke="{colour}" {}/>"#,
+        path.join(" "),
+        series.stroke
     );
     for (x, y) in places {
         let _ = writeln!(
@@ -216,7 +216,11 @@ fn time_series(measured: &[Measured]) -> Vec<Series> {
             _ => CONTENDERS[contender].name.to_string(),
         },
         colour,
-        dashed: contender == SAME_CHECKS,
+        stroke: if contender == SAME_CHECKS {
+            DASHED
+        } else {
+            SOLID
+        },
         points: points(measured, |m| m.ms(contender)),
     };
     shown.map(series).into()
@@ -228,20 +232,20 @@ fn row_series(measured: &[Measured]) -> Vec<Series> {
             m.count(|s| s.outcomes[contender].deepest().into()) as f64
         })
     };
-    let series = |name: &str, colour, dashed, points| Series {
+    let series = |name: &str, colour, stroke, points| Series {
         name: name.to_string(),
         colour,
-        dashed,
+        stroke,
         points,
     };
     vec![
-        series("join first: all rows", "#777777", false, deepest(ALL_PAIRS)),
-        series("001's rule", "#00806a", false, deepest(BLOCK_PRINTED)),
-        series("library", "#0060a8", false, deepest(LIBRARY)),
+        series("join first: all rows", "#777777", SOLID, deepest(ALL_PAIRS)),
+        series("001's rule", "#00806a", BROAD, deepest(BLOCK_PRINTED)),
+        series("library", "#0060a8", SOLID, deepest(LIBRARY)),
         series(
             "least sure reading",
             "#d55e00",
-            true,
+            DASHED,
             points(measured, |m| m.count(|s| s.least_sure.into()) as f64),
         ),
     ]

@@ -115,3 +115,26 @@ pub fn times(measured: &[Measured]) {
         println!("{}", line(&cells));
     }
 }
+
+/// Each contender's ratios over all cases: the middle one, the lowest and the highest of the cases' medians.
+pub fn summary(measured: &[Measured]) {
+    head(&[
+        "Beside",
+        "Median",
+        "Lowest",
+        "Highest",
+        "Cases where the library is faster",
+    ]);
+    for (other, contender) in CONTENDERS.iter().enumerate().skip(1) {
+        let ratios: Vec<f64> = measured.iter().map(|m| m.ratio(other).median).collect();
+        let faster = ratios.iter().filter(|ratio| **ratio < 1.0).count();
+        let spread = Spread::of(ratios);
+        let cells = [spread.median, spread.low, spread.high].map(short);
+        let [median, low, high] = cells;
+        let faster = format!("{faster} of {}", measured.len());
+        println!(
+            "{}",
+            line(&[contender.name.to_string(), median, low, high, faster])
+        );
+    }
+}
