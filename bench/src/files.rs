@@ -1,8 +1,8 @@
 //! The library's reading of a strict file beside the plain Rust reader, alternating.
+use crate::clock;
 use furzeladle_tests::cases::Dice;
 use furzeladle_tests::{check, file, load, plain};
 use std::hint::black_box;
-use std::time::Instant;
 
 const ROWS: usize = 65_535;
 const ROUNDS: usize = 101;
@@ -20,10 +20,8 @@ fn rows() -> Vec<[i32; 4]> {
     rows
 }
 
-fn ns_a_row(mut run: impl FnMut()) -> f64 {
-    let began = Instant::now();
-    run();
-    began.elapsed().as_nanos() as f64 / ROWS as f64
+fn ns_a_row(run: impl FnOnce()) -> f64 {
+    clock::ms(run) * 1e6 / ROWS as f64
 }
 
 /// The least of many rounds: what other programs on the machine disturb least.

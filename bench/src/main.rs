@@ -5,6 +5,7 @@ use std::time::Instant;
 mod block_printed;
 mod blockwise;
 mod checks;
+mod clock;
 mod contenders;
 mod files;
 mod held;

@@ -1,4 +1,5 @@
 //! Times and counts of a case, seed by seed; the lists of sums are compared in every run.
+use crate::clock;
 use crate::contenders::{
     Contender, CONTENDERS, COUNT, EACH_ROW_ONCE, LIBRARY, SAME_CHECKS, WHOLE_QUERY,
 };
@@ -8,13 +9,12 @@ use crate::tables::{tables, Shape, Tables};
 use furzeladle::Query;
 use furzeladle_tests::judge;
 use std::hint::black_box;
-use std::time::Instant;
 
-/// A run shorter than this is repeated until it is not.
+/// Runs shorter than this are repeated until they are not.
 const LEAST_MS: f64 = 4.0;
 /// Of so many rounds the least time counts; who has spent so long gets no further round.
 const ROUNDS: usize = 3;
-const ENOUGH_MS: f64 = 400.0;
+const ENOUGH_MS: f64 = 200.0;
 
 #[derive(Clone, Copy)]
 pub struct Case {
@@ -74,9 +74,8 @@ impl Measured {
     }
 }
 
-/// Milliseconds of a run, of as many as fill some milliseconds.
+/// Milliseconds of a run, of twice as many as before until they fill some milliseconds.
 fn timed(contender: &Contender, query: Query, t: &Tables) -> (f64, Outcome) {
-    let began = Instant::now();
     let run = || {
         black_box((contender.run)(
             query,
@@ -84,14 +83,15 @@ fn timed(contender: &Contender, query: Query, t: &Tables) -> (f64, Outcome) {
             black_box(&t.trim),
         ))
     };
-    let mut outcome = run();
     let mut runs = 1;
-    let ms = || began.elapsed().as_secs_f64() * 1e3;
-    while ms() < LEAST_MS {
-        outcome = run();
-        runs += 1;
+    loop {
+        let mut outcome = None;
+        let ms = clock::ms(|| (0..runs).for_each(|_| outcome = Some(run())));
+        match outcome {
+            Some(outcome) if ms >= LEAST_MS => return (ms / f64::from(runs), outcome),
+            _ => runs *= 2,
+        }
     }
-    (ms() / f64::from(runs), outcome)
 }
 
 /// Rounds alternate between the contenders; the least time counts, which other work disturbs least.

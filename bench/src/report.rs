@@ -30,6 +30,11 @@ fn with_spread(s: Spread) -> String {
     format!("{} ({}–{})", short(s.median), short(s.low), short(s.high))
 }
 
+fn rows_with_spread(s: Spread) -> String {
+    let [median, low, high] = [s.median, s.low, s.high].map(|rows| grouped(rows as u64));
+    format!("{median} ({low}–{high})")
+}
+
 fn line(cells: &[String]) -> String {
     format!("| {} |", cells.join(" | "))
 }
@@ -71,8 +76,8 @@ fn counts_row(m: &Measured) -> String {
     let mut cells = query(m);
     cells.extend([
         depths(m, LIBRARY),
-        grouped(m.count(|s| s.outcomes[LIBRARY].deepest().into())),
-        grouped(m.count(|s| s.least_sure.into())),
+        rows_with_spread(m.spread(|s| s.outcomes[LIBRARY].deepest().into())),
+        rows_with_spread(m.spread(|s| s.least_sure.into())),
         depths(m, BLOCK_PRINTED),
         grouped(m.count(|s| s.outcomes[LIBRARY].joined)),
         grouped(blockwise),
@@ -91,8 +96,8 @@ pub fn counts(measured: &[Measured]) {
         "k",
         "Block",
         "Rows read",
-        "Deeper",
-        "Least sure",
+        "Deeper table",
+        "Least sure reading",
         "001's rule reads",
         "Block pairs joined",
         "Pair tests",

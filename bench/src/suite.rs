@@ -4,10 +4,13 @@ use crate::tables::Shape;
 use furzeladle::Query;
 
 const ARCHIVE: (u32, u32) = (38_000, 12_000);
-pub const RADII: [u32; 6] = [3, 13, 26, 128, 255, 1_000];
+const RADII: [u32; 6] = [3, 13, 26, 128, 255, 1_000];
 const LENGTHS: [u32; 3] = [1, 10, 64];
 const BLOCKS: [u32; 4] = [1, 16, 128, 1_024];
 const GROWTH: [u32; 5] = [6_000, 12_000, 24_000, 48_000, 65_535];
+/// Those of them that a short run measures, and the radii of its clustered and adversarial tables.
+const FEW_GROWTH: [u32; 3] = [6_000, 24_000, 65_535];
+const FEW_RADII: [u32; 2] = [26, 255];
 const MIDDLE: Query = Query {
     k: 10,
     block: 128,
@@ -55,23 +58,26 @@ fn combinations() -> Vec<Case> {
     cases
 }
 
-fn growth() -> Vec<Case> {
+fn growth(sizes: &[u32]) -> Vec<Case> {
     let case = |&rows| Case {
         shape: Shape::Uniform,
         rows: (rows, rows),
         query: MIDDLE,
     };
-    GROWTH.iter().map(case).collect()
+    sizes.iter().map(case).collect()
 }
 
 /// The radii come first: the plot is drawn from them.
 pub fn sections(full: bool) -> Vec<Section> {
     let section = |title, cases| Section { title, cases };
-    let few = [MIDDLE.radius, 255];
-    let (others, chosen) = if full {
-        (combinations(), RADII.as_slice())
+    let (others, chosen, sizes) = if full {
+        (combinations(), RADII.as_slice(), GROWTH.as_slice())
     } else {
-        (lengths_and_blocks(), few.as_slice())
+        (
+            lengths_and_blocks(),
+            FEW_RADII.as_slice(),
+            FEW_GROWTH.as_slice(),
+        )
     };
     let mut adversarial = radii(Shape::TrimBelow, chosen);
     adversarial.extend(radii(Shape::Plateau, chosen));
@@ -80,6 +86,6 @@ pub fn sections(full: bool) -> Vec<Section> {
         section("List length and block", others),
         section("Clustered shades", radii(Shape::Clustered, chosen)),
         section("Adversarial scores", adversarial),
-        section("Growth at a fixed share of qualifying pairs", growth()),
+        section("Growth at a fixed share of qualifying pairs", growth(sizes)),
     ]
 }

@@ -64,12 +64,28 @@ impl Listed {
     }
 }
 
-/// The list of a query. Refused by 1, 2, 3, 4, or by 6 or 7 of a row that was read.
-pub fn list(query: Query, field: &[i32], trim: &[i32]) -> Result<List, Refusal> {
+type Export<T> = unsafe extern "C" fn(
+    *const u32,
+    usize,
+    *const i32,
+    usize,
+    *const i32,
+    usize,
+    *mut T,
+    usize,
+) -> i32;
+
+/// What an export answers that is lent a query, two tables and room.
+fn ask<T>(
+    export: Export<T>,
+    query: Query,
+    field: &[i32],
+    trim: &[i32],
+    out: &mut [T],
+) -> Result<usize, Refusal> {
     let numbers = [query.k, query.block, query.radius];
-    let mut out = [0; QUERY_SIZE];
     let answer = unsafe {
-        exported::furzeladle_query(
+        export(
             numbers.as_ptr(),
             numbers.len(),
             field.as_ptr(),
@@ -80,7 +96,13 @@ pub fn list(query: Query, field: &[i32], trim: &[i32]) -> Result<List, Refusal> 
             out.len(),
         )
     };
-    let count = usize::try_from(answer).map_err(|_| Refusal::of(answer))?;
+    usize::try_from(answer).map_err(|_| Refusal::of(answer))
+}
+
+/// The list of a query. Refused by 1, 2, 3, 4, or by 6 or 7 of a row that was read.
+pub fn list(query: Query, field: &[i32], trim: &[i32]) -> Result<List, Refusal> {
+    let mut out = [0; QUERY_SIZE];
+    let count = ask(exported::furzeladle_query, query, field, trim, &mut out)?;
     Ok(List {
         pairs: out[3..].chunks(6).take(count).map(Listed::of).collect(),
         depths: (out[0] as u32, out[1] as u32),
@@ -90,21 +112,8 @@ pub fn list(query: Query, field: &[i32], trim: &[i32]) -> Result<List, Refusal> 
 
 /// The same list as bytes, as the pairing program prints it. Refused as `list` is.
 pub fn listing(query: Query, field: &[i32], trim: &[i32]) -> Result<Vec<u8>, Refusal> {
-    let numbers = [query.k, query.block, query.radius];
     let mut out = vec![0; LISTING_SIZE];
-    let answer = unsafe {
-        exported::furzeladle_listing(
-            numbers.as_ptr(),
-            numbers.len(),
-            field.as_ptr(),
-            field.len(),
-            trim.as_ptr(),
-            trim.len(),
-            out.as_mut_ptr(),
-            out.len(),
-        )
-    };
-    let written = usize::try_from(answer).map_err(|_| Refusal::of(answer))?;
-    out.truncate(written);
+    let count = ask(exported::furzeladle_listing, query, field, trim, &mut out)?;
+    out.truncate(count);
     Ok(out)
 }
