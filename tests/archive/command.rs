@@ -203,6 +203,25 @@ fn numbers(query: Query) -> [String; 3] {
     [query.k, query.block, query.radius].map(|n| n.to_string())
 }
 
+fn query(k: u32, block: u32, radius: u32) -> Query {
+    Query { k, block, radius }
+}
+
+/// Tables of these row counts from a seed: the command's listing is the model's, and has pairs.
+fn beside_the_model(folder: &Folder, (m, n): (u32, u32), spread: Spread, query: Query) {
+    let mut dice = Dice::new(u64::from(m));
+    let (f, t) = (table(&mut dice, m, spread), table(&mut dice, n, spread));
+    let field = folder.file("FIELD.TAB", &strict(1, &f));
+    let trim = folder.file("TRIM.TAB", &strict(2, &t));
+    let output = pair(&field, &trim, &numbers(query));
+    let what = format!("{m} and {n} rows");
+    assert_listed(&output, &modelled(query, &f, &t), &what);
+    assert!(
+        output.stdout.split(|b| *b == b'\n').count() > 3,
+        "no pairs at {what}"
+    );
+}
+
 #[test]
 fn more_rows_than_the_program_takes() {
     let folder = Folder::new("rows");
@@ -222,74 +241,11 @@ fn more_rows_than_the_program_takes() {
         plateau: true,
         ..near
     };
-    let cases = [
-        (
-            513,
-            513,
-            steep,
-            Query {
-                k: 10,
-                block: 16,
-                radius: 900,
-            },
-        ),
-        (
-            3_000,
-            2_000,
-            steep,
-            Query {
-                k: 64,
-                block: 100,
-                radius: 400,
-            },
-        ),
-        (
-            6_000,
-            700,
-            tied,
-            Query {
-                k: 64,
-                block: 7,
-                radius: 9,
-            },
-        ),
-        (
-            38_000,
-            12_000,
-            steep,
-            Query {
-                k: 10,
-                block: 128,
-                radius: 128,
-            },
-        ),
-        (
-            65_535,
-            65_535,
-            near,
-            Query {
-                k: 64,
-                block: 1_024,
-                radius: 5,
-            },
-        ),
-    ];
-    for (seed, (m, n, spread, query)) in cases.into_iter().enumerate() {
-        let mut dice = Dice::new(seed as u64 + 1);
-        let (f, t) = (table(&mut dice, m, spread), table(&mut dice, n, spread));
-        let field = folder.file("FIELD.TAB", &strict(1, &f));
-        let trim = folder.file("TRIM.TAB", &strict(2, &t));
-        let output = pair(&field, &trim, &numbers(query));
-        assert_listed(
-            &output,
-            &modelled(query, &f, &t),
-            &format!("{m} and {n} rows"),
-        );
-        assert!(
-            output.stdout.iter().filter(|b| **b == b'\n').count() > 2,
-            "no pairs at {m} and {n} rows"
-        );
-    }
+    beside_the_model(&folder, (513, 513), steep, query(10, 16, 900));
+    beside_the_model(&folder, (3_000, 2_000), steep, query(64, 100, 400));
+    beside_the_model(&folder, (6_000, 700), tied, query(64, 7, 9));
+    beside_the_model(&folder, (38_000, 12_000), steep, query(10, 128, 128));
+    beside_the_model(&folder, (65_535, 65_535), near, query(64, 1_024, 5));
 }
 
 #[test]
