@@ -13,7 +13,7 @@ use std::hint::black_box;
 /// Runs shorter than this are repeated until they are not.
 const LEAST_MS: f64 = 4.0;
 /// Of so many rounds the least time counts; who has spent so long gets no further round.
-const ROUNDS: usize = 3;
+const ROUNDS: usize = 5;
 const ENOUGH_MS: f64 = 200.0;
 
 #[derive(Clone, Copy)]
