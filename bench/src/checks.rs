@@ -28,7 +28,7 @@ fn query_fits(q: Query) -> bool {
 }
 
 fn depth_fits(block: u32, rows: u32, depth: u32) -> bool {
-    rows <= 65_535 && depth <= rows && (depth % block == 0 || depth == rows)
+    rows <= 65_535 && depth <= rows && (depth.is_multiple_of(block) || depth == rows)
 }
 
 fn held_fits(join: &Join) -> bool {
@@ -64,7 +64,7 @@ fn record_fits(join: &Join) -> bool {
 }
 
 fn table_fits(t: &[i32], rows: u32, depth: u32) -> bool {
-    t.len() % 4 == 0 && t.len() / 4 == rows as usize && rows_legal(t, 0, depth)
+    t.len().is_multiple_of(4) && t.len() / 4 == rows as usize && rows_legal(t, 0, depth)
 }
 
 /// Whether none of 5, 4, 6 and 7 refuses the call.

@@ -248,6 +248,19 @@ fn more_rows_than_the_program_takes() {
     beside_the_model(&folder, (65_535, 65_535), near, query(64, 1_024, 5));
 }
 
+/// Of equal sums those come out that were read: rows 2 and 1, not 1 and 2.
+#[test]
+fn two_rows_of_equal_score() {
+    let folder = Folder::new("equal");
+    let rows = [1, 1, 0, 0, 2, 1, 0, 0];
+    let field = folder.file("FIELD.TAB", &strict(1, &rows));
+    let trim = folder.file("TRIM.TAB", &strict(2, &rows));
+    let listing = "     2     1     0\n     1     2     1     1           0\n\
+                   \x20    2     2     2     1           0\n     2     1           2\n";
+    let output = pair(&field, &trim, &numbers(query(2, 1, 0)));
+    assert_listed(&output, listing.as_bytes(), "equal sums");
+}
+
 #[test]
 fn a_row_far_down_is_named() {
     let folder = Folder::new("far");
