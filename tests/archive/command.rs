@@ -93,20 +93,30 @@ fn query_numbers(stdin: &[u8]) -> Option<Vec<String>> {
         .then(|| numbers.to_vec())
 }
 
-/// What the command must refuse a case by, and where, from the two files' bytes and the program's own answer.
-fn refusal(files: &[PathBuf; 2], program: u32) -> (u32, String) {
-    for (path, kind) in files.iter().zip([1, 2]) {
-        if let Err((number, row)) = spelled::rows(&fs::read(path).unwrap(), kind) {
-            let name = path.file_name().unwrap().to_str().unwrap();
-            let place = match (number, row) {
-                (9, 0) => ", header".to_string(),
-                (_, 0) => String::new(),
-                _ => format!(", row {row}"),
-            };
-            return (number, format!("{name}{place}: "));
-        }
+/// The first refusal of the two files and where it is, by the reader that shares nothing with the library.
+fn file_refusal(files: &[PathBuf; 2]) -> Option<(u32, String)> {
+    files.iter().zip([1, 2]).find_map(|(path, kind)| {
+        let (number, row) = spelled::rows(&fs::read(path).unwrap(), kind).err()?;
+        let name = path.file_name().unwrap().to_str().unwrap();
+        let place = match (number, row) {
+            (9, 0) => ", header".to_string(),
+            (_, 0) => String::new(),
+            _ => format!(", row {row}"),
+        };
+        Some((number, format!("{name}{place}: ")))
+    })
+}
+
+/// A file that is too long for the program: refused as the other reader refuses it, or listed as the model lists it.
+fn beyond_the_program(output: &Output, files: &[PathBuf; 2], numbers: &[String], what: &str) {
+    if let Some((number, place)) = file_refusal(files) {
+        return assert_refused(output, number, &place, what);
     }
-    (program, "query: ".to_string())
+    let rows = |i: usize| spelled::rows(&fs::read(&files[i]).unwrap(), i as i32 + 1).unwrap();
+    let number = |i: usize| numbers[i].parse().unwrap();
+    let query = query(number(0), number(1), number(2));
+    let listing = modelled(query, &rows(0).concat(), &rows(1).concat());
+    assert_listed(output, &listing, what);
 }
 
 /// How a stored case was used.
@@ -131,21 +141,18 @@ fn stored_case(case: &Path) -> Used {
         assert_listed(&output, &stdout, &what);
         return Used::Listed;
     }
+    let too_long = |f: &PathBuf| fs::metadata(f).unwrap().len() > PROGRAM_BYTES;
+    if files.iter().any(too_long) {
+        beyond_the_program(&output, &files, &numbers, &what);
+        return Used::TooLongForTheProgram;
+    }
     let program = std::str::from_utf8(&stdout)
         .unwrap()
         .trim()
         .parse()
         .unwrap();
-    let (number, place) = refusal(&files, program);
-    let too_long = files
-        .iter()
-        .any(|f| fs::metadata(f).unwrap().len() > PROGRAM_BYTES);
-    if too_long {
-        if place != "query: " {
-            assert_refused(&output, number, &place, &what);
-        }
-        return Used::TooLongForTheProgram;
-    }
+    let in_query = (program, "query: ".to_string());
+    let (number, place) = file_refusal(&files).unwrap_or(in_query);
     assert_eq!(number, program, "{what}");
     assert_refused(&output, number, &place, &what);
     Used::Refused
