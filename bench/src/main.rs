@@ -1,19 +1,83 @@
-//! The library beside plain Rust, in one run. Run: bench/run [short|full|sessions|files] [seeds], or for `perf stat`:
-//! furzeladle_bench profile ours|plain FIELD-ROWS TRIM-ROWS RADIUS K BLOCK RUNS
+//! The library beside plain Rust and beside what one would use instead, in one run. bench/run says how to start it.
+use measure::{measure, Measured};
+use std::time::Instant;
+
+mod block_printed;
+mod blockwise;
+mod checks;
+mod clock;
+mod contenders;
 mod files;
-mod plain;
-mod sessions;
+mod held;
+mod join_first;
+mod library;
+mod measure;
+mod outcome;
+mod plot;
+mod printed;
+mod profile;
+mod report;
+mod rows;
+mod score_first;
+mod suite;
+mod sure;
+mod sweep;
+mod tables;
+
+/// Measures a section and prints its tables.
+fn section(section: &suite::Section, seeds: u64) -> Vec<Measured> {
+    let measured: Vec<Measured> = section
+        .cases
+        .iter()
+        .map(|&case| measure(case, seeds))
+        .collect();
+    println!(
+        "\n## {}: counts (medians of {seeds} seeds)\n",
+        section.title
+    );
+    report::counts(&measured);
+    println!(
+        "\n## {}: the library's time over the other's, median (lowest–highest of {seeds} seeds)\n",
+        section.title
+    );
+    report::times(&measured);
+    measured
+}
+
+fn queries(full: bool, seeds: u64, plot_to: &str) {
+    let mut all = Vec::new();
+    for cases in &suite::sections(full) {
+        let measured = section(cases, seeds);
+        if all.is_empty() {
+            std::fs::write(plot_to, plot::svg(&measured)).expect("the plot can be written");
+            println!("\nPlot: {plot_to}");
+        }
+        all.extend(measured);
+    }
+    println!(
+        "\n## All {} cases: the library's time over the other's\n",
+        all.len()
+    );
+    report::summary(&all);
+}
 
 fn main() {
-    let mode = std::env::args().nth(1).unwrap_or("short".to_string());
-    if mode == "profile" {
-        return sessions::profile(&std::env::args().skip(2).collect::<Vec<_>>());
+    let arguments: Vec<String> = std::env::args().skip(1).collect();
+    let words: Vec<&str> = arguments.iter().map(String::as_str).collect();
+    let began = Instant::now();
+    match words.as_slice() {
+        ["profile", rest @ ..] => return profile::run(rest),
+        ["files"] => files::run(),
+        ["short", plot_to] => queries(false, 3, plot_to),
+        ["full", plot_to] => queries(true, 5, plot_to),
+        _ => {
+            eprintln!("usage: bench/run [short|full|files], or bench/run profile CONTENDER RADIUS K BLOCK RUNS");
+            std::process::exit(2);
+        }
     }
-    let seeds = std::env::args().nth(2).and_then(|n| n.parse().ok());
-    if mode != "files" {
-        sessions::run(mode == "full", seeds);
-    }
-    if mode != "sessions" {
+    if words[0] != "files" {
+        println!("\n## Files of 65,535 rows\n");
         files::run();
     }
+    println!("\n{} took {:.0} s", words[0], began.elapsed().as_secs_f64());
 }

@@ -4,5 +4,8 @@ fn main() {
     let made = here.join("../../target/staticlib");
     println!("cargo:rustc-link-search=native={}", made.display());
     println!("cargo:rustc-link-lib=static=furzeladle");
-    println!("cargo:rerun-if-changed={}", made.join("libfurzeladle.a").display());
+    println!(
+        "cargo:rerun-if-changed={}",
+        made.join("libfurzeladle.a").display()
+    );
 }

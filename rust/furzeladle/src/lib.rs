@@ -1,4 +1,4 @@
-//! Safe Rust over libfurzeladle.a, whose functions are proved: the strict file and the join session.
+//! Safe Rust over libfurzeladle.a, whose functions are proved: the strict file, the join session and the whole query.
 //!
 //! A table is `&[i32]`, four numbers to a row: pattern number, score, a, b. Rows are numbered from 1. Nothing here
 //! panics or trusts its input: what does not fit is refused by document 01's number.
@@ -6,10 +6,19 @@
 //! The boundary asks for pointers that are not null and for written slices that overlap nothing: references are both.
 use std::fmt;
 
+mod query;
+pub use query::{list, listing, List, Listed};
+
 mod exported {
     extern "C" {
         pub fn furzeladle_check(bytes: *const u8, len: usize, kind: i32) -> i32;
-        pub fn furzeladle_load(bytes: *const u8, len: usize, kind: i32, out: *mut i32, out_len: usize) -> i32;
+        pub fn furzeladle_load(
+            bytes: *const u8,
+            len: usize,
+            kind: i32,
+            out: *mut i32,
+            out_len: usize,
+        ) -> i32;
         pub fn furzeladle_open(
             query: *const u32,
             query_len: usize,
@@ -59,7 +68,7 @@ pub struct Refusal {
 }
 
 impl Refusal {
-    /// The shed's word.
+    /// The shed's word for it.
     pub fn word(self) -> &'static str {
         match self.number {
             1 => "list length",
@@ -77,8 +86,29 @@ impl Refusal {
         }
     }
 
+    /// When a call is refused so.
+    pub fn meaning(self) -> &'static str {
+        match self.number {
+            1 => "k outside 1 to 64",
+            2 => "block outside 1 to 1,024",
+            3 => "radius outside 0 to 40,000",
+            4 => "not four numbers a row, more than 65,535 rows, or other rows than at opening",
+            5 => "a record that no session can have",
+            6 => "a number outside its range",
+            7 => "a score above the row before",
+            8 => "the length is not that of a header and its rows",
+            9 => "a number or line feed not formed as it should be",
+            10 => "not the kind of file that is wanted here",
+            11 => "fewer numbers lent than are to be written",
+            _ => "nothing is refused",
+        }
+    }
+
     fn of(answer: i32) -> Refusal {
-        Refusal { number: answer.unsigned_abs() % 100, row: answer.unsigned_abs() / 100 }
+        Refusal {
+            number: answer.unsigned_abs() % 100,
+            row: answer.unsigned_abs() / 100,
+        }
     }
 }
 
@@ -110,7 +140,13 @@ pub fn check(bytes: &[u8], kind: i32) -> Result<u32, Refusal> {
 /// A strict file's rows, read into the front of `out`: the row count. What is refused changes nothing.
 pub fn load(bytes: &[u8], kind: i32, out: &mut [i32]) -> Result<u32, Refusal> {
     let answer = unsafe {
-        exported::furzeladle_load(bytes.as_ptr(), bytes.len(), kind, out.as_mut_ptr(), out.len())
+        exported::furzeladle_load(
+            bytes.as_ptr(),
+            bytes.len(),
+            kind,
+            out.as_mut_ptr(),
+            out.len(),
+        )
     };
     u32::try_from(answer).map_err(|_| Refusal::of(answer))
 }
@@ -237,7 +273,11 @@ impl Session {
             )
         };
         match answer {
-            2 => Ok(Taken::Given(Pair { sum: pair[0], field: pair[1], trim: pair[2] })),
+            2 => Ok(Taken::Given(Pair {
+                sum: pair[0],
+                field: pair[1],
+                trim: pair[2],
+            })),
             3 => Ok(Taken::NotYet),
             4 => Ok(Taken::Finished),
             _ => Err(Refusal::of(answer)),

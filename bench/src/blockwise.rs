@@ -1,0 +1,175 @@
+//! Document 01's blockwise join in plain Rust, as one would write it: the same answers, depths and counts.
+use crate::checks::{call_fits, rows_legal};
+use crate::held::Held;
+use crate::outcome::Outcome;
+use crate::rows::{count, near, part, score, square};
+use furzeladle::{Pair, Query};
+
+/// Which checks the join makes.
+#[derive(Clone, Copy, PartialEq)]
+pub enum Checks {
+    /// Those of document 01: the record, the sizes and every row read, on every call.
+    EveryCall,
+    /// Each row once, when it is read; nothing else.
+    EachRowOnce,
+}
+
+pub struct Join<'a> {
+    pub query: Query,
+    pub tables: [&'a [i32]; 2],
+    pub rows: [u32; 2],
+    pub depths: [u32; 2],
+    pub last: u32,
+    pub out: u32,
+    pub held: Held,
+    pub joined: u64,
+    tests: u64,
+    checks: Checks,
+}
+
+impl<'a> Join<'a> {
+    fn open(query: Query, field: &'a [i32], trim: &'a [i32], checks: Checks) -> Join<'a> {
+        Join {
+            query,
+            tables: [field, trim],
+            rows: [count(field), count(trim)],
+            depths: [0; 2],
+            last: 0,
+            out: 0,
+            held: Held::new(query.k),
+            joined: 0,
+            tests: 0,
+            checks,
+        }
+    }
+
+    fn refused(&self) -> bool {
+        self.checks == Checks::EveryCall && !call_fits(self)
+    }
+
+    fn read_out(&self, i: usize) -> bool {
+        self.depths[i] == self.rows[i]
+    }
+
+    fn secured(&self, sum: u32) -> bool {
+        let part = |i: usize| {
+            if self.read_out(i) {
+                return 0;
+            }
+            score(self.tables[1 - i], 0) + score(self.tables[i], self.depths[i] - 1)
+        };
+        if self.depths.contains(&0) {
+            return self.rows.contains(&0);
+        }
+        (self.read_out(0) && self.read_out(1)) || sum >= part(0).max(part(1))
+    }
+
+    fn settled(&self) -> bool {
+        let lowest = self.held.pairs().last();
+        self.rows.contains(&0)
+            || (self.read_out(0) && self.read_out(1))
+            || self.out == self.query.k
+            || (self.held.is_full() && lowest.is_some_and(|p| self.secured(p.sum)))
+    }
+
+    fn next_table(&self) -> usize {
+        if self.depths[0] == 0 || (self.depths[1] > 0 && self.read_out(1)) {
+            return 0;
+        }
+        if self.depths[1] == 0 || self.read_out(0) {
+            return 1;
+        }
+        let drop = |i: usize| score(self.tables[i], 0) - score(self.tables[i], self.depths[i] - 1);
+        usize::from((drop(1), self.depths[1]) < (drop(0), self.depths[0]))
+    }
+
+    /// Joins field rows and trim rows, each from one number to before another.
+    fn join(&mut self, [f, f_end]: [u32; 2], [t, t_end]: [u32; 2]) {
+        let square = square(self.query);
+        let x = part(self.tables[0], f, f_end);
+        let y = part(self.tables[1], t, t_end);
+        for (i, r) in x.chunks_exact(4).enumerate() {
+            for (j, s) in y.chunks_exact(4).enumerate() {
+                if near(r, s, square) {
+                    let sum = (r[1] + s[1]) as u32;
+                    let (field, trim) = (f + i as u32 + 1, t + j as u32 + 1);
+                    self.held.put(Pair { sum, field, trim });
+                }
+            }
+        }
+        self.joined += 1;
+        self.tests += u64::from(f_end - f) * u64::from(t_end - t);
+    }
+
+    /// Meets the blocks already read of the other table with rows of a new block.
+    fn meet(&mut self, new: usize, from: u32, to: u32) {
+        let old = 1 - new;
+        let mut start = 0;
+        while start < self.depths[old] {
+            let end = (start + self.query.block).min(self.depths[old]);
+            let first = score(self.tables[new], from) + score(self.tables[old], start);
+            if first as i32 >= self.held.bound() {
+                let (here, there) = ([from, to], [start, end]);
+                let (f, t) = if new == 0 {
+                    (here, there)
+                } else {
+                    (there, here)
+                };
+                self.join(f, t);
+            }
+            start = end;
+        }
+    }
+
+    /// Whether a block was read; none where the call is refused.
+    fn read(&mut self) -> Option<bool> {
+        if self.refused() {
+            return None;
+        }
+        if self.settled() {
+            return Some(false);
+        }
+        let new = self.next_table();
+        let from = self.depths[new];
+        let to = (from + self.query.block).min(self.rows[new]);
+        if !rows_legal(self.tables[new], from, to) {
+            return None;
+        }
+        self.meet(new, from, to);
+        self.depths[new] = to;
+        self.last = new as u32 + 1;
+        Some(true)
+    }
+
+    /// The first held pair if it is secured; none where there is none, or the call is refused.
+    fn take(&mut self) -> Option<Pair> {
+        if self.refused() || !self.secured(self.held.pairs().first()?.sum) {
+            return None;
+        }
+        self.out += 1;
+        Some(self.held.take())
+    }
+}
+
+fn run(query: Query, field: &[i32], trim: &[i32], checks: Checks) -> Outcome {
+    let mut join = Join::open(query, field, trim, checks);
+    while join.read() == Some(true) {}
+    let mut sums = Vec::new();
+    while let Some(pair) = join.take() {
+        sums.push(pair.sum);
+    }
+    Outcome {
+        sums,
+        depths: join.depths,
+        tests: join.tests,
+        joined: join.joined,
+    }
+}
+
+pub fn same_checks(query: Query, field: &[i32], trim: &[i32]) -> Outcome {
+    run(query, field, trim, Checks::EveryCall)
+}
+
+pub fn rows_checked_once(query: Query, field: &[i32], trim: &[i32]) -> Outcome {
+    run(query, field, trim, Checks::EachRowOnce)
+}

@@ -1,0 +1,73 @@
+//! Document 01's checks of a call, for the blockwise baseline.
+use crate::blockwise::Join;
+use crate::held::ahead;
+use furzeladle::{Pair, Query};
+
+/// 6 and 7 of rows from one number to before another.
+pub fn rows_legal(t: &[i32], from: u32, to: u32) -> bool {
+    let mut before = if from == 0 {
+        9_999
+    } else {
+        t[4 * from as usize - 3]
+    };
+    for r in t[4 * from as usize..4 * to as usize].chunks_exact(4) {
+        let fits = (1..=999_999).contains(&r[0])
+            && (0..=9_999).contains(&r[1])
+            && (-12_800..=12_700).contains(&r[2])
+            && (-12_800..=12_700).contains(&r[3]);
+        if !fits || r[1] > before {
+            return false;
+        }
+        before = r[1];
+    }
+    true
+}
+
+fn query_fits(q: Query) -> bool {
+    (1..=64).contains(&q.k) && (1..=1_024).contains(&q.block) && q.radius <= 40_000
+}
+
+fn depth_fits(block: u32, rows: u32, depth: u32) -> bool {
+    rows <= 65_535 && depth <= rows && (depth.is_multiple_of(block) || depth == rows)
+}
+
+fn held_fits(join: &Join) -> bool {
+    let [p, q] = join.depths;
+    let pair_fits = |pair: &Pair| {
+        (1..=p).contains(&pair.field) && (1..=q).contains(&pair.trim) && pair.sum <= 19_998
+    };
+    let held = join.held.pairs();
+    join.out as usize + held.len() <= join.query.k as usize
+        && held.iter().all(pair_fits)
+        && held.windows(2).all(|w| ahead(&w[0], &w[1]))
+        && join.held.spare_places_are_zeros()
+}
+
+fn mark_fits(join: &Join) -> bool {
+    match join.last {
+        0 => join.depths == [0; 2],
+        1 => join.depths[0] > 0,
+        2 => join.depths[1] > 0,
+        _ => false,
+    }
+}
+
+/// Whether 5 does not refuse the record.
+fn record_fits(join: &Join) -> bool {
+    let block = join.query.block;
+    let blocks = |depth: u32| u64::from(depth.div_ceil(block));
+    query_fits(join.query)
+        && (0..2).all(|i| depth_fits(block, join.rows[i], join.depths[i]))
+        && held_fits(join)
+        && mark_fits(join)
+        && join.joined <= blocks(join.depths[0]) * blocks(join.depths[1])
+}
+
+fn table_fits(t: &[i32], rows: u32, depth: u32) -> bool {
+    t.len().is_multiple_of(4) && t.len() / 4 == rows as usize && rows_legal(t, 0, depth)
+}
+
+/// Whether none of 5, 4, 6 and 7 refuses the call.
+pub fn call_fits(join: &Join) -> bool {
+    record_fits(join) && (0..2).all(|i| table_fits(join.tables[i], join.rows[i], join.depths[i]))
+}

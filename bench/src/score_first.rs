@@ -1,0 +1,58 @@
+//! Source 001's score-first algorithm (SFA), row by row, with a scan of the rows read: its "No-Index" form.
+use crate::held::Held;
+use crate::outcome::Outcome;
+use crate::printed::{read_until_secured, start};
+use crate::rows::{near, part, square};
+use furzeladle::{Pair, Query};
+
+/// Probes a row against the other table's rows, best first, while a sum can still pass the bound: how many were tested.
+fn probe(
+    row: &[i32],
+    others: &[i32],
+    square: i32,
+    held: &mut Held,
+    pair: impl Fn(u32, u32) -> Pair,
+) -> u64 {
+    let mut tests = 0;
+    let mut bound = held.bound();
+    for (j, other) in others.chunks_exact(4).enumerate() {
+        let sum = row[1] + other[1];
+        if sum <= bound {
+            break;
+        }
+        tests += 1;
+        if near(row, other, square) {
+            held.put(pair(sum as u32, j as u32 + 1));
+            bound = held.bound();
+        }
+    }
+    tests
+}
+
+pub fn scan(query: Query, field: &[i32], trim: &[i32]) -> Outcome {
+    let (mut reading, mut held) = start(query, field, trim);
+    let square = square(query);
+    let mut tests = 0;
+    read_until_secured(
+        &mut reading,
+        &mut held,
+        1,
+        |reading, held, new, (from, to)| {
+            let row = part(reading.tables[new], from, to);
+            let others = part(reading.tables[1 - new], 0, reading.depths[1 - new]);
+            tests += probe(row, others, square, held, |sum, other| match new {
+                0 => Pair {
+                    sum,
+                    field: to,
+                    trim: other,
+                },
+                _ => Pair {
+                    sum,
+                    field: other,
+                    trim: to,
+                },
+            });
+        },
+    );
+    reading.outcome(&held, tests, 0)
+}

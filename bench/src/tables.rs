@@ -1,0 +1,91 @@
+//! The tables that are joined, always the same ones from the same seed.
+use furzeladle_tests::cases::Dice;
+
+const LOWEST_SHADE: i32 = -12_800;
+const HIGHEST_SHADE: i32 = 12_700;
+const CLUSTERS: usize = 40;
+/// How far a shade may lie from its cluster's middle, on each axis: three throws of this, added.
+const CLUSTER_REACH: i32 = 400;
+
+/// How shades and scores are spread.
+#[derive(Clone, Copy, Debug, PartialEq, Eq)]
+pub enum Shape {
+    /// Shades uniform over the plane, scores over their range.
+    Uniform,
+    /// Shades around 40 places that both tables share.
+    Clustered,
+    /// Uniform shades; every trim score is below every field score.
+    TrimBelow,
+    /// Uniform shades; all scores are equal.
+    Plateau,
+}
+
+impl Shape {
+    pub fn name(self) -> &'static str {
+        match self {
+            Shape::Uniform => "uniform",
+            Shape::Clustered => "clustered",
+            Shape::TrimBelow => "trim below field",
+            Shape::Plateau => "plateau",
+        }
+    }
+
+    /// Lowest and highest score of the field table, then of the trim table.
+    fn scores(self) -> [(i32, i32); 2] {
+        match self {
+            Shape::Uniform | Shape::Clustered => [(0, 9_999); 2],
+            Shape::TrimBelow => [(5_000, 9_999), (0, 4_999)],
+            Shape::Plateau => [(5_000, 5_000); 2],
+        }
+    }
+}
+
+pub struct Tables {
+    pub field: Vec<i32>,
+    pub trim: Vec<i32>,
+}
+
+fn anywhere(dice: &mut Dice) -> [i32; 2] {
+    [(); 2].map(|()| dice.between(LOWEST_SHADE, HIGHEST_SHADE))
+}
+
+fn around(dice: &mut Dice, middle: [i32; 2]) -> [i32; 2] {
+    middle.map(|axis| {
+        let off: i32 = (0..3)
+            .map(|_| dice.between(-CLUSTER_REACH, CLUSTER_REACH))
+            .sum();
+        (axis + off).clamp(LOWEST_SHADE, HIGHEST_SHADE)
+    })
+}
+
+/// A legal table; its shades lie around these places, or anywhere if there are none.
+fn table(dice: &mut Dice, rows: u32, (low, high): (i32, i32), middles: &[[i32; 2]]) -> Vec<i32> {
+    let mut scores: Vec<i32> = (0..rows).map(|_| dice.between(low, high)).collect();
+    scores.sort_unstable_by_key(|score| -score);
+    let mut numbers = Vec::with_capacity(4 * rows as usize);
+    for (i, score) in scores.into_iter().enumerate() {
+        let [a, b] = match middles {
+            [] => anywhere(dice),
+            _ => {
+                let middle = dice.pick(middles);
+                around(dice, middle)
+            }
+        };
+        numbers.extend([i as i32 + 1, score, a, b]);
+    }
+    numbers
+}
+
+pub fn tables(shape: Shape, (m, n): (u32, u32), seed: u64) -> Tables {
+    let mut dice = Dice::new(seed);
+    let clusters = if shape == Shape::Clustered {
+        CLUSTERS
+    } else {
+        0
+    };
+    let middles: Vec<[i32; 2]> = (0..clusters).map(|_| anywhere(&mut dice)).collect();
+    let [of_field, of_trim] = shape.scores();
+    let field = table(&mut dice, m, of_field, &middles);
+    let trim = table(&mut dice, n, of_trim, &middles);
+    Tables { field, trim }
+}

@@ -1,0 +1,388 @@
+//! The archive's command: beside the pairing program's stored cases, and beyond 512 rows beside the model.
+use furzeladle::Query;
+use furzeladle_tests::cases::{table, Dice, Spread};
+use furzeladle_tests::model::{self, Said};
+use furzeladle_tests::{file, spelled};
+use std::ffi::OsStr;
+use std::fs;
+use std::path::{Path, PathBuf};
+use std::process::{Command, Output, Stdio};
+
+/// Above this a file is too long for the program, not for the command.
+const PROGRAM_BYTES: u64 = 13_837;
+
+fn command() -> Command {
+    Command::new(env!("CARGO_BIN_EXE_furzeladle"))
+}
+
+fn run<S: AsRef<OsStr>>(arguments: &[S]) -> Output {
+    command().args(arguments).output().unwrap()
+}
+
+fn pair(field: &Path, trim: &Path, numbers: &[String]) -> Output {
+    command()
+        .args([field, trim])
+        .args(numbers)
+        .output()
+        .unwrap()
+}
+
+fn words(output: &Output) -> String {
+    String::from_utf8(output.stderr.clone()).unwrap()
+}
+
+fn assert_listed(output: &Output, listing: &[u8], what: &str) {
+    assert_eq!(words(output), "", "{what}");
+    assert_eq!(output.status.code(), Some(0), "{what}");
+    assert_eq!(
+        String::from_utf8_lossy(&output.stdout),
+        String::from_utf8_lossy(listing),
+        "{what}"
+    );
+}
+
+/// Refused in words that name the number, and the file and row where there are any.
+fn assert_refused(output: &Output, number: u32, place: &str, what: &str) {
+    let said = words(output);
+    assert_eq!(output.status.code(), Some(1), "{what}: {said}");
+    assert!(output.stdout.is_empty(), "{what}");
+    assert!(
+        said.contains(&format!("refused by {number}, ")),
+        "{what}: {said}"
+    );
+    assert!(said.contains(place), "{what}: {said}");
+    assert_eq!(said.lines().count(), 1, "{what}: {said}");
+}
+
+/// The listing by the model and by Rust's own formatting.
+fn modelled(query: Query, f: &[i32], t: &[i32]) -> Vec<u8> {
+    let (_, mut record) = model::open(query, f, t);
+    while model::read(f, t, &mut record) == Said::Read {}
+    let mut text = format!("{:>6}{:>6}{:>6}\n", query.k, query.block, query.radius);
+    let mut rank = 1;
+    while let Said::Given(pair) = model::take(f, t, &mut record) {
+        let (x, y) = (
+            &f[4 * pair.field as usize - 4..],
+            &t[4 * pair.trim as usize - 4..],
+        );
+        let (da, db) = (i64::from(x[2] - y[2]), i64::from(x[3] - y[3]));
+        text += &format!(
+            "{rank:>6}{:>6}{:>6}{:>6}{:>12}\n",
+            pair.sum,
+            x[0],
+            y[0],
+            da * da + db * db
+        );
+        rank += 1;
+    }
+    let [p, q] = record.depth;
+    text += &format!("{p:>6}{q:>6}{:>12}\n", record.joined);
+    text.into_bytes()
+}
+
+/// The input's three columns, if they are digits in 19 bytes.
+fn query_numbers(stdin: &[u8]) -> Option<Vec<String>> {
+    let text = std::str::from_utf8(stdin).ok()?.strip_suffix('\n')?;
+    let columns = (text.len() == 18).then(|| [&text[..6], &text[6..12], &text[12..]])?;
+    let numbers = columns.map(|column| column.trim_start().to_string());
+    let formed =
+        |n: &String| n == "0" || n.bytes().all(|b| b.is_ascii_digit()) && !n.starts_with('0');
+    numbers
+        .iter()
+        .all(|n| !n.is_empty() && formed(n))
+        .then(|| numbers.to_vec())
+}
+
+/// The first refusal of the two files and where it is, by the reader that shares nothing with the library.
+fn file_refusal(files: &[PathBuf; 2]) -> Option<(u32, String)> {
+    files.iter().zip([1, 2]).find_map(|(path, kind)| {
+        let (number, row) = spelled::rows(&fs::read(path).unwrap(), kind).err()?;
+        let name = path.file_name().unwrap().to_str().unwrap();
+        let place = match (number, row) {
+            (9, 0) => ", header".to_string(),
+            (_, 0) => String::new(),
+            _ => format!(", row {row}"),
+        };
+        Some((number, format!("{name}{place}: ")))
+    })
+}
+
+/// A file that is too long for the program: refused as the other reader refuses it, or listed as the model lists it.
+fn beyond_the_program(output: &Output, files: &[PathBuf; 2], numbers: &[String], what: &str) {
+    if let Some((number, place)) = file_refusal(files) {
+        return assert_refused(output, number, &place, what);
+    }
+    let rows = |i: usize| spelled::rows(&fs::read(&files[i]).unwrap(), i as i32 + 1).unwrap();
+    let number = |i: usize| numbers[i].parse().unwrap();
+    let query = query(number(0), number(1), number(2));
+    let listing = modelled(query, &rows(0).concat(), &rows(1).concat());
+    assert_listed(output, &listing, what);
+}
+
+/// How a stored case was used.
+#[derive(PartialEq)]
+enum Used {
+    Listed,
+    Refused,
+    TooLongForTheProgram,
+    NotForTheCommand,
+}
+
+fn stored_case(case: &Path) -> Used {
+    let what = case.display().to_string();
+    let files = ["FIELD.TAB", "TRIM.TAB"].map(|name| case.join(name));
+    let stdout = fs::read(case.join("stdout")).unwrap();
+    let numbers = query_numbers(&fs::read(case.join("stdin")).unwrap());
+    let (Some(numbers), true) = (numbers, files.iter().all(|f| f.exists())) else {
+        return Used::NotForTheCommand;
+    };
+    let output = pair(&files[0], &files[1], &numbers);
+    if stdout.len() > 7 {
+        assert_listed(&output, &stdout, &what);
+        return Used::Listed;
+    }
+    let too_long = |f: &PathBuf| fs::metadata(f).unwrap().len() > PROGRAM_BYTES;
+    if files.iter().any(too_long) {
+        beyond_the_program(&output, &files, &numbers, &what);
+        return Used::TooLongForTheProgram;
+    }
+    let program = std::str::from_utf8(&stdout)
+        .unwrap()
+        .trim()
+        .parse()
+        .unwrap();
+    let in_query = (program, "query: ".to_string());
+    let (number, place) = file_refusal(&files).unwrap_or(in_query);
+    assert_eq!(number, program, "{what}");
+    assert_refused(&output, number, &place, &what);
+    Used::Refused
+}
+
+#[test]
+fn stored_cases() {
+    let folder = Path::new(env!("CARGO_MANIFEST_DIR")).join("../../tests/cases");
+    let cases = fs::read_dir(folder)
+        .unwrap()
+        .map(|entry| entry.unwrap().path());
+    let used: Vec<Used> = cases
+        .filter(|path| path.is_dir())
+        .map(|case| stored_case(&case))
+        .collect();
+    let count = |wanted| used.iter().filter(|u| **u == wanted).count();
+    println!(
+        "{} listed, {} refused, as the program did",
+        count(Used::Listed),
+        count(Used::Refused)
+    );
+    assert!(count(Used::Listed) >= 20 && count(Used::Refused) >= 25);
+    assert!(count(Used::TooLongForTheProgram) >= 2);
+}
+
+/// A folder of this test's own, gone when it ends.
+struct Folder(PathBuf);
+
+impl Folder {
+    fn new(name: &str) -> Folder {
+        let path = std::env::temp_dir().join(format!("furzeladle-{name}-{}", std::process::id()));
+        fs::create_dir_all(&path).unwrap();
+        Folder(path)
+    }
+
+    fn file(&self, name: &str, bytes: &[u8]) -> PathBuf {
+        let path = self.0.join(name);
+        fs::write(&path, bytes).unwrap();
+        path
+    }
+}
+
+impl Drop for Folder {
+    fn drop(&mut self) {
+        let _ = fs::remove_dir_all(&self.0);
+    }
+}
+
+fn strict(kind: u32, t: &[i32]) -> Vec<u8> {
+    let rows: Vec<[i32; 4]> = t.chunks(4).map(|r| [r[0], r[1], r[2], r[3]]).collect();
+    file(kind, &rows)
+}
+
+fn numbers(query: Query) -> [String; 3] {
+    [query.k, query.block, query.radius].map(|n| n.to_string())
+}
+
+fn query(k: u32, block: u32, radius: u32) -> Query {
+    Query { k, block, radius }
+}
+
+/// Tables of these row counts from a seed: the command's listing is the model's, and has pairs.
+fn beside_the_model(folder: &Folder, (m, n): (u32, u32), spread: Spread, query: Query) {
+    let mut dice = Dice::new(u64::from(m));
+    let (f, t) = (table(&mut dice, m, spread), table(&mut dice, n, spread));
+    let field = folder.file("FIELD.TAB", &strict(1, &f));
+    let trim = folder.file("TRIM.TAB", &strict(2, &t));
+    let output = pair(&field, &trim, &numbers(query));
+    let what = format!("{m} and {n} rows");
+    assert_listed(&output, &modelled(query, &f, &t), &what);
+    assert!(
+        output.stdout.split(|b| *b == b'\n').count() > 3,
+        "no pairs at {what}"
+    );
+}
+
+#[test]
+fn more_rows_than_the_program_takes() {
+    let folder = Folder::new("rows");
+    let steep = Spread {
+        top: 9_999,
+        step: 1,
+        plateau: false,
+        shades: 12_700,
+        extreme: false,
+    };
+    let near = Spread {
+        shades: 60,
+        ..steep
+    };
+    let tied = Spread {
+        top: 40,
+        plateau: true,
+        ..near
+    };
+    beside_the_model(&folder, (513, 513), steep, query(10, 16, 900));
+    beside_the_model(&folder, (3_000, 2_000), steep, query(64, 100, 400));
+    beside_the_model(&folder, (6_000, 700), tied, query(64, 7, 9));
+    beside_the_model(&folder, (38_000, 12_000), steep, query(10, 128, 128));
+    beside_the_model(&folder, (65_535, 65_535), near, query(64, 1_024, 5));
+}
+
+/// Of equal sums those come out that were read: rows 2 and 1, not 1 and 2.
+#[test]
+fn two_rows_of_equal_score() {
+    let folder = Folder::new("equal");
+    let rows = [1, 1, 0, 0, 2, 1, 0, 0];
+    let field = folder.file("FIELD.TAB", &strict(1, &rows));
+    let trim = folder.file("TRIM.TAB", &strict(2, &rows));
+    let listing = "     2     1     0\n     1     2     1     1           0\n\
+                   \x20    2     2     2     1           0\n     2     1           2\n";
+    let output = pair(&field, &trim, &numbers(query(2, 1, 0)));
+    assert_listed(&output, listing.as_bytes(), "equal sums");
+}
+
+#[test]
+fn a_row_far_down_is_named() {
+    let folder = Folder::new("far");
+    let mut f: Vec<i32> = [1, 5, 0, 0].repeat(40_000);
+    let trim = folder.file("TRIM.TAB", &strict(2, &[1, 5, 0, 0]));
+    f[4 * 39_998 + 2] = 12_701;
+    let field = folder.file("FIELD.TAB", &strict(1, &f));
+    let ask = |field: &Path| pair(field, &trim, &["1", "1", "0"].map(String::from));
+    assert_refused(&ask(&field), 6, "FIELD.TAB, row 39999: ", "row limit");
+    f[4 * 39_998 + 2] = 0;
+    f[4 * 39_999 + 1] = 6;
+    let field = folder.file("FIELD.TAB", &strict(1, &f));
+    assert_refused(&ask(&field), 7, "FIELD.TAB, row 40000: ", "row order");
+    let field = folder.file("FIELD.TAB", &strict(1, &[1, 5, 0, 0].repeat(65_536)));
+    assert_refused(&ask(&field), 4, "FIELD.TAB: ", "65,536 rows");
+    let mut longest = strict(1, &[1, 5, 0, 0].repeat(65_535));
+    longest.push(b'\n');
+    let field = folder.file("FIELD.TAB", &longest);
+    assert_refused(&ask(&field), 8, "FIELD.TAB: ", "a byte more");
+}
+
+#[test]
+fn numbers_outside_their_range() {
+    let folder = Folder::new("numbers");
+    let field = folder.file("FIELD.TAB", &strict(1, &[1, 5, 0, 0]));
+    let trim = folder.file("TRIM.TAB", &strict(2, &[1, 5, 0, 0]));
+    let huge = "9".repeat(60);
+    let cases = [
+        (["0", "1", "0"], 1),
+        (["65", "0", "0"], 1),
+        (["-3", "1", "0"], 1),
+        ([huge.as_str(), "1", "0"], 1),
+        (["1", "1025", "40001"], 2),
+        (["1", "4294967297", "0"], 2),
+        (["1", "1", "40001"], 3),
+        (["1", "1", "-1"], 3),
+    ];
+    for (given, number) in cases {
+        let output = pair(&field, &trim, &given.map(String::from));
+        assert_refused(&output, number, "query: ", &format!("{given:?}"));
+    }
+}
+
+#[test]
+fn arguments_that_are_none() {
+    let wrong: [&[&str]; 7] = [
+        &[],
+        &["F", "T", "1", "1"],
+        &["F", "T", "1", "1", "5", "6"],
+        &["F", "T", "one", "1", "5"],
+        &["F", "T", "1", "1.5", "5"],
+        &["F", "T", "1", "1", ""],
+        &["F", "T", "1", "+1", "5"],
+    ];
+    for given in wrong {
+        let output = run(given);
+        assert_eq!(output.status.code(), Some(2), "{given:?}");
+        assert!(output.stdout.is_empty() && words(&output).starts_with("usage: furzeladle "));
+    }
+    let help = run(&["--help"]);
+    assert_eq!(help.status.code(), Some(0));
+    assert!(help.stdout.starts_with(b"usage: furzeladle ") && help.stderr.is_empty());
+}
+
+#[test]
+fn a_file_that_cannot_be_read() {
+    let folder = Folder::new("unreadable");
+    let missing = folder.0.join("NOWHERE.TAB");
+    for unreadable in [missing.as_path(), folder.0.as_path()] {
+        let output = pair(unreadable, &missing, &["1", "1", "5"].map(String::from));
+        let said = words(&output);
+        assert_eq!(output.status.code(), Some(3));
+        assert!(
+            said.contains(&format!("{}: cannot be read: ", unreadable.display())),
+            "{said}"
+        );
+    }
+}
+
+/// Standard output with no room, and standard error that nobody reads: a status, no panic.
+#[test]
+fn output_that_cannot_be_written() {
+    let folder = Folder::new("output");
+    let field = folder.file("FIELD.TAB", &strict(1, &[1, 5, 0, 0]));
+    let trim = folder.file("TRIM.TAB", &strict(2, &[1, 5, 0, 0]));
+    let full = || {
+        Stdio::from(
+            fs::OpenOptions::new()
+                .write(true)
+                .open("/dev/full")
+                .unwrap(),
+        )
+    };
+    let ask = |command: &mut Command| {
+        command
+            .args([&field, &trim])
+            .args(["1", "1", "5"])
+            .output()
+            .unwrap()
+    };
+    let output = ask(command().stdout(full()));
+    assert_eq!(output.status.code(), Some(3));
+    assert!(words(&output).contains("standard output: cannot be written: "));
+    assert_eq!(
+        ask(command().stdout(full()).stderr(full())).status.code(),
+        Some(3)
+    );
+}
+
+#[test]
+fn a_closed_pipe() {
+    let mut reader = Command::new("true").stdin(Stdio::piped()).spawn().unwrap();
+    let pipe = reader.stdin.take().unwrap();
+    reader.wait().unwrap();
+    let output = command().arg("--help").stdout(pipe).output().unwrap();
+    assert_eq!(output.status.code(), Some(3));
+    assert!(words(&output).contains("cannot be written"));
+}
