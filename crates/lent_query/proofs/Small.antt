@@ -7,7 +7,7 @@ use native.Mathlib.Omega.{arith}
 use lib.Dec.{leb, eqb}
 use lib.IntN.{ℤ}
 use lib.ListN.{length}
-use borrow.Author.Tests.{eq-eqb, ne-eqb}
+use borrow.Author.Tests.{leb-true, eq-eqb, ne-eqb}
 use Rattle.rules.specs.declared.Query.{Query}
 use Rattle.rules.specs.declared.Session.{Session}
 use Rattle.rules.specs.declared.Answer.the-variants.{Refused, Read, Settled}
@@ -17,9 +17,10 @@ use Rattle.rules.specs.Session.{settled}
 use Rattle.rules.specs.Read.{fieldNext, oldDepth, newDepth, readBlock}
 use Rattle.rules.specs.Calls.{step, between, queryCode, sizeCode, openCode, sameSizeCode, rowCode, rowsCode, recordFits, recordCode, callCode, newBlockCode, readCall}
 use Rattle.rules.specs.Calls as Calls
-use Rattle.rules.specs.Query.{list, listing, settledSession}
+use Rattle.rules.specs.Query.{settledSession}
 use Rattle.printing.specs.Put.{putAt}
-use Rattle.lent_query.specs.Numbers.{queryNumbers, queryOf, lentCode, lentQueryCode, lentQueryNumbers, lentListingCode, lentListingBytes}
+use Rattle.laws.specs.Bools.{and-right, first-none, unless-passed}
+use Rattle.lent_query.specs.Numbers.{queryOf, lentCode, askedCode, left}
 
 unless-small : (t : Bool) (n : ℕ) → n ≤ 11 → unless t n ≤ 11
 unless-small true n h = omega arith
@@ -77,42 +78,24 @@ pub lent-small : (q : Query) (f t : List ℤ) → lentCode q f t ≤ 11
 unfolding lentCode
 lent-small q f t = first-small (openCode q f t) (number (readCall f t (settledSession q f t) .answer)) (open-small q f t) (read-small f t (settledSession q f t))
 
--- ---- The three ends
+-- 11 comes last
+pub asked-small : (q : Query) (f t : List ℤ) (long : Bool) → first (lentCode q f t) (unless long 11) ≤ 11
+asked-small q f t long = first-small (lentCode q f t) (unless long 11) (lent-small q f t) (unless-small long 11 (omega arith))
 
-module _ (l : List ℕ) (f t : List ℤ) (out : List ℕ) where
-  pub refused : (code : ℕ) → code ≡ lentCode (queryOf l) f t → (code ≡ 0 → ⊥) →
-      (code ≡ lentQueryCode l f t out) × (out ≡ lentQueryNumbers l f t out)
-  unfolding lentQueryCode lentQueryNumbers
-  refused code e h =
-      let n : eqb (lentCode (queryOf l) f t) 0 ≡ false = ne-eqb _ _ (λ z. h (e ∙ z)) in
-      (simp n e, simp (n, n))
+-- ---- The two ends
 
-  pub short : lentCode (queryOf l) f t ≡ 0 → (leb 3 (length l) && leb 387 (length out)) ≡ false →
-      (11 ≡ lentQueryCode l f t out) × (out ≡ lentQueryNumbers l f t out)
-  unfolding lentQueryCode lentQueryNumbers
-  short e h = (simp (e, h), simp (e, h))
+module _ (code : ℕ) (answer out : List ℕ) where
+  pub refused : (code ≡ 0 → ⊥) → out ≡ left code answer out
+  unfolding left
+  refused h = simp (ne-eqb code 0 h) refl
 
-  pub found : (next : List ℕ) → lentCode (queryOf l) f t ≡ 0 → (leb 3 (length l) && leb 387 (length out)) ≡ true → next ≡ putAt 0 (queryNumbers (queryOf l) f t) out →
-      (0 ≡ lentQueryCode l f t out) × (next ≡ lentQueryNumbers l f t out)
-  unfolding lentQueryCode lentQueryNumbers
-  found next e h w = (simp (e, h), simp (e, h) w)
+  pub found : (next : List ℕ) → code ≡ 0 → next ≡ putAt 0 answer out → next ≡ left code answer out
+  unfolding left
+  found next e w = simp (eq-eqb code 0 e) w
 
--- ---- The same of the listing
-
-module _ (l : List ℕ) (f t : List ℤ) (out : List ℕ) where
-  pub listing-refused : (code : ℕ) → code ≡ lentCode (queryOf l) f t → (code ≡ 0 → ⊥) →
-      (code ≡ lentListingCode l f t out) × (out ≡ lentListingBytes l f t out)
-  unfolding lentListingCode lentListingBytes
-  listing-refused code e h =
-      let n : eqb (lentCode (queryOf l) f t) 0 ≡ false = ne-eqb _ _ (λ z. h (e ∙ z)) in
-      (simp n e, simp (n, n))
-
-  pub listing-short : lentCode (queryOf l) f t ≡ 0 → (leb 3 (length l) && leb 2412 (length out)) ≡ false →
-      (11 ≡ lentListingCode l f t out) × (out ≡ lentListingBytes l f t out)
-  unfolding lentListingCode lentListingBytes
-  listing-short e h = (simp (e, h), simp (e, h))
-
-  pub listing-found : (next : List ℕ) → lentCode (queryOf l) f t ≡ 0 → (leb 3 (length l) && leb 2412 (length out)) ≡ true → next ≡ putAt 0 (listing (queryOf l) f t) out →
-      (0 ≡ lentListingCode l f t out) × (next ≡ lentListingBytes l f t out)
-  unfolding lentListingCode lentListingBytes
-  listing-found next e h w = (simp (e, h), simp (e, h) w)
+-- there is room where 11 is not answered
+pub has-room : (least : ℕ) (l : List ℕ) (f t : List ℤ) (room : ℕ) → askedCode least l f t room ≡ 0 → least ≤ room
+unfolding askedCode
+has-room least l f t room h =
+    let some = first-none (lentCode (queryOf l) f t) (unless (leb 3 (length l) && leb least room) 11) (eq-eqb _ _ h) .1 in
+    leb-true least room (and-right (leb 3 (length l)) (leb least room) (unless-passed _ 11 refl some))

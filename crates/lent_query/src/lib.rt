@@ -9,9 +9,10 @@ ghost use mathlib.Core.List.{[], _∷_};
 ghost use Prim.Native.Nat.{_+_, _≤_, _<_};
 ghost use lib.ListN.{length, getD};
 ghost use Rattle.rules.specs.Query.{takeUntilFinished, settledSession, list};
+ghost use Rattle.rules.specs.Numbers.{first, unless};
 ghost use Rattle.printing.specs.Put.{putAt};
 ghost use Rattle.listing.specs.Inside.{Inside};
-ghost use Rattle.lent_query.specs.Numbers.{pairNumbers, listNumbers, queryNumbers, queryOf, lentCode, lentQueryNumbers, FoundBy, lentListingBytes, ListedBy};
+ghost use Rattle.lent_query.specs.Numbers.{pairNumbers, listNumbers, queryNumbers, queryOf, lentCode, AskedBy, lentQueryNumbers, FoundBy, lentListingBytes, ListedBy};
 
 const SHORT_SLICE: u32 = 11;
 
@@ -119,7 +120,42 @@ fn read_query(l: &[u32]) -> Query
     }
 }
 
-// A refusal's number, 0 where there is none, and how many pairs there are.
+// A query that was read until it settled: the number that it is refused by, 0 where there is none, and the record.
+struct Asked {
+    code: u32,
+    query: Query,
+    session: Session,
+}
+
+// 11 comes last.
+fn and_room(code: u32, long: bool) -> u32
+    ensures { λ r. ⌜ r ≡ first code (unless long 11) ⌝ }
+{
+    if code != 0 {
+        return code;
+    }
+    if long {
+        return 0;
+    }
+    SHORT_SLICE
+}
+
+// Two lent tables read as a query asks, where the answer wants `least` places and there are `room`.
+fn ask(query: &[u32], f: &[i32], t: &[i32], least: usize, room: usize) -> Asked
+    ensures { λ r. ⌜ AskedBy least (now (query .entry)) (now (f .entry)) (now (t .entry)) room r ⌝ }
+{
+    let q = read_query(query);
+    let s = listing::settle(q, f, t);
+    let refused = code_of(q, f, t, s);
+    let code = and_room(refused, (3 <= query.len()) & (least <= room));
+    Asked {
+        code,
+        query: q,
+        session: s,
+    }
+}
+
+// A refusal's number, 0 where there is none, and how many pairs, or bytes, there are.
 pub struct Found {
     pub code: u32,
     pub count: u32,
@@ -130,21 +166,15 @@ pub fn whole(query: &[u32], f: &[i32], t: &[i32], out: &mut [u64]) -> Found
     ensures { λ r. ⌜ FoundBy (now (query .entry)) (now (f .entry)) (now (t .entry)) (now (out .entry)) r ⌝ }
     ensures { λ _. ⌜ now (out .exit) ≡ lentQueryNumbers (now (query .entry)) (now (f .entry)) (now (t .entry)) (now (out .entry)) ⌝ }
 {
-    let q = read_query(query);
-    let s = listing::settle(q, f, t);
-    let code = code_of(q, f, t, s);
+    let a = ask(query, f, t, 387, out.len());
+    let code = a.code;
     if code != 0 {
         return Found { code, count: 0 };
     }
-    if !((3 <= query.len()) & (387 <= out.len())) {
-        return Found {
-            code: SHORT_SLICE,
-            count: 0,
-        };
-    }
-    let n = put_list(out, q, f, t, s);
+    let s = a.session;
+    let n = put_list(out, a.query, f, t, s);
     Found {
-        code: 0,
+        code,
         count: n as u32,
     }
 }
@@ -154,21 +184,15 @@ pub fn listed(query: &[u32], f: &[i32], t: &[i32], out: &mut [u8]) -> Found
     ensures { λ r. ⌜ ListedBy (now (query .entry)) (now (f .entry)) (now (t .entry)) (now (out .entry)) r ⌝ }
     ensures { λ _. ⌜ now (out .exit) ≡ lentListingBytes (now (query .entry)) (now (f .entry)) (now (t .entry)) (now (out .entry)) ⌝ }
 {
-    let q = read_query(query);
-    let s = listing::settle(q, f, t);
-    let code = code_of(q, f, t, s);
+    let a = ask(query, f, t, 2412, out.len());
+    let code = a.code;
     if code != 0 {
         return Found { code, count: 0 };
     }
-    if !((3 <= query.len()) & (2412 <= out.len())) {
-        return Found {
-            code: SHORT_SLICE,
-            count: 0,
-        };
-    }
-    let n = listing::put_settled(out, q, f, t, s);
+    let s = a.session;
+    let n = listing::put_settled(out, a.query, f, t, s);
     Found {
-        code: 0,
+        code,
         count: n as u32,
     }
 }
