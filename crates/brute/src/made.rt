@@ -38,7 +38,22 @@ pub fn query(seed: u64) -> Query {
 
 // The numbers that shades have: the extremes, then the small ones.
 const SHADES: [i32; 16] = [
-    -12800, 12700, -12800, 12700, 0, 0, 1, -1, 2, -2, 3, 4, -5, 9, -13, 40,
+    -12800,
+    12700,
+    -12800,
+    12700,
+    0,
+    0,
+    1,
+    -1,
+    2,
+    -2,
+    3,
+    4,
+    -5,
+    9,
+    -13,
+    40,
 ];
 
 fn shade(i: u32) -> i32 {
