@@ -35,7 +35,7 @@ fn number(t: &[i32], i: usize, c: usize) -> u32 {
     0
 }
 
-fn apart(x: u32, y: u32) -> u32 {
+pub fn apart(x: u32, y: u32) -> u32 {
     if x < y {
         return y - x;
     }

@@ -1,0 +1,230 @@
+// A whole session, read and taken from in one of several orders; each answer is compared.
+use crate::dice;
+use crate::judge;
+use crate::judge::Seen;
+use crate::judge::Wanted;
+use crate::plain;
+use crate::same;
+use crate::tally;
+use rules::Answer;
+use rules::Counts;
+use rules::Pair;
+use rules::Session;
+
+// A session under way: its record, what its caller saw, and the first fault found.
+pub struct Game {
+    pub session: Session,
+    pub seen: Seen,
+    pub fault: u32,
+}
+
+fn deepest(d: Counts) -> usize {
+    if d.field.0 < d.trim.0 {
+        return d.trim.0 as usize;
+    }
+    d.field.0 as usize
+}
+
+// What a read must answer: settled in a sure reading.
+fn read_due(f: &[i32], t: &[i32], w: Wanted, d: Counts) -> u32 {
+    if plain::sure(w.query, f, d.field.0 as usize, t, d.trim.0 as usize) {
+        return judge::SETTLED;
+    }
+    judge::READ
+}
+
+// What a take must answer with `count` pairs out.
+fn take_due(f: &[i32], t: &[i32], w: Wanted, d: Counts, count: usize) -> u32 {
+    let p = d.field.0 as usize;
+    let q = d.trim.0 as usize;
+    let k = w.query.k as usize;
+    let secured = plain::secured(w.query.radius, f, p, t, q) as usize;
+    if (count < k) & (count < secured) {
+        return judge::GIVEN;
+    }
+    let m = plain::rows(f);
+    let n = plain::rows(t);
+    if ((count == k) | ((m == 0) | (n == 0))) | ((p == m) & (q == n)) {
+        return judge::FINISHED;
+    }
+    judge::NOT_YET
+}
+
+// The lesser of from + block and rows.
+fn reached(from: u32, block: u32, rows: u32) -> u32 {
+    let to = std::num::wrapping_add_u32(from, block);
+    if to < rows {
+        return to;
+    }
+    rows
+}
+
+// Whether a block of one table was read, and of the other nothing.
+fn one_block(s: Session, r: Session) -> bool {
+    let block = s.query.block;
+    let p = s.depth.field.0;
+    let q = s.depth.trim.0;
+    let x = r.depth.field.0;
+    let y = r.depth.trim.0;
+    let field = ((p < x) & (x == reached(p, block, s.rows.field.0))) & ((q == y) & (r.last == 1));
+    let trim = ((q < y) & (y == reached(q, block, s.rows.trim.0))) & ((p == x) & (r.last == 2));
+    field | trim
+}
+
+// Whether the rows shown are those of the block just read.
+fn shown_fits<'a>(f: &'a [i32], t: &'a [i32], s: Session, r: Session) -> bool {
+    let part = session::show(f, t, r);
+    let read = plain::apart(r.depth.field.0, s.depth.field.0) as usize;
+    let other = plain::apart(r.depth.trim.0, s.depth.trim.0) as usize;
+    part.len() == 4 * (read + other)
+}
+
+// A session just opened.
+fn opened(f: &[i32], t: &[i32], w: Wanted) -> Game {
+    let step = session::start(w.query, f, t);
+    let s = step.session;
+    let answer = step.answer;
+    let z = judge::no_pair();
+    let seen = Seen {
+        given: [z; 64],
+        count: 0,
+        said: judge::number(answer),
+        due: judge::OPENED,
+        deepest: deepest(s.depth),
+        changed: false,
+    };
+    Game {
+        session: s,
+        seen,
+        fault: judge::fault(f, t, w, seen),
+    }
+}
+
+// A read, and whether the record is as such a read leaves it.
+fn after_read<'a>(f: &'a [i32], t: &'a [i32], w: Wanted, g: Game) -> Game {
+    let s = g.session;
+    let step = session::read(f, t, s);
+    let r = step.session;
+    let answer = step.answer;
+    let said = judge::number(answer);
+    let mut seen = g.seen;
+    seen.said = said;
+    seen.due = read_due(f, t, w, s.depth);
+    seen.deepest = deepest(r.depth);
+    if said == judge::READ {
+        seen.changed = !(one_block(s, r) & shown_fits(f, t, s, r));
+    } else {
+        seen.changed = !same::record(s, r);
+    }
+    Game {
+        session: r,
+        seen,
+        fault: g.fault,
+    }
+}
+
+// The list with a pair more.
+fn with_pair(seen: Seen, p: Pair) -> Seen {
+    let mut r = seen;
+    let n = seen.count;
+    if n < 64 {
+        r.given[n] = p;
+        r.count = n + 1;
+    }
+    r
+}
+
+// The pair of an answer.
+fn pair_of(a: Answer) -> Pair {
+    match a {
+        Answer::Given(p) => p,
+        _ => judge::no_pair(),
+    }
+}
+
+// Whether only the pair at the front moved out.
+fn one_out(s: Session, r: Session) -> bool {
+    (r.out == std::num::wrapping_add_u32(s.out, 1))
+        & (s.held == std::num::wrapping_add_u32(r.held, 1))
+}
+
+// A take, and whether the record is as such a take leaves it.
+fn after_take(f: &[i32], t: &[i32], w: Wanted, g: Game) -> Game {
+    let s = g.session;
+    let step = session::take(f, t, s);
+    let r = step.session;
+    let answer = step.answer;
+    let said = judge::number(answer);
+    let mut seen = g.seen;
+    seen.said = said;
+    seen.due = take_due(f, t, w, s.depth, seen.count);
+    seen.deepest = deepest(r.depth);
+    if said == judge::GIVEN {
+        seen = with_pair(seen, pair_of(answer));
+        seen.changed = !one_out(s, r);
+    } else {
+        seen.changed = !same::record(s, r);
+    }
+    Game {
+        session: r,
+        seen,
+        fault: g.fault,
+    }
+}
+
+// In what order reads and takes come.
+const TAKE_AFTER_EACH_READ: u32 = 0;
+
+const READS_THEN_TAKES: u32 = 1;
+
+const TAKES_WHILE_POSSIBLE: u32 = 2;
+
+// Whether the next call is a read, going by the last answer.
+fn read_next(order: u32, said: u32, coin: bool) -> bool {
+    if order == TAKE_AFTER_EACH_READ {
+        return (said != judge::READ) & (said != judge::SETTLED);
+    }
+    if order == READS_THEN_TAKES {
+        return (said != judge::SETTLED) & (said != judge::GIVEN);
+    }
+    if order == TAKES_WHILE_POSSIBLE {
+        return said == judge::NOT_YET;
+    }
+    coin
+}
+
+// A first fault stays.
+fn first(fault: u32, next: u32) -> u32 {
+    if fault == 0 {
+        return next;
+    }
+    fault
+}
+
+// One call, and the comparison after it.
+fn call<'a>(f: &'a [i32], t: &'a [i32], w: Wanted, g: Game, is_read: bool) -> Game {
+    let mut r = g;
+    if is_read {
+        r = after_read(f, t, w, g);
+    } else {
+        r = after_take(f, t, w, g);
+    }
+    let seen = r.seen;
+    r.fault = first(g.fault, judge::fault(f, t, w, seen));
+    r
+}
+
+// A session from its opening to its end.
+pub fn whole<'a>(f: &'a [i32], t: &'a [i32], w: Wanted, seed: u64, tally: &mut [u64; 48]) -> Game {
+    let mut g = opened(f, t, w);
+    let order = dice::below(seed, 9, 4);
+    for step in 0u64..600 {
+        if g.seen.said != judge::FINISHED {
+            let place = 1000 + step;
+            let is_read = read_next(order, g.seen.said, dice::one_in(seed, place, 2));
+            g = call(f, t, w, g, is_read);
+            tally::count(tally, g.seen.said as usize);
+        }
+    }
+    g
+}
