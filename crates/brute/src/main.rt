@@ -8,6 +8,7 @@ mod judge;
 mod made;
 mod plain;
 mod play;
+mod refused;
 mod same;
 mod tally;
 
@@ -69,5 +70,13 @@ fn main() {
     all_cases(&mut tally);
     line(&mut tally, tally::CASES, b" cases\n");
     line(&mut tally, tally::WRONG, b" wrong\n");
+    line(&mut tally, 0, b" 0\n");
+    line(&mut tally, 1, b" 1\n");
+    line(&mut tally, 2, b" 2\n");
+    line(&mut tally, 3, b" 3\n");
+    line(&mut tally, 4, b" 4\n");
+    line(&mut tally, 5, b" 5\n");
+    line(&mut tally, 6, b" 6\n");
+    line(&mut tally, 7, b" 7\n");
     line(&mut tally, tally::EXACT, b" limits reached exactly\n");
 }

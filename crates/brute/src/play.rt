@@ -4,6 +4,7 @@ use crate::judge;
 use crate::judge::Seen;
 use crate::judge::Wanted;
 use crate::plain;
+use crate::refused;
 use crate::same;
 use crate::tally;
 use rules::Answer;
@@ -222,6 +223,11 @@ pub fn whole<'a>(f: &'a [i32], t: &'a [i32], w: Wanted, seed: u64, tally: &mut [
         if g.seen.said != judge::FINISHED {
             let place = 1000 + step;
             let is_read = read_next(order, g.seen.said, dice::one_in(seed, place, 2));
+            let code = refused::some(f, t, g.session, seed, place);
+            tally::count(tally, code as usize);
+            if code == 0 {
+                g.fault = first(g.fault, judge::CHANGED);
+            }
             g = call(f, t, w, g, is_read);
             tally::count(tally, g.seen.said as usize);
         }
