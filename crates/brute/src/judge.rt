@@ -1,5 +1,5 @@
 // The comparer: what came out of a session beside what the double loop says.
-use crate::plain;
+use brute_tables::plain;
 use rules::Answer;
 use rules::Pair;
 use rules::Query;

@@ -1,12 +1,12 @@
 // The session against a plain double loop, over tables made from seeds.
 use crate::judge::Wanted;
+use brute_tables::dice;
+use brute_tables::made;
+use brute_tables::plain;
 use libc::STDOUT_FILENO;
 use rules::Query;
 
-mod dice;
 mod judge;
-mod made;
-mod plain;
 mod play;
 mod refused;
 mod same;

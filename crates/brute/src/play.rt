@@ -1,12 +1,12 @@
 // A whole session, read and taken from in one of several orders; each answer is compared.
-use crate::dice;
 use crate::judge;
 use crate::judge::Seen;
 use crate::judge::Wanted;
-use crate::plain;
 use crate::refused;
 use crate::same;
 use crate::tally;
+use brute_tables::dice;
+use brute_tables::plain;
 use rules::Answer;
 use rules::Counts;
 use rules::Pair;

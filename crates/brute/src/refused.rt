@@ -1,9 +1,9 @@
 // Calls that must be refused and change nothing: with harmed records, harmed tables, queries out of range. Each is made
 // on a copy and answers its number, or 0 if it was not refused by it or did change something.
-use crate::dice;
 use crate::judge;
-use crate::plain;
 use crate::same;
+use brute_tables::dice;
+use brute_tables::plain;
 use rules::Counts;
 use rules::FieldRows;
 use rules::Pair;

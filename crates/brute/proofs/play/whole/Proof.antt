@@ -4,8 +4,8 @@ use Rattle.brute.proofs.play.whole.Statement.{statement}
 use Rattle.brute.proofs.play.whole.Tie as tie
 use Rattle.brute.proofs.play.whole.Reads as reads
 use Rattle.brute.proofs.play.whole.Lts as lts
-use Rattle.brute.proofs.dice.below.Reads as below-reads
-use Rattle.brute.proofs.dice.one_in.Reads as one-in-reads
+use Rattle.brute_tables.proofs.dice.below.Reads as below-reads
+use Rattle.brute_tables.proofs.dice.one_in.Reads as one-in-reads
 use Rattle.brute.proofs.play.call.Reads as call-reads
 use Rattle.brute.proofs.play.first.Reads as first-reads
 use Rattle.brute.proofs.play.opened.Reads as opened-reads

@@ -1,11 +1,11 @@
 use Prim.Native.Nat.{_≤_, _-_}
 use borrow.Author.Needs.{needs}
-use Rattle.brute.proofs.plain.all_sums.Statement.{statement}
-use Rattle.brute.proofs.plain.all_sums.Tie as tie
-use Rattle.brute.proofs.plain.all_sums.Reads as reads
-use Rattle.brute.proofs.plain.all_sums.Lts as lts
-use Rattle.brute.proofs.plain.insert_row.Reads as insert-row-reads
-use Rattle.brute.proofs.plain.rows.Reads as rows-reads
+use Rattle.brute_tables.proofs.plain.all_sums.Statement.{statement}
+use Rattle.brute_tables.proofs.plain.all_sums.Tie as tie
+use Rattle.brute_tables.proofs.plain.all_sums.Reads as reads
+use Rattle.brute_tables.proofs.plain.all_sums.Lts as lts
+use Rattle.brute_tables.proofs.plain.insert_row.Reads as insert-row-reads
+use Rattle.brute_tables.proofs.plain.rows.Reads as rows-reads
 
 abbrev Inv-loop : tie.InvT-loop
 Inv-loop sums₀ radius f t k₀ i₀ i-end sums k i = i ≤ i-end

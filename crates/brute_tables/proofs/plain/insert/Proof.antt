@@ -1,11 +1,11 @@
 use Prim.Native.Nat.{_≤_, _-_, _<_}
 use borrow.Author.Needs.{needs}
-use Rattle.brute.proofs.plain.insert.Statement.{statement}
-use Rattle.brute.proofs.plain.insert.Tie as tie
-use Rattle.brute.proofs.plain.insert.Reads as reads
-use Rattle.brute.proofs.plain.insert.Lts as lts
-use Rattle.brute.proofs.plain.higher.Reads as higher-reads
-use Rattle.brute.proofs.plain.lower.Reads as lower-reads
+use Rattle.brute_tables.proofs.plain.insert.Statement.{statement}
+use Rattle.brute_tables.proofs.plain.insert.Tie as tie
+use Rattle.brute_tables.proofs.plain.insert.Reads as reads
+use Rattle.brute_tables.proofs.plain.insert.Lts as lts
+use Rattle.brute_tables.proofs.plain.higher.Reads as higher-reads
+use Rattle.brute_tables.proofs.plain.lower.Reads as lower-reads
 
 abbrev Inv-loop : tie.InvT-loop
 Inv-loop sums₀ n sum c₀ i₀ sums c i = i ≤ n

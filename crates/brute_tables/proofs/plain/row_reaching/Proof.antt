@@ -1,11 +1,11 @@
 use Prim.Native.Nat.{_≤_, _-_, _<_}
 use borrow.Author.Needs.{needs}
-use Rattle.brute.proofs.plain.row_reaching.Statement.{statement}
-use Rattle.brute.proofs.plain.row_reaching.Tie as tie
-use Rattle.brute.proofs.plain.row_reaching.Reads as reads
-use Rattle.brute.proofs.plain.row_reaching.Lts as lts
-use Rattle.brute.proofs.plain.qualifies.Reads as qualifies-reads
-use Rattle.brute.proofs.plain.sum.Reads as sum-reads
+use Rattle.brute_tables.proofs.plain.row_reaching.Statement.{statement}
+use Rattle.brute_tables.proofs.plain.row_reaching.Tie as tie
+use Rattle.brute_tables.proofs.plain.row_reaching.Reads as reads
+use Rattle.brute_tables.proofs.plain.row_reaching.Lts as lts
+use Rattle.brute_tables.proofs.plain.qualifies.Reads as qualifies-reads
+use Rattle.brute_tables.proofs.plain.sum.Reads as sum-reads
 use Rattle.std.proofs.num.wrapping_add_u32.Reads as wrapping-add-u32-reads
 
 abbrev Inv-loop : tie.InvT-loop

@@ -4,10 +4,10 @@ use native.Mathlib.Omega.{arith}
 use mir.Syntax.{w64}
 use mir.Val.{Fits}
 use borrow.Author.Needs.{needs}
-use Rattle.brute.proofs.plain.square.Statement.{statement}
-use Rattle.brute.proofs.plain.square.Tie as tie
-use Rattle.brute.proofs.plain.square.Reads as reads
-use Rattle.brute.proofs.plain.square.Lts as lts
+use Rattle.brute_tables.proofs.plain.square.Statement.{statement}
+use Rattle.brute_tables.proofs.plain.square.Tie as tie
+use Rattle.brute_tables.proofs.plain.square.Reads as reads
+use Rattle.brute_tables.proofs.plain.square.Lts as lts
 
 square-fits : (n : ℕ) → n < 2 ^ 32 → Fits w64 (n * n)
 square-fits n h =

@@ -1,11 +1,11 @@
 use Prim.Native.Nat.{_≤_, _-_}
 use borrow.Author.Needs.{needs}
-use Rattle.brute.proofs.plain.least_sure.Statement.{statement}
-use Rattle.brute.proofs.plain.least_sure.Tie as tie
-use Rattle.brute.proofs.plain.least_sure.Reads as reads
-use Rattle.brute.proofs.plain.least_sure.Lts as lts
-use Rattle.brute.proofs.plain.row_least.Reads as row-least-reads
-use Rattle.brute.proofs.plain.rows.Reads as rows-reads
+use Rattle.brute_tables.proofs.plain.least_sure.Statement.{statement}
+use Rattle.brute_tables.proofs.plain.least_sure.Tie as tie
+use Rattle.brute_tables.proofs.plain.least_sure.Reads as reads
+use Rattle.brute_tables.proofs.plain.least_sure.Lts as lts
+use Rattle.brute_tables.proofs.plain.row_least.Reads as row-least-reads
+use Rattle.brute_tables.proofs.plain.rows.Reads as rows-reads
 
 abbrev Inv-loop : tie.InvT-loop
 Inv-loop query f t d₀ p₀ p-end d p = p ≤ p-end

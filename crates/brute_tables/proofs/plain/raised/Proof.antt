@@ -1,9 +1,9 @@
-use Rattle.brute.proofs.Raised as R
+use Rattle.brute_tables.proofs.Raised as R
 use borrow.Author.Needs.{needs}
-use Rattle.brute.proofs.plain.raised.Statement.{statement}
-use Rattle.brute.proofs.plain.raised.Tie as tie
-use Rattle.brute.proofs.plain.raised.Reads as reads
-use Rattle.brute.proofs.plain.raised.Lts as lts
+use Rattle.brute_tables.proofs.plain.raised.Statement.{statement}
+use Rattle.brute_tables.proofs.plain.raised.Tie as tie
+use Rattle.brute_tables.proofs.plain.raised.Reads as reads
+use Rattle.brute_tables.proofs.plain.raised.Lts as lts
 
 -- src/plain.rt:9:21
 add-result : tie.Need-add-result

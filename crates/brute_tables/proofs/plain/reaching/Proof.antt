@@ -1,10 +1,10 @@
 use Prim.Native.Nat.{_≤_, _-_, _<_}
 use borrow.Author.Needs.{needs}
-use Rattle.brute.proofs.plain.reaching.Statement.{statement}
-use Rattle.brute.proofs.plain.reaching.Tie as tie
-use Rattle.brute.proofs.plain.reaching.Reads as reads
-use Rattle.brute.proofs.plain.reaching.Lts as lts
-use Rattle.brute.proofs.plain.row_reaching.Reads as row-reaching-reads
+use Rattle.brute_tables.proofs.plain.reaching.Statement.{statement}
+use Rattle.brute_tables.proofs.plain.reaching.Tie as tie
+use Rattle.brute_tables.proofs.plain.reaching.Reads as reads
+use Rattle.brute_tables.proofs.plain.reaching.Lts as lts
+use Rattle.brute_tables.proofs.plain.row_reaching.Reads as row-reaching-reads
 use Rattle.std.proofs.num.wrapping_add_u32.Reads as wrapping-add-u32-reads
 
 abbrev Inv-loop : tie.InvT-loop

@@ -1,12 +1,12 @@
 use Prim.Native.Nat.{_≤_, _-_}
 use borrow.Author.Needs.{needs}
-use Rattle.brute.proofs.plain.row_least.Statement.{statement}
-use Rattle.brute.proofs.plain.row_least.Tie as tie
-use Rattle.brute.proofs.plain.row_least.Reads as reads
-use Rattle.brute.proofs.plain.row_least.Lts as lts
-use Rattle.brute.proofs.plain.lesser.Reads as lesser-reads
-use Rattle.brute.proofs.plain.rows.Reads as rows-reads
-use Rattle.brute.proofs.plain.sure.Reads as sure-reads
+use Rattle.brute_tables.proofs.plain.row_least.Statement.{statement}
+use Rattle.brute_tables.proofs.plain.row_least.Tie as tie
+use Rattle.brute_tables.proofs.plain.row_least.Reads as reads
+use Rattle.brute_tables.proofs.plain.row_least.Lts as lts
+use Rattle.brute_tables.proofs.plain.lesser.Reads as lesser-reads
+use Rattle.brute_tables.proofs.plain.rows.Reads as rows-reads
+use Rattle.brute_tables.proofs.plain.sure.Reads as sure-reads
 
 abbrev Inv-loop : tie.InvT-loop
 Inv-loop query f p t least d₀ q₀ q-end d q = q ≤ q-end

@@ -1,13 +1,13 @@
 use Prim.Native.Nat.{_≤_, _-_}
 use borrow.Author.Needs.{needs}
-use Rattle.brute.proofs.plain.insert_row.Statement.{statement}
-use Rattle.brute.proofs.plain.insert_row.Tie as tie
-use Rattle.brute.proofs.plain.insert_row.Reads as reads
-use Rattle.brute.proofs.plain.insert_row.Lts as lts
-use Rattle.brute.proofs.plain.insert.Reads as insert-reads
-use Rattle.brute.proofs.plain.qualifies.Reads as qualifies-reads
-use Rattle.brute.proofs.plain.rows.Reads as rows-reads
-use Rattle.brute.proofs.plain.sum.Reads as sum-reads
+use Rattle.brute_tables.proofs.plain.insert_row.Statement.{statement}
+use Rattle.brute_tables.proofs.plain.insert_row.Tie as tie
+use Rattle.brute_tables.proofs.plain.insert_row.Reads as reads
+use Rattle.brute_tables.proofs.plain.insert_row.Lts as lts
+use Rattle.brute_tables.proofs.plain.insert.Reads as insert-reads
+use Rattle.brute_tables.proofs.plain.qualifies.Reads as qualifies-reads
+use Rattle.brute_tables.proofs.plain.rows.Reads as rows-reads
+use Rattle.brute_tables.proofs.plain.sum.Reads as sum-reads
 
 abbrev Inv-loop : tie.InvT-loop
 Inv-loop sums₀ n radius f i t k₀ j₀ j-end sums k j = j ≤ j-end

@@ -2,11 +2,11 @@ use Prim.Native.Nat.{_<_, _%_, _/_}
 use native.Mathlib.Nat.{mod-lt}
 use native.Mathlib.Omega.{arith}
 use borrow.Author.Needs.{needs}
-use Rattle.brute.proofs.dice.below.Statement.{statement}
-use Rattle.brute.proofs.dice.below.Tie as tie
-use Rattle.brute.proofs.dice.below.Reads as reads
-use Rattle.brute.proofs.dice.below.Lts as lts
-use Rattle.brute.proofs.dice.stirred.Reads as stirred-reads
+use Rattle.brute_tables.proofs.dice.below.Statement.{statement}
+use Rattle.brute_tables.proofs.dice.below.Tie as tie
+use Rattle.brute_tables.proofs.dice.below.Reads as reads
+use Rattle.brute_tables.proofs.dice.below.Lts as lts
+use Rattle.brute_tables.proofs.dice.stirred.Reads as stirred-reads
 use Rattle.std.proofs.num.wrapping_add_u64.Reads as wrapping-add-u64-reads
 
 small : (c : tie.After-stirred3) → (c .stirred3 .result / 4294967296) % (c .before .before .before .before .before .before .before .args .n) < c .before .before .before .before .before .before .before .args .n

@@ -1,16 +1,16 @@
 use Prim.Native.Nat.{_≤_, _-_, _<_}
 use borrow.Author.Needs.{needs}
-use Rattle.brute.proofs.made.table.Statement.{statement}
-use Rattle.brute.proofs.made.table.Tie as tie
-use Rattle.brute.proofs.made.table.Reads as reads
-use Rattle.brute.proofs.made.table.Lts as lts
-use Rattle.brute.proofs.dice.pick.Reads as pick-reads
-use Rattle.brute.proofs.made.fall.Reads as fall-reads
-use Rattle.brute.proofs.made.lowered.Reads as lowered-reads
-use Rattle.brute.proofs.made.pattern.Reads as pattern-reads
-use Rattle.brute.proofs.made.put_row.Reads as put-row-reads
-use Rattle.brute.proofs.made.score.Reads as score-reads
-use Rattle.brute.proofs.made.shade_of.Reads as shade-of-reads
+use Rattle.brute_tables.proofs.made.table.Statement.{statement}
+use Rattle.brute_tables.proofs.made.table.Tie as tie
+use Rattle.brute_tables.proofs.made.table.Reads as reads
+use Rattle.brute_tables.proofs.made.table.Lts as lts
+use Rattle.brute_tables.proofs.dice.pick.Reads as pick-reads
+use Rattle.brute_tables.proofs.made.fall.Reads as fall-reads
+use Rattle.brute_tables.proofs.made.lowered.Reads as lowered-reads
+use Rattle.brute_tables.proofs.made.pattern.Reads as pattern-reads
+use Rattle.brute_tables.proofs.made.put_row.Reads as put-row-reads
+use Rattle.brute_tables.proofs.made.score.Reads as score-reads
+use Rattle.brute_tables.proofs.made.shade_of.Reads as shade-of-reads
 
 abbrev Inv-loop : tie.InvT-loop
 Inv-loop seed w t₀ s₀ i₀ t s i = i ≤ 12
