@@ -1,51 +1,36 @@
-// The session against a plain double loop, over tables made from seeds.
-use crate::judge::Wanted;
+// The session against a plain double loop, over tables made from seeds. Prints totals; the comparer is tried first.
+use brute_calls::judge;
 use brute_tables::dice;
 use brute_tables::made;
-use brute_tables::plain;
 use libc::STDOUT_FILENO;
-use rules::Query;
 
-mod judge;
 mod play;
-mod refused;
-mod same;
 mod tally;
+mod wrong;
 
-fn wanted(query: Query, f: &[i32], t: &[i32]) -> Wanted {
-    let mut sums = [0u32; 144];
-    let all = plain::all_sums(&mut sums, query.radius, f, t);
-    let k = query.k as usize;
-    let mut count = all;
-    if k < all {
-        count = k;
-    }
-    let sure = plain::least_sure(query, f, t) as u64;
-    let limit = std::num::wrapping_sub_u64(std::num::wrapping_add_u64(sure, query.block as u64), 1);
-    Wanted {
-        query,
-        sums,
-        count,
-        limit: limit as usize,
-    }
-}
-
+// A case: its session is played, and counted.
 fn case<'a>(f: &'a [i32], t: &'a [i32], seed: u64, tally: &mut [u64; 48]) {
     let query = made::query(seed);
-    let w = wanted(query, f, t);
+    let w = judge::wanted_of(query, f, t);
     let g = play::whole(f, t, w, seed, tally);
     tally::count(tally, tally::CASES);
+    if (f.len() == 0) | (t.len() == 0) {
+        tally::count(tally, tally::EMPTY);
+    }
+    if g.seen.said != judge::FINISHED {
+        tally::count(tally, tally::UNFINISHED);
+    }
     if g.fault != 0 {
-        tally::count(tally, tally::WRONG);
+        tally::count(tally, tally::MISMATCHES);
     }
     if g.seen.deepest == w.limit {
         tally::count(tally, tally::EXACT);
     }
 }
 
-fn one_case(seed: u64, tally: &mut [u64; 48]) {
-    let field = made::table(seed, made::spread_of(seed));
+fn seeded(seed: u64, tally: &mut [u64; 48]) {
     let other = std::num::wrapping_add_u64(seed, 1000000);
+    let field = made::table(seed, made::spread_of(seed));
     let trim = made::table(other, made::spread_of(other));
     let m = dice::below(seed, 10, 13) as usize;
     let n = dice::below(seed, 11, 13) as usize;
@@ -53,30 +38,48 @@ fn one_case(seed: u64, tally: &mut [u64; 48]) {
 }
 
 fn all_cases(tally: &mut [u64; 48]) {
-    for seed in 0..2000 {
-        one_case(seed, tally);
+    for seed in 0u64..6000 {
+        seeded(seed, tally);
     }
 }
 
-fn line(tally: &mut [u64; 48], i: usize, name: &[u8]) {
+fn line(tally: [u64; 48], i: usize, name: &[u8]) {
     if i < 48 {
-        io::print_decimal(STDOUT_FILENO, tally[i]);
         io::write_all(STDOUT_FILENO, name);
+        io::print_decimal(STDOUT_FILENO, tally[i]);
+        io::write_all(STDOUT_FILENO, b"\n");
     }
+}
+
+fn totals(a: [u64; 48]) {
+    line(a, tally::CASES, b"cases: ");
+    line(a, tally::EMPTY, b"with an empty table: ");
+    line(a, judge::READ as usize, b"blocks read: ");
+    line(a, judge::SETTLED as usize, b"settled: ");
+    line(a, judge::GIVEN as usize, b"pairs: ");
+    line(a, tally::TIES, b"ties: ");
+    line(a, judge::NOT_YET as usize, b"not yet: ");
+    line(a, judge::FINISHED as usize, b"finished: ");
+    line(a, tally::EXACT, b"limits reached exactly: ");
+}
+
+fn refusals(a: [u64; 48]) {
+    line(a, 1, b"refused by 1: ");
+    line(a, 2, b"refused by 2: ");
+    line(a, 3, b"refused by 3: ");
+    line(a, 4, b"refused by 4: ");
+    line(a, 5, b"refused by 5: ");
+    line(a, 6, b"refused by 6: ");
+    line(a, 7, b"refused by 7: ");
+    line(a, 0, b"not refused so, or changed: ");
 }
 
 fn main() {
+    wrong::all();
     let mut tally = [0u64; 48];
     all_cases(&mut tally);
-    line(&mut tally, tally::CASES, b" cases\n");
-    line(&mut tally, tally::WRONG, b" wrong\n");
-    line(&mut tally, 0, b" 0\n");
-    line(&mut tally, 1, b" 1\n");
-    line(&mut tally, 2, b" 2\n");
-    line(&mut tally, 3, b" 3\n");
-    line(&mut tally, 4, b" 4\n");
-    line(&mut tally, 5, b" 5\n");
-    line(&mut tally, 6, b" 6\n");
-    line(&mut tally, 7, b" 7\n");
-    line(&mut tally, tally::EXACT, b" limits reached exactly\n");
+    totals(tally);
+    refusals(tally);
+    line(tally, tally::UNFINISHED, b"never finished: ");
+    line(tally, tally::MISMATCHES, b"mismatches: ");
 }

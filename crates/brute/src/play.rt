@@ -1,10 +1,10 @@
 // A whole session, read and taken from in one of several orders; each answer is compared.
-use crate::judge;
-use crate::judge::Seen;
-use crate::judge::Wanted;
-use crate::refused;
-use crate::same;
 use crate::tally;
+use brute_calls::judge;
+use brute_calls::judge::Seen;
+use brute_calls::judge::Wanted;
+use brute_calls::refused;
+use brute_calls::same;
 use brute_tables::dice;
 use brute_tables::plain;
 use rules::Answer;
@@ -194,6 +194,16 @@ fn read_next(order: u32, said: u32, coin: bool) -> bool {
     coin
 }
 
+// Whether the last two pairs have the same sum.
+fn is_tie(seen: Seen) -> bool {
+    let n = seen.count;
+    if n < 2 {
+        return false;
+    }
+    let given = seen.given;
+    judge::place(given, n - 1).sum == judge::place(given, n - 2).sum
+}
+
 // A first fault stays.
 fn first(fault: u32, next: u32) -> u32 {
     if fault == 0 {
@@ -230,6 +240,9 @@ pub fn whole<'a>(f: &'a [i32], t: &'a [i32], w: Wanted, seed: u64, tally: &mut [
             }
             g = call(f, t, w, g, is_read);
             tally::count(tally, g.seen.said as usize);
+            if (g.seen.said == judge::GIVEN) & is_tie(g.seen) {
+                tally::count(tally, tally::TIES);
+            }
         }
     }
     g

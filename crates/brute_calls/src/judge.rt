@@ -3,6 +3,8 @@ use brute_tables::plain;
 use rules::Answer;
 use rules::Pair;
 use rules::Query;
+use std::num::wrapping_add_usize;
+use std::num::wrapping_sub_usize;
 
 // Answers as numbers; a refusal is its own number.
 pub const OPENED: u32 = 20;
@@ -47,6 +49,26 @@ pub struct Wanted {
     pub count: usize,
     // The most rows that may be read of a table.
     pub limit: usize,
+}
+
+// What the double loop says: the sums, how many pairs come out, and the row limit against the sure reading of least
+// max(p, q).
+pub fn wanted_of(query: Query, f: &[i32], t: &[i32]) -> Wanted {
+    let mut sums = [0u32; 144];
+    let all = plain::all_sums(&mut sums, query.radius, f, t);
+    let k = query.k as usize;
+    let mut count = all;
+    if k < all {
+        count = k;
+    }
+    let sure = plain::least_sure(query, f, t);
+    let block = query.block as usize;
+    Wanted {
+        query,
+        sums,
+        count,
+        limit: wrapping_sub_usize(wrapping_add_usize(sure, block), 1),
+    }
 }
 
 // A session as its caller sees it after a call.

@@ -1,10 +1,10 @@
 use Prim.Native.Nat.{_≤_, _-_}
 use borrow.Author.Needs.{needs}
-use Rattle.brute.proofs.judge.is_new.Statement.{statement}
-use Rattle.brute.proofs.judge.is_new.Tie as tie
-use Rattle.brute.proofs.judge.is_new.Reads as reads
-use Rattle.brute.proofs.judge.is_new.Lts as lts
-use Rattle.brute.proofs.judge.place.Reads as place-reads
+use Rattle.brute_calls.proofs.judge.is_new.Statement.{statement}
+use Rattle.brute_calls.proofs.judge.is_new.Tie as tie
+use Rattle.brute_calls.proofs.judge.is_new.Reads as reads
+use Rattle.brute_calls.proofs.judge.is_new.Lts as lts
+use Rattle.brute_calls.proofs.judge.place.Reads as place-reads
 
 abbrev Inv-loop : tie.InvT-loop
 Inv-loop given i p new₀ j₀ new j = j ≤ i

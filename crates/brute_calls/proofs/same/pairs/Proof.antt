@@ -1,11 +1,11 @@
 use Prim.Native.Nat.{_≤_, _-_}
 use borrow.Author.Needs.{needs}
-use Rattle.brute.proofs.same.pairs.Statement.{statement}
-use Rattle.brute.proofs.same.pairs.Tie as tie
-use Rattle.brute.proofs.same.pairs.Reads as reads
-use Rattle.brute.proofs.same.pairs.Lts as lts
-use Rattle.brute.proofs.judge.place.Reads as place-reads
-use Rattle.brute.proofs.same.pair.Reads as pair-reads
+use Rattle.brute_calls.proofs.same.pairs.Statement.{statement}
+use Rattle.brute_calls.proofs.same.pairs.Tie as tie
+use Rattle.brute_calls.proofs.same.pairs.Reads as reads
+use Rattle.brute_calls.proofs.same.pairs.Lts as lts
+use Rattle.brute_calls.proofs.judge.place.Reads as place-reads
+use Rattle.brute_calls.proofs.same.pair.Reads as pair-reads
 
 abbrev Inv-loop : tie.InvT-loop
 Inv-loop a b same₀ i₀ same i = i ≤ 64

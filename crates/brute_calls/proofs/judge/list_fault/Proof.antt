@@ -1,10 +1,10 @@
 use Prim.Native.Nat.{_≤_, _-_}
 use borrow.Author.Needs.{needs}
-use Rattle.brute.proofs.judge.list_fault.Statement.{statement}
-use Rattle.brute.proofs.judge.list_fault.Tie as tie
-use Rattle.brute.proofs.judge.list_fault.Reads as reads
-use Rattle.brute.proofs.judge.list_fault.Lts as lts
-use Rattle.brute.proofs.judge.pair_fault.Reads as pair-fault-reads
+use Rattle.brute_calls.proofs.judge.list_fault.Statement.{statement}
+use Rattle.brute_calls.proofs.judge.list_fault.Tie as tie
+use Rattle.brute_calls.proofs.judge.list_fault.Reads as reads
+use Rattle.brute_calls.proofs.judge.list_fault.Lts as lts
+use Rattle.brute_calls.proofs.judge.pair_fault.Reads as pair-fault-reads
 
 abbrev Inv-loop : tie.InvT-loop
 Inv-loop f t w given i₀ i-end i = i ≤ i-end

@@ -1,9 +1,9 @@
 use Prim.Native.Nat.{_≤_, _-_}
 use borrow.Author.Needs.{needs}
-use Rattle.brute.proofs.refused.with_number.Statement.{statement}
-use Rattle.brute.proofs.refused.with_number.Tie as tie
-use Rattle.brute.proofs.refused.with_number.Reads as reads
-use Rattle.brute.proofs.refused.with_number.Lts as lts
+use Rattle.brute_calls.proofs.refused.with_number.Statement.{statement}
+use Rattle.brute_calls.proofs.refused.with_number.Tie as tie
+use Rattle.brute_calls.proofs.refused.with_number.Reads as reads
+use Rattle.brute_calls.proofs.refused.with_number.Lts as lts
 
 abbrev Inv-loop : tie.InvT-loop
 Inv-loop t at x a₀ i₀ a i = i ≤ 48
