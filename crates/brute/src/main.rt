@@ -1,5 +1,6 @@
 // The session against a plain double loop, over tables made from seeds. Prints totals; the comparer is tried first.
 use brute_calls::judge;
+use brute_calls::refused;
 use brute_tables::dice;
 use brute_tables::made;
 use libc::STDOUT_FILENO;
@@ -14,7 +15,8 @@ fn case<'a>(f: &'a [i32], t: &'a [i32], seed: u64, tally: &mut [u64; 48]) {
     let w = judge::wanted_of(query, f, t);
     let g = play::whole(f, t, w, seed, tally);
     tally::count(tally, tally::CASES);
-    if (f.len() == 0) | (t.len() == 0) {
+    let empty = (f.len() == 0) | (t.len() == 0);
+    if empty {
         tally::count(tally, tally::EMPTY);
     }
     if g.seen.said != judge::FINISHED {
@@ -23,8 +25,11 @@ fn case<'a>(f: &'a [i32], t: &'a [i32], seed: u64, tally: &mut [u64; 48]) {
     if g.fault != 0 {
         tally::count(tally, tally::MISMATCHES);
     }
-    if g.seen.deepest == w.limit {
+    if !empty & (g.seen.deepest == w.limit) {
         tally::count(tally, tally::EXACT);
+        if 1 < query.block {
+            tally::count(tally, tally::EXACT_BLOCKS);
+        }
     }
 }
 
@@ -41,6 +46,11 @@ fn all_cases(tally: &mut [u64; 48]) {
     for seed in 0u64..6000 {
         seeded(seed, tally);
     }
+}
+
+fn too_long() -> usize {
+    let t = [1i32; 4];
+    refused::too_long(made::query(0), &t) as usize
 }
 
 fn line(tally: [u64; 48], i: usize, name: &[u8]) {
@@ -61,6 +71,11 @@ fn totals(a: [u64; 48]) {
     line(a, judge::NOT_YET as usize, b"not yet: ");
     line(a, judge::FINISHED as usize, b"finished: ");
     line(a, tally::EXACT, b"limits reached exactly: ");
+    line(
+        a,
+        tally::EXACT_BLOCKS,
+        b"limits reached exactly by blocks of 2 rows or more: ",
+    );
 }
 
 fn refusals(a: [u64; 48]) {
@@ -78,6 +93,8 @@ fn main() {
     wrong::all();
     let mut tally = [0u64; 48];
     all_cases(&mut tally);
+    let code = too_long();
+    tally::count(&mut tally, code);
     totals(tally);
     refusals(tally);
     line(tally, tally::UNFINISHED, b"never finished: ");

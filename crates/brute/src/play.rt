@@ -225,25 +225,40 @@ fn call<'a>(f: &'a [i32], t: &'a [i32], w: Wanted, g: Game, is_read: bool) -> Ga
     r
 }
 
-// A session from its opening to its end.
+// A call that must be refused, then one that must not.
+fn turn<'a>(
+    f: &'a [i32],
+    t: &'a [i32],
+    w: Wanted,
+    g: Game,
+    seed: u64,
+    step: u64,
+    tally: &mut [u64; 48],
+) -> Game {
+    let code = refused::some(f, t, g.session, seed, step);
+    tally::count(tally, code as usize);
+    let mut h = g;
+    if code == 0 {
+        h.fault = first(g.fault, judge::CHANGED);
+    }
+    let order = dice::below(seed, 9, 4);
+    let is_read = read_next(order, g.seen.said, dice::one_in(seed, step, 2));
+    let r = call(f, t, w, h, is_read);
+    tally::count(tally, r.seen.said as usize);
+    if (r.seen.said == judge::GIVEN) & is_tie(r.seen) {
+        tally::count(tally, tally::TIES);
+    }
+    r
+}
+
+// A session from its opening to its end, and a read and a take after it.
 pub fn whole<'a>(f: &'a [i32], t: &'a [i32], w: Wanted, seed: u64, tally: &mut [u64; 48]) -> Game {
     let mut g = opened(f, t, w);
-    let order = dice::below(seed, 9, 4);
-    for step in 0u64..600 {
+    for step in 1000u64..1600 {
         if g.seen.said != judge::FINISHED {
-            let place = 1000 + step;
-            let is_read = read_next(order, g.seen.said, dice::one_in(seed, place, 2));
-            let code = refused::some(f, t, g.session, seed, place);
-            tally::count(tally, code as usize);
-            if code == 0 {
-                g.fault = first(g.fault, judge::CHANGED);
-            }
-            g = call(f, t, w, g, is_read);
-            tally::count(tally, g.seen.said as usize);
-            if (g.seen.said == judge::GIVEN) & is_tie(g.seen) {
-                tally::count(tally, tally::TIES);
-            }
+            g = turn(f, t, w, g, seed, step, tally);
         }
     }
-    g
+    let last = call(f, t, w, g, true);
+    call(f, t, w, last, false)
 }

@@ -8,6 +8,8 @@ pub const TIES: usize = 33;
 
 pub const EXACT: usize = 34;
 
+pub const EXACT_BLOCKS: usize = 37;
+
 pub const UNFINISHED: usize = 35;
 
 pub const MISMATCHES: usize = 36;

@@ -12,6 +12,7 @@ use rules::Session;
 use rules::Step;
 use rules::TrimRows;
 use std::num::wrapping_add_u32;
+use std::num::wrapping_add_u64;
 ghost use Prim.Native.Nat.{_≤_};
 
 // No call was made.
@@ -409,15 +410,23 @@ fn harmed_opening(q: Query, f: &[i32], t: &[i32], kind: u32) -> u32 {
     opening(q, f, &part, 4)
 }
 
+// An opening with a table of 65,536 rows, which must be refused by 4.
+pub fn too_long(q: Query, t: &[i32]) -> u32 {
+    let long = [0i32; 262144];
+    let step = session::start(q, &long, t);
+    let z = zeros();
+    kept(step, z, 4)
+}
+
 // One call that must be refused, chosen by the seed.
 pub fn some<'a>(f: &'a [i32], t: &'a [i32], s: Session, seed: u64, place: u64) -> u32 {
-    let is_read = dice::one_in(seed, place, 2);
-    let other = std::num::wrapping_add_u64(place, 10000);
-    let kind = dice::below(seed, other, 16);
-    let row = dice::below(seed, std::num::wrapping_add_u64(place, 20000), 12) as usize;
-    let way = dice::below(seed, std::num::wrapping_add_u64(place, 30000), 8);
+    let is_read = dice::one_in(seed, wrapping_add_u64(place, 40000), 2);
+    let any = dice::below(seed, wrapping_add_u64(place, 10000), 176);
+    let kind = any % 16;
+    let row = dice::below(seed, wrapping_add_u64(place, 20000), 12) as usize;
+    let way = dice::below(seed, wrapping_add_u64(place, 30000), 8);
     if way < 2 {
-        return harmed_record(f, t, s, dice::below(seed, other, 22), is_read);
+        return harmed_record(f, t, s, any % 22, is_read);
     }
     if way == 2 {
         return harmed_size(f, t, s, kind % 8, is_read);

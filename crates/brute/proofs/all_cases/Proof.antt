@@ -1,10 +1,8 @@
+-- `all_cases` is safe and ends: 6,000 seeds. Assumes nothing.
 use Prim.Native.Nat.{_≤_, _-_}
 use borrow.Author.Needs.{needs}
 use Rattle.brute.proofs.all_cases.Statement.{statement}
 use Rattle.brute.proofs.all_cases.Tie as tie
-use Rattle.brute.proofs.all_cases.Reads as reads
-use Rattle.brute.proofs.all_cases.Lts as lts
-use Rattle.brute.proofs.seeded.Reads as seeded-reads
 
 abbrev Inv-loop : tie.InvT-loop
 Inv-loop tally₀ seed₀ tally seed = seed ≤ 6000
@@ -12,27 +10,21 @@ Inv-loop tally₀ seed₀ tally seed = seed ≤ 6000
 abbrev μ-loop : tie.MeasureT-loop
 μ-loop tally₀ seed₀ tally seed = 6000 - seed
 
--- src/main.rt:41:5
 loop-holds : tie.Need-loop-holds Inv-loop μ-loop
 loop-holds c = search needs
 
--- src/main.rt:42:9
 seeded-requires : tie.Need-seeded-requires Inv-loop μ-loop
 seeded-requires c κs = search needs
 
--- src/main.rt:41:9
 add-seed : tie.Need-add-seed Inv-loop μ-loop
 add-seed c = search needs
 
--- src/main.rt:41:5
 loop-less : tie.Need-loop-less Inv-loop μ-loop
 loop-less c = search needs
 
--- src/main.rt:41:5
 loop-again : tie.Need-loop-again Inv-loop μ-loop
 loop-again c = search needs
 
--- src/main.rt:40:1
 returns : tie.Need-returns Inv-loop μ-loop
 returns c = search needs
 

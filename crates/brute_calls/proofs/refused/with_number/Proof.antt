@@ -1,9 +1,8 @@
+-- `with_number` is safe and ends: 48 numbers. Assumes nothing.
 use Prim.Native.Nat.{_≤_, _-_}
 use borrow.Author.Needs.{needs}
 use Rattle.brute_calls.proofs.refused.with_number.Statement.{statement}
 use Rattle.brute_calls.proofs.refused.with_number.Tie as tie
-use Rattle.brute_calls.proofs.refused.with_number.Reads as reads
-use Rattle.brute_calls.proofs.refused.with_number.Lts as lts
 
 abbrev Inv-loop : tie.InvT-loop
 Inv-loop t at x a₀ i₀ a i = i ≤ 48
@@ -11,51 +10,39 @@ Inv-loop t at x a₀ i₀ a i = i ≤ 48
 abbrev μ-loop : tie.MeasureT-loop
 μ-loop t at x a₀ i₀ a i = 48 - i
 
--- src/refused.rt:215:5
 loop-holds : tie.Need-loop-holds Inv-loop μ-loop
 loop-holds c = search needs
 
--- src/refused.rt:217:20
 mul-a : tie.Need-mul-a Inv-loop μ-loop
 mul-a c = search needs
 
--- src/refused.rt:217:20
 shared-slice-copy-out-a : tie.Need-shared-slice-copy-out-a Inv-loop μ-loop
 shared-slice-copy-out-a c = search needs
 
--- src/refused.rt:217:13
 mul-a-2 : tie.Need-mul-a-2 Inv-loop μ-loop
 mul-a-2 c = search needs
 
--- src/refused.rt:217:13
 array-set-from-a : tie.Need-array-set-from-a Inv-loop μ-loop
 array-set-from-a c = search needs
 
--- src/refused.rt:215:9
 add-i : tie.Need-add-i Inv-loop μ-loop
 add-i c = search needs
 
--- src/refused.rt:215:5
 loop-less : tie.Need-loop-less Inv-loop μ-loop
 loop-less c = search needs
 
--- src/refused.rt:215:5
 loop-again : tie.Need-loop-again Inv-loop μ-loop
 loop-again c = search needs
 
--- src/refused.rt:221:9
 mul-a-3 : tie.Need-mul-a-3 Inv-loop μ-loop
 mul-a-3 c = search needs
 
--- src/refused.rt:221:9
 array-set-from-a-2 : tie.Need-array-set-from-a-2 Inv-loop μ-loop
 array-set-from-a-2 c = search needs
 
--- src/refused.rt:213:1
 returns : tie.Need-returns Inv-loop μ-loop
 returns c = search needs
 
--- src/refused.rt:213:1
 returns-2 : tie.Need-returns-2 Inv-loop μ-loop
 returns-2 c = search needs
 

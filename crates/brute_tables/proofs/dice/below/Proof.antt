@@ -1,13 +1,10 @@
+-- `below`: a remainder is less than its divisor. Assumes nothing.
 use Prim.Native.Nat.{_<_, _%_, _/_}
 use native.Mathlib.Nat.{mod-lt}
 use native.Mathlib.Omega.{arith}
 use borrow.Author.Needs.{needs}
 use Rattle.brute_tables.proofs.dice.below.Statement.{statement}
 use Rattle.brute_tables.proofs.dice.below.Tie as tie
-use Rattle.brute_tables.proofs.dice.below.Reads as reads
-use Rattle.brute_tables.proofs.dice.below.Lts as lts
-use Rattle.brute_tables.proofs.dice.stirred.Reads as stirred-reads
-use Rattle.std.proofs.num.wrapping_add_u64.Reads as wrapping-add-u64-reads
 
 small : (c : tie.After-stirred3) → (c .stirred3 .result / 4294967296) % (c .before .before .before .before .before .before .before .args .n) < c .before .before .before .before .before .before .before .args .n
 small c = mod-lt (c .stirred3 .result / 4294967296) (omega arith)
@@ -15,39 +12,30 @@ small c = mod-lt (c .stirred3 .result / 4294967296) (omega arith)
 returns : tie.Need-returns
 returns c = search needs
 
--- src/dice.rt:18:21
 wrapping-add-u64-requires : tie.Need-wrapping-add-u64-requires
 wrapping-add-u64-requires c κs = search needs
 
--- src/dice.rt:18:9
 stirred-requires : tie.Need-stirred-requires
 stirred-requires c κs = search needs
 
--- src/dice.rt:19:21
 wrapping-add-u64-requires-2 : tie.Need-wrapping-add-u64-requires-2
 wrapping-add-u64-requires-2 c κs = search needs
 
--- src/dice.rt:19:9
 stirred-requires-2 : tie.Need-stirred-requires-2
 stirred-requires-2 c κs = search needs
 
--- src/dice.rt:20:21
 wrapping-add-u64-requires-3 : tie.Need-wrapping-add-u64-requires-3
 wrapping-add-u64-requires-3 c κs = search needs
 
--- src/dice.rt:20:9
 stirred-requires-3 : tie.Need-stirred-requires-3
 stirred-requires-3 c κs = search needs
 
--- src/dice.rt:21:6
 rem-result : tie.Need-rem-result
 rem-result c = search needs
 
--- src/dice.rt:21:5
 cast-result : tie.Need-cast-result
 cast-result c = record { fits = omega (arith, small c) }
 
--- src/dice.rt:12:1
 returns-2 : tie.Need-returns-2
 returns-2 c = omega (arith, small c)
 

@@ -1,13 +1,8 @@
+-- `insert_row` is safe and ends: one turn for each trim row. Assumes nothing.
 use Prim.Native.Nat.{_≤_, _-_}
 use borrow.Author.Needs.{needs}
 use Rattle.brute_tables.proofs.plain.insert_row.Statement.{statement}
 use Rattle.brute_tables.proofs.plain.insert_row.Tie as tie
-use Rattle.brute_tables.proofs.plain.insert_row.Reads as reads
-use Rattle.brute_tables.proofs.plain.insert_row.Lts as lts
-use Rattle.brute_tables.proofs.plain.insert.Reads as insert-reads
-use Rattle.brute_tables.proofs.plain.qualifies.Reads as qualifies-reads
-use Rattle.brute_tables.proofs.plain.rows.Reads as rows-reads
-use Rattle.brute_tables.proofs.plain.sum.Reads as sum-reads
 
 abbrev Inv-loop : tie.InvT-loop
 Inv-loop sums₀ n radius f i t k₀ j₀ j-end sums k j = j ≤ j-end
@@ -15,39 +10,30 @@ Inv-loop sums₀ n radius f i t k₀ j₀ j-end sums k j = j ≤ j-end
 abbrev μ-loop : tie.MeasureT-loop
 μ-loop sums₀ n radius f i t k₀ j₀ j-end sums k j = j-end - j
 
--- src/plain.rt:123:17
 rows-requires : tie.Need-rows-requires Inv-loop μ-loop
 rows-requires c κs = search needs
 
--- src/plain.rt:123:5
 loop-holds : tie.Need-loop-holds Inv-loop μ-loop
 loop-holds c = search needs
 
--- src/plain.rt:124:12
 qualifies-requires : tie.Need-qualifies-requires Inv-loop μ-loop
 qualifies-requires c κs = search needs
 
--- src/plain.rt:125:33
 sum-requires : tie.Need-sum-requires Inv-loop μ-loop
 sum-requires c κs = search needs
 
--- src/plain.rt:125:13
 insert-requires : tie.Need-insert-requires Inv-loop μ-loop
 insert-requires c κs = search needs
 
--- src/plain.rt:123:9
 add-j : tie.Need-add-j Inv-loop μ-loop
 add-j c = search needs
 
--- src/plain.rt:123:5
 loop-less : tie.Need-loop-less Inv-loop μ-loop
 loop-less c = search needs
 
--- src/plain.rt:123:5
 loop-again : tie.Need-loop-again Inv-loop μ-loop
 loop-again c = search needs
 
--- src/plain.rt:114:1
 returns : tie.Need-returns Inv-loop μ-loop
 returns c = search needs
 

@@ -1,11 +1,8 @@
+-- `least_sure` is safe and ends: p goes to the field rows. Assumes nothing.
 use Prim.Native.Nat.{_≤_, _-_}
 use borrow.Author.Needs.{needs}
 use Rattle.brute_tables.proofs.plain.least_sure.Statement.{statement}
 use Rattle.brute_tables.proofs.plain.least_sure.Tie as tie
-use Rattle.brute_tables.proofs.plain.least_sure.Reads as reads
-use Rattle.brute_tables.proofs.plain.least_sure.Lts as lts
-use Rattle.brute_tables.proofs.plain.row_least.Reads as row-least-reads
-use Rattle.brute_tables.proofs.plain.rows.Reads as rows-reads
 
 abbrev Inv-loop : tie.InvT-loop
 Inv-loop query f t d₀ p₀ p-end d p = p ≤ p-end
@@ -13,47 +10,36 @@ Inv-loop query f t d₀ p₀ p-end d p = p ≤ p-end
 abbrev μ-loop : tie.MeasureT-loop
 μ-loop query f t d₀ p₀ p-end d p = p-end - p
 
--- src/plain.rt:199:17
 rows-requires : tie.Need-rows-requires Inv-loop μ-loop
 rows-requires c κs = search needs
 
--- src/plain.rt:199:27
 rows-requires-2 : tie.Need-rows-requires-2 Inv-loop μ-loop
 rows-requires-2 c κs = search needs
 
--- src/plain.rt:199:17
 add-d : tie.Need-add-d Inv-loop μ-loop
 add-d c = search needs
 
--- src/plain.rt:200:17
 rows-requires-3 : tie.Need-rows-requires-3 Inv-loop μ-loop
 rows-requires-3 c κs = search needs
 
--- src/plain.rt:200:17
 add-p-end : tie.Need-add-p-end Inv-loop μ-loop
 add-p-end c = search needs
 
--- src/plain.rt:200:5
 loop-holds : tie.Need-loop-holds Inv-loop μ-loop
 loop-holds c = search needs
 
--- src/plain.rt:201:9
 row-least-requires : tie.Need-row-least-requires Inv-loop μ-loop
 row-least-requires c κs = search needs
 
--- src/plain.rt:200:9
 add-p : tie.Need-add-p Inv-loop μ-loop
 add-p c = search needs
 
--- src/plain.rt:200:5
 loop-less : tie.Need-loop-less Inv-loop μ-loop
 loop-less c = search needs
 
--- src/plain.rt:200:5
 loop-again : tie.Need-loop-again Inv-loop μ-loop
 loop-again c = search needs
 
--- src/plain.rt:198:1
 returns : tie.Need-returns Inv-loop μ-loop
 returns c = search needs
 

@@ -1,3 +1,4 @@
+-- `square`: the square of 32 bits fits in 64. Assumes nothing.
 use Prim.Native.Nat.{ℕ, _<_, _≤_, _*_, _^_}
 use native.Mathlib.Nat.{mul-le-mul}
 use native.Mathlib.Omega.{arith}
@@ -6,8 +7,6 @@ use mir.Val.{Fits}
 use borrow.Author.Needs.{needs}
 use Rattle.brute_tables.proofs.plain.square.Statement.{statement}
 use Rattle.brute_tables.proofs.plain.square.Tie as tie
-use Rattle.brute_tables.proofs.plain.square.Reads as reads
-use Rattle.brute_tables.proofs.plain.square.Lts as lts
 
 square-fits : (n : ℕ) → n < 2 ^ 32 → Fits w64 (n * n)
 square-fits n h =
@@ -18,7 +17,6 @@ square-fits n h =
 mul-result : tie.Need-mul-result
 mul-result c = square-fits (c .args .n) (omega (arith, c .fits .n))
 
--- src/plain.rt:35:1
 returns : tie.Need-returns
 returns c = search needs
 
