@@ -3,10 +3,12 @@ use crate::tally;
 use brute_calls::judge;
 use brute_calls::judge::Seen;
 use brute_calls::judge::Wanted;
+use brute_calls::records;
 use brute_calls::refused;
 use brute_calls::same;
 use brute_tables::dice;
 use brute_tables::plain;
+use brute_tables::reading;
 use rules::Answer;
 use rules::Counts;
 use rules::Pair;
@@ -28,7 +30,7 @@ fn deepest(d: Counts) -> usize {
 
 // What a read must answer: settled in a sure reading.
 fn read_due(f: &[i32], t: &[i32], w: Wanted, d: Counts) -> u32 {
-    if plain::sure(w.query, f, d.field.0 as usize, t, d.trim.0 as usize) {
+    if reading::sure(w.query, f, d.field.0 as usize, t, d.trim.0 as usize) {
         return judge::SETTLED;
     }
     judge::READ
@@ -39,7 +41,7 @@ fn take_due(f: &[i32], t: &[i32], w: Wanted, d: Counts, count: usize) -> u32 {
     let p = d.field.0 as usize;
     let q = d.trim.0 as usize;
     let k = w.query.k as usize;
-    let secured = plain::secured(w.query.radius, f, p, t, q) as usize;
+    let secured = reading::secured(w.query.radius, f, p, t, q) as usize;
     if (count < k) & (count < secured) {
         return judge::GIVEN;
     }
@@ -49,35 +51,6 @@ fn take_due(f: &[i32], t: &[i32], w: Wanted, d: Counts, count: usize) -> u32 {
         return judge::FINISHED;
     }
     judge::NOT_YET
-}
-
-// The lesser of from + block and rows.
-fn reached(from: u32, block: u32, rows: u32) -> u32 {
-    let to = std::num::wrapping_add_u32(from, block);
-    if to < rows {
-        return to;
-    }
-    rows
-}
-
-// Whether a block of one table was read, and of the other nothing.
-fn one_block(s: Session, r: Session) -> bool {
-    let block = s.query.block;
-    let p = s.depth.field.0;
-    let q = s.depth.trim.0;
-    let x = r.depth.field.0;
-    let y = r.depth.trim.0;
-    let field = ((p < x) & (x == reached(p, block, s.rows.field.0))) & ((q == y) & (r.last == 1));
-    let trim = ((q < y) & (y == reached(q, block, s.rows.trim.0))) & ((p == x) & (r.last == 2));
-    field | trim
-}
-
-// Whether the rows shown are those of the block just read.
-fn shown_fits<'a>(f: &'a [i32], t: &'a [i32], s: Session, r: Session) -> bool {
-    let part = session::show(f, t, r);
-    let read = plain::apart(r.depth.field.0, s.depth.field.0) as usize;
-    let other = plain::apart(r.depth.trim.0, s.depth.trim.0) as usize;
-    part.len() == 4 * (read + other)
 }
 
 // A session just opened.
@@ -92,13 +65,21 @@ fn opened(f: &[i32], t: &[i32], w: Wanted) -> Game {
         said: judge::number(answer),
         due: judge::OPENED,
         deepest: deepest(s.depth),
-        changed: false,
+        record: 0,
     };
     Game {
         session: s,
         seen,
         fault: judge::fault(f, t, w, seen),
     }
+}
+
+// What is wrong with a record that must be the same.
+fn unchanged(s: Session, r: Session) -> u32 {
+    if same::record(s, r) {
+        return 0;
+    }
+    judge::CHANGED
 }
 
 // A read, and whether the record is as such a read leaves it.
@@ -112,10 +93,10 @@ fn after_read<'a>(f: &'a [i32], t: &'a [i32], w: Wanted, g: Game) -> Game {
     seen.said = said;
     seen.due = read_due(f, t, w, s.depth);
     seen.deepest = deepest(r.depth);
+    seen.record = unchanged(s, r);
     if said == judge::READ {
-        seen.changed = !(one_block(s, r) & shown_fits(f, t, s, r));
-    } else {
-        seen.changed = !same::record(s, r);
+        let given = seen.given;
+        seen.record = records::read_fault(f, t, s, r, given, seen.count);
     }
     Game {
         session: r,
@@ -143,12 +124,6 @@ fn pair_of(a: Answer) -> Pair {
     }
 }
 
-// Whether only the pair at the front moved out.
-fn one_out(s: Session, r: Session) -> bool {
-    (r.out == std::num::wrapping_add_u32(s.out, 1))
-        & (s.held == std::num::wrapping_add_u32(r.held, 1))
-}
-
 // A take, and whether the record is as such a take leaves it.
 fn after_take(f: &[i32], t: &[i32], w: Wanted, g: Game) -> Game {
     let s = g.session;
@@ -160,11 +135,11 @@ fn after_take(f: &[i32], t: &[i32], w: Wanted, g: Game) -> Game {
     seen.said = said;
     seen.due = take_due(f, t, w, s.depth, seen.count);
     seen.deepest = deepest(r.depth);
+    seen.record = unchanged(s, r);
     if said == judge::GIVEN {
         seen = with_pair(seen, pair_of(answer));
-        seen.changed = !one_out(s, r);
-    } else {
-        seen.changed = !same::record(s, r);
+        let given = seen.given;
+        seen.record = records::take_fault(f, t, s, r, given, seen.count);
     }
     Game {
         session: r,

@@ -1,9 +1,11 @@
 // The comparer is first fed one wrong list of each kind, which it must report.
 use brute_calls::judge;
 use brute_calls::judge::Seen;
+use brute_calls::records;
 use libc::STDOUT_FILENO;
 use rules::Pair;
 use rules::Query;
+use rules::Session;
 
 const FIELD: [i32; 12] = [1, 9, 0, 0, 2, 8, 0, 0, 3, 1, 40, 0];
 
@@ -29,7 +31,7 @@ fn right() -> Seen {
         said: judge::FINISHED,
         due: judge::FINISHED,
         deepest: 3,
-        changed: false,
+        record: 0,
     }
 }
 
@@ -60,16 +62,19 @@ fn line(name: &[u8], reported: bool) {
     }
 }
 
-// Whether the comparer finds this fault in a session over the tables above.
-fn finds(s: Seen, fault: u32) -> bool {
-    let query = Query {
+fn asked() -> Query {
+    Query {
         k: 3,
         block: 2,
         radius: 5,
-    };
+    }
+}
+
+// Whether the comparer finds this fault in a session over the tables above.
+fn finds(s: Seen, fault: u32) -> bool {
     let f = FIELD;
     let t = TRIM;
-    let w = judge::wanted_of(query, &f, &t);
+    let w = judge::wanted_of(asked(), &f, &t);
     judge::fault(&f, &t, w, s) == fault
 }
 
@@ -144,12 +149,57 @@ fn wrong_answers() {
     deep.deepest = 5;
     line(b"read too deep", finds(deep, judge::TOO_DEEP));
     let mut changed = right();
-    changed.changed = true;
+    changed.record = judge::CHANGED;
     line(b"changed by a refused call", finds(changed, judge::CHANGED));
+}
+
+// The query above, opened and read to the end of both tables, less one read or with it.
+fn read_times(n: u32) -> Session {
+    let f = FIELD;
+    let t = TRIM;
+    let step = session::start(asked(), &f, &t);
+    let mut s = step.session;
+    for i in 0..n {
+        let next = session::read(&f, &t, s);
+        s = next.session;
+    }
+    s
+}
+
+// Whether the comparer finds this fault in a record that the third read is to have given back.
+fn third_read(r: Session, fault: u32) -> bool {
+    let f = FIELD;
+    let t = TRIM;
+    let z = judge::no_pair();
+    let none = [z; 64];
+    records::read_fault(&f, &t, read_times(2), r, none, 0) == fault
+}
+
+fn wrong_records() {
+    let right = read_times(3);
+    line(b"nothing wrong with a record", third_read(right, 0));
+    let mut out = right;
+    out.out = 1;
+    line(b"more pairs out", third_read(out, judge::CHANGED));
+    line(b"no block read", third_read(read_times(2), judge::BLOCK));
+    let mut joined = right;
+    joined.joined = 9;
+    line(b"another joined count", third_read(joined, judge::JOINED));
+    let mut lost = right;
+    lost.held = 2;
+    line(b"a held pair lost", third_read(lost, judge::HELD));
+    let mut passed = right;
+    let p = pair(13, 2, 2);
+    passed.pairs[2] = p;
+    line(
+        b"a better pair passed over",
+        third_read(passed, judge::HELD),
+    );
 }
 
 pub fn all() {
     line(b"nothing wrong", finds(right(), 0));
     wrong_pairs();
     wrong_answers();
+    wrong_records();
 }

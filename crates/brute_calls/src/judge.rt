@@ -1,5 +1,6 @@
 // The comparer: what came out of a session beside what the double loop says.
 use brute_tables::plain;
+use brute_tables::reading;
 use rules::Answer;
 use rules::Pair;
 use rules::Query;
@@ -40,6 +41,14 @@ pub const TOO_DEEP: u32 = 9;
 
 pub const CHANGED: u32 = 10;
 
+pub const BLOCK: u32 = 11;
+
+pub const JOINED: u32 = 12;
+
+pub const HELD: u32 = 13;
+
+pub const SHOWN: u32 = 14;
+
 // What the double loop says of a query over two tables.
 pub struct Wanted {
     pub query: Query,
@@ -61,7 +70,7 @@ pub fn wanted_of(query: Query, f: &[i32], t: &[i32]) -> Wanted {
     if k < all {
         count = k;
     }
-    let sure = plain::least_sure(query, f, t);
+    let sure = reading::least_sure(query, f, t);
     let block = query.block as usize;
     Wanted {
         query,
@@ -81,8 +90,8 @@ pub struct Seen {
     pub due: u32,
     // Rows read of the table that is read deeper.
     pub deepest: usize,
-    // A call that must change nothing did, or one was refused by another number than its own.
-    pub changed: bool,
+    // What is wrong with the record that the call gave back, by its number; 0 is nothing.
+    pub record: u32,
 }
 
 pub fn number(a: Answer) -> u32 {
@@ -112,15 +121,14 @@ pub fn place(given: [Pair; 64], i: usize) -> Pair {
     no_pair()
 }
 
-// Whether no pair before place i has the same rows.
-fn is_new(given: [Pair; 64], i: usize) -> bool {
-    let p = place(given, i);
-    let mut new = true;
-    for j in 0..i {
-        let q = place(given, j);
-        new = new & !((p.field == q.field) & (p.trim == q.trim));
+// Whether one of the first n pairs has the same rows.
+pub fn is_among(given: [Pair; 64], n: usize, p: Pair) -> bool {
+    let mut found = false;
+    for i in 0..n {
+        let q = place(given, i);
+        found = found | ((p.field == q.field) & (p.trim == q.trim));
     }
-    new
+    found
 }
 
 // Whether a pair's sum is the one that is due at place i.
@@ -135,8 +143,8 @@ fn in_order(w: Wanted, i: usize, sum: u32) -> bool {
     false
 }
 
-fn pair_fault(f: &[i32], t: &[i32], w: Wanted, given: [Pair; 64], i: usize) -> u32 {
-    let p = place(given, i);
+// What is wrong with a pair by itself, its rows being among the first m field rows and n trim rows.
+pub fn own_fault(radius: u32, f: &[i32], m: usize, t: &[i32], n: usize, p: Pair) -> u32 {
     let x = p.field as usize;
     let y = p.trim as usize;
     if x == 0 {
@@ -145,16 +153,25 @@ fn pair_fault(f: &[i32], t: &[i32], w: Wanted, given: [Pair; 64], i: usize) -> u
     if y == 0 {
         return NO_ROW;
     }
-    if (plain::rows(f) < x) | (plain::rows(t) < y) {
+    if (m < x) | (n < y) {
         return NO_ROW;
     }
-    if !plain::qualifies(w.query.radius, f, x - 1, t, y - 1) {
+    if !plain::qualifies(radius, f, x - 1, t, y - 1) {
         return TOO_FAR;
     }
     if p.sum != plain::sum(f, x - 1, t, y - 1) {
         return WRONG_SUM;
     }
-    if !is_new(given, i) {
+    0
+}
+
+fn pair_fault(f: &[i32], t: &[i32], w: Wanted, given: [Pair; 64], i: usize) -> u32 {
+    let p = place(given, i);
+    let own = own_fault(w.query.radius, f, plain::rows(f), t, plain::rows(t), p);
+    if own != 0 {
+        return own;
+    }
+    if is_among(given, i, p) {
         return TWICE;
     }
     if !in_order(w, i, p.sum) {
@@ -193,8 +210,5 @@ pub fn fault(f: &[i32], t: &[i32], w: Wanted, s: Seen) -> u32 {
     if w.limit < s.deepest {
         return TOO_DEEP;
     }
-    if s.changed {
-        return CHANGED;
-    }
-    0
+    s.record
 }

@@ -1,5 +1,5 @@
-// All pairs of two tables by the plain double loop, and what they say of a reading: it shares nothing with the session.
-use rules::Query;
+// All pairs of two tables by the plain double loop: it shares nothing with the session.
+use rules::Pair;
 use std::num::wrapping_add_u32;
 use std::num::wrapping_add_u64;
 ghost use mathlib.Core.Path.{_≡_};
@@ -81,14 +81,14 @@ pub fn reaching(radius: u32, f: &[i32], p: usize, t: &[i32], q: usize, least: u3
     n
 }
 
-fn higher(x: u32, y: u32) -> u32 {
+pub fn higher(x: u32, y: u32) -> u32 {
     if x < y {
         return y;
     }
     x
 }
 
-fn lower(x: u32, y: u32) -> u32 {
+pub fn lower(x: u32, y: u32) -> u32 {
     if x < y {
         return x;
     }
@@ -137,68 +137,44 @@ pub fn all_sums(sums: &mut [u32; 144], radius: u32, f: &[i32], t: &[i32]) -> usi
     k
 }
 
-// The highest sum that a pair with an unread row can have; 0 where all is read. Neither p nor q is 0.
-fn ceiling(f: &[i32], p: usize, t: &[i32], q: usize) -> u32 {
-    let mut high = 0;
-    if 0 < p {
-        if p < rows(f) {
-            high = sum(f, p - 1, t, 0);
-        }
+// Whether x ranks before y.
+pub fn ahead(x: Pair, y: Pair) -> bool {
+    if x.sum != y.sum {
+        return y.sum < x.sum;
     }
-    if 0 < q {
-        if q < rows(t) {
-            high = higher(high, sum(f, 0, t, q - 1));
-        }
+    if x.field != y.field {
+        return x.field < y.field;
     }
-    high
+    x.trim < y.trim
 }
 
-// How many pairs of the first p field rows and q trim rows no unread row can outdo.
-pub fn secured(radius: u32, f: &[i32], p: usize, t: &[i32], q: usize) -> u32 {
-    if (p == 0) | (q == 0) {
-        return 0;
+fn row_number(i: usize) -> u32 {
+    if i < 65535 {
+        return (i as u32) + 1;
     }
-    reaching(radius, f, p, t, q, ceiling(f, p, t, q))
+    0
 }
 
-// Whether the reading is sure of k.
-pub fn sure(query: Query, f: &[i32], p: usize, t: &[i32], q: usize) -> bool {
-    let m = rows(f);
-    let n = rows(t);
-    let all = ((m == 0) | (n == 0)) | ((p == m) & (q == n));
-    all | (query.k <= secured(query.radius, f, p, t, q))
+// How many of the first q trim rows make a qualifying pair with field row i + 1 that ranks no lower than `last`.
+fn row_ranked(radius: u32, f: &[i32], i: usize, t: &[i32], q: usize, last: Pair) -> u32 {
+    let mut n = 0;
+    for j in 0..q {
+        let p = Pair {
+            sum: sum(f, i, t, j),
+            field: row_number(i),
+            trim: row_number(j),
+        };
+        let fits = qualifies(radius, f, i, t, j) & !ahead(last, p);
+        n = wrapping_add_u32(n, fits as u32);
+    }
+    n
 }
 
-// The lesser of `least` and max(p, q).
-fn lesser(least: usize, p: usize, q: usize) -> usize {
-    if least <= p {
-        return least;
+// How many qualifying pairs of the first p field rows and q trim rows rank no lower than `last`.
+pub fn ranked(radius: u32, f: &[i32], p: usize, t: &[i32], q: usize, last: Pair) -> u32 {
+    let mut n = 0;
+    for i in 0..p {
+        n = wrapping_add_u32(n, row_ranked(radius, f, i, t, q, last));
     }
-    if least <= q {
-        return least;
-    }
-    if p < q {
-        return q;
-    }
-    p
-}
-
-// The least of `least` and max(p, q) over the sure readings of p field rows.
-fn row_least(query: Query, f: &[i32], p: usize, t: &[i32], least: usize) -> usize {
-    let mut d = least;
-    for q in 0..rows(t) + 1 {
-        if sure(query, f, p, t, q) {
-            d = lesser(d, p, q);
-        }
-    }
-    d
-}
-
-// The least max(p, q) of a sure reading.
-pub fn least_sure(query: Query, f: &[i32], t: &[i32]) -> usize {
-    let mut d = rows(f) + rows(t);
-    for p in 0..rows(f) + 1 {
-        d = row_least(query, f, p, t, d);
-    }
-    d
+    n
 }
