@@ -150,10 +150,13 @@ fn wrong_answers() {
     line(b"read too deep", finds(deep, judge::TOO_DEEP));
     let mut changed = right();
     changed.record = judge::CHANGED;
-    line(b"changed by a refused call", finds(changed, judge::CHANGED));
+    line(
+        b"a record changed by a refused call",
+        finds(changed, judge::CHANGED),
+    );
 }
 
-// The query above, opened and read to the end of both tables, less one read or with it.
+// The record of that query after n reads.
 fn read_times(n: u32) -> Session {
     let f = FIELD;
     let t = TRIM;
@@ -177,11 +180,17 @@ fn third_read(r: Session, fault: u32) -> bool {
 
 fn wrong_records() {
     let right = read_times(3);
-    line(b"nothing wrong with a record", third_read(right, 0));
+    line(b"a right record, no fault", third_read(right, 0));
     let mut out = right;
     out.out = 1;
-    line(b"more pairs out", third_read(out, judge::CHANGED));
-    line(b"no block read", third_read(read_times(2), judge::BLOCK));
+    line(
+        b"a record with another count of pairs out",
+        third_read(out, judge::CHANGED),
+    );
+    line(
+        b"a read that reads nothing",
+        third_read(read_times(2), judge::BLOCK),
+    );
     let mut joined = right;
     joined.joined = 9;
     line(b"another joined count", third_read(joined, judge::JOINED));
@@ -198,7 +207,7 @@ fn wrong_records() {
 }
 
 pub fn all() {
-    line(b"nothing wrong", finds(right(), 0));
+    line(b"a right list, no fault", finds(right(), 0));
     wrong_pairs();
     wrong_answers();
     wrong_records();
