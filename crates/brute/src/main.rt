@@ -43,7 +43,7 @@ fn seeded(seed: u64, tally: &mut [u64; 48]) {
 }
 
 fn all_cases(tally: &mut [u64; 48]) {
-    for seed in 0u64..6000 {
+    for seed in 0u64..4000 {
         seeded(seed, tally);
     }
 }

@@ -8,7 +8,7 @@ use brute_calls::refused;
 use brute_calls::same;
 use brute_tables::dice;
 use brute_tables::plain;
-use brute_tables::reading;
+use brute_tables::readings;
 use rules::Answer;
 use rules::Counts;
 use rules::Pair;
@@ -30,7 +30,7 @@ fn deepest(d: Counts) -> usize {
 
 // What a read must answer: settled in a sure reading.
 fn read_due(f: &[i32], t: &[i32], w: Wanted, d: Counts) -> u32 {
-    if reading::sure(w.query, f, d.field.0 as usize, t, d.trim.0 as usize) {
+    if readings::sure(w.query, f, d.field.0 as usize, t, d.trim.0 as usize) {
         return judge::SETTLED;
     }
     judge::READ
@@ -41,7 +41,7 @@ fn take_due(f: &[i32], t: &[i32], w: Wanted, d: Counts, count: usize) -> u32 {
     let p = d.field.0 as usize;
     let q = d.trim.0 as usize;
     let k = w.query.k as usize;
-    let secured = reading::secured(w.query.radius, f, p, t, q) as usize;
+    let secured = readings::secured(w.query.radius, f, p, t, q) as usize;
     if (count < k) & (count < secured) {
         return judge::GIVEN;
     }

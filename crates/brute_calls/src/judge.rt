@@ -1,6 +1,6 @@
 // The comparer: what came out of a session beside what the double loop says.
 use brute_tables::plain;
-use brute_tables::reading;
+use brute_tables::readings;
 use rules::Answer;
 use rules::Pair;
 use rules::Query;
@@ -70,7 +70,7 @@ pub fn wanted_of(query: Query, f: &[i32], t: &[i32]) -> Wanted {
     if k < all {
         count = k;
     }
-    let sure = reading::least_sure(query, f, t);
+    let sure = readings::least_sure(query, f, t);
     let block = query.block as usize;
     Wanted {
         query,

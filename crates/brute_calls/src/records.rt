@@ -2,7 +2,7 @@
 use crate::judge;
 use crate::same;
 use brute_tables::plain;
-use brute_tables::reading;
+use brute_tables::readings;
 use rules::Pair;
 use rules::Session;
 use std::num::wrapping_add_u32;
@@ -21,7 +21,7 @@ fn block_fits(f: &[i32], t: &[i32], s: Session, r: Session) -> bool {
     let q = s.depth.trim.0;
     let x = r.depth.field.0;
     let y = r.depth.trim.0;
-    if reading::field_next(f, s.depth.field.0 as usize, t, s.depth.trim.0 as usize) {
+    if readings::field_next(f, s.depth.field.0 as usize, t, s.depth.trim.0 as usize) {
         return (x == reached(p, block, s.rows.field.0)) & ((q == y) & (r.last == 1));
     }
     (y == reached(q, block, s.rows.trim.0)) & ((p == x) & (r.last == 2))
@@ -32,10 +32,10 @@ fn joined_fits(f: &[i32], t: &[i32], s: Session, r: Session) -> bool {
     let p = s.depth.field.0 as usize;
     let q = s.depth.trim.0 as usize;
     if r.last == 1 {
-        let n = reading::joined(s.query, f, p, r.depth.field.0 as usize, t, q);
+        let n = readings::joined(s.query, f, p, r.depth.field.0 as usize, t, q);
         return r.joined == wrapping_add_u64(s.joined, n as u64);
     }
-    let n = reading::joined(s.query, t, q, r.depth.trim.0 as usize, f, p);
+    let n = readings::joined(s.query, t, q, r.depth.trim.0 as usize, f, p);
     r.joined == wrapping_add_u64(s.joined, n as u64)
 }
 

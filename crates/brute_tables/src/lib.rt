@@ -2,4 +2,4 @@
 pub mod dice;
 pub mod made;
 pub mod plain;
-pub mod reading;
+pub mod readings;

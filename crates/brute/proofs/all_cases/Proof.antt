@@ -1,14 +1,14 @@
--- `all_cases` is safe and ends: 6,000 seeds. Assumes nothing.
+-- `all_cases` is safe and ends: 4,000 seeds. Assumes nothing.
 use Prim.Native.Nat.{_≤_, _-_}
 use borrow.Author.Needs.{needs}
 use Rattle.brute.proofs.all_cases.Statement.{statement}
 use Rattle.brute.proofs.all_cases.Tie as tie
 
 abbrev Inv-loop : tie.InvT-loop
-Inv-loop tally₀ seed₀ tally seed = seed ≤ 6000
+Inv-loop tally₀ seed₀ tally seed = seed ≤ 4000
 
 abbrev μ-loop : tie.MeasureT-loop
-μ-loop tally₀ seed₀ tally seed = 6000 - seed
+μ-loop tally₀ seed₀ tally seed = 4000 - seed
 
 loop-holds : tie.Need-loop-holds Inv-loop μ-loop
 loop-holds c = search needs

@@ -1,8 +1,8 @@
 -- `row_least` is safe and ends: q goes to the trim rows. Assumes nothing.
 use Prim.Native.Nat.{_≤_, _-_}
 use borrow.Author.Needs.{needs}
-use Rattle.brute_tables.proofs.reading.row_least.Statement.{statement}
-use Rattle.brute_tables.proofs.reading.row_least.Tie as tie
+use Rattle.brute_tables.proofs.readings.row_least.Statement.{statement}
+use Rattle.brute_tables.proofs.readings.row_least.Tie as tie
 
 abbrev Inv-loop : tie.InvT-loop
 Inv-loop query f p t least d₀ q₀ q-end d q = q ≤ q-end

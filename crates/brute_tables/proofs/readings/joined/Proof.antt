@@ -1,8 +1,8 @@
 -- `joined` is safe and ends: one turn for each row read. Assumes nothing.
 use Prim.Native.Nat.{_≤_, _-_}
 use borrow.Author.Needs.{needs}
-use Rattle.brute_tables.proofs.reading.joined.Statement.{statement}
-use Rattle.brute_tables.proofs.reading.joined.Tie as tie
+use Rattle.brute_tables.proofs.readings.joined.Statement.{statement}
+use Rattle.brute_tables.proofs.readings.joined.Tie as tie
 
 abbrev Inv-loop : tie.InvT-loop
 Inv-loop query own a e other d block n₀ c₀ n c = c ≤ d

@@ -1,8 +1,8 @@
 -- `least_sure` is safe and ends: p goes to the field rows. Assumes nothing.
 use Prim.Native.Nat.{_≤_, _-_}
 use borrow.Author.Needs.{needs}
-use Rattle.brute_tables.proofs.reading.least_sure.Statement.{statement}
-use Rattle.brute_tables.proofs.reading.least_sure.Tie as tie
+use Rattle.brute_tables.proofs.readings.least_sure.Statement.{statement}
+use Rattle.brute_tables.proofs.readings.least_sure.Tie as tie
 
 abbrev Inv-loop : tie.InvT-loop
 Inv-loop query f t d₀ p₀ p-end d p = p ≤ p-end
