@@ -65,7 +65,7 @@ fn opened(f: &[i32], t: &[i32], w: Wanted) -> Game {
         said: judge::number(answer),
         due: judge::OPENED,
         deepest: deepest(s.depth),
-        record: 0,
+        record: records::open_fault(w.query, f, t, s),
     };
     Game {
         session: s,
@@ -200,7 +200,7 @@ fn call<'a>(f: &'a [i32], t: &'a [i32], w: Wanted, g: Game, is_read: bool) -> Ga
     r
 }
 
-// A call that must be refused, then one that must not.
+// A call that must be refused, where one can be made, then one that must not.
 fn turn<'a>(
     f: &'a [i32],
     t: &'a [i32],

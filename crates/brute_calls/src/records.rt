@@ -1,13 +1,29 @@
-// The record that a read or a take gives back, beside what the double loop says it holds.
+// The record that an opening, a read or a take gives back, beside what the double loop says it holds.
 use crate::judge;
+use crate::refused;
 use crate::same;
 use brute_tables::plain;
 use brute_tables::readings;
 use rules::Pair;
+use rules::Query;
 use rules::Session;
 use std::num::wrapping_add_u32;
 use std::num::wrapping_add_u64;
 use std::num::wrapping_sub_u32;
+
+// What is wrong with the record of an opening: nothing is read, out, held or joined.
+pub fn open_fault(q: Query, f: &[i32], t: &[i32], s: Session) -> u32 {
+    let rows = s.rows;
+    let mut e = refused::zeros();
+    e.query = q;
+    e.rows = rows;
+    let field = s.rows.field.0 as usize == plain::rows(f);
+    let trim = s.rows.trim.0 as usize == plain::rows(t);
+    if (field & trim) & same::record(e, s) {
+        return 0;
+    }
+    judge::CHANGED
+}
 
 // The lesser of from + block and rows.
 fn reached(from: u32, block: u32, rows: u32) -> u32 {

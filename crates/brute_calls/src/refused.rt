@@ -15,7 +15,7 @@ use std::num::wrapping_add_u32;
 use std::num::wrapping_add_u64;
 ghost use Prim.Native.Nat.{_≤_};
 
-// No call was made.
+// No call was made: the harm chosen does not fit the record or the tables.
 pub const NONE: u32 = 40;
 
 fn kept(step: Step, s: Session, code: u32) -> u32 {
@@ -347,7 +347,7 @@ fn harmed_block(f: &[i32], t: &[i32], s: Session, kind: u32) -> u32 {
 }
 
 // The record of a refused opening.
-fn zeros() -> Session {
+pub fn zeros() -> Session {
     let query = Query {
         k: 0,
         block: 0,

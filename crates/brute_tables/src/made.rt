@@ -1,17 +1,13 @@
 // Tables and queries made from a seed: ties, plateaus, zero scores, empty tables, extreme shades.
 use crate::dice;
 use rules::Query;
-ghost use Prim.Native.Nat.{_≤_};
-
-// The most rows of a made table.
-pub const ROWS: usize = 12;
 
 // How scores and shades are spread.
 pub struct Spread {
     pub top: u32,
     // The most that a score falls from row to row.
     pub fall: u32,
-    // All scores but the first three are equal.
+    // Scores fall over the first three rows only.
     pub plateau: bool,
     // How many of the small shades there are beside the first.
     pub shades: u32,
