@@ -2,10 +2,14 @@
 use brute_calls::judge;
 use brute_calls::judge::Seen;
 use brute_calls::records;
+use brute_calls::refused;
+use brute_calls::same;
 use libc::STDOUT_FILENO;
+use rules::Answer;
 use rules::Pair;
 use rules::Query;
 use rules::Session;
+use rules::Step;
 
 const FIELD: [i32; 12] = [1, 9, 0, 0, 2, 8, 0, 0, 3, 1, 40, 0];
 
@@ -151,7 +155,7 @@ fn wrong_answers() {
     let mut changed = right();
     changed.record = judge::CHANGED;
     line(
-        b"a record changed by a refused call",
+        b"a record that is not as it should be",
         finds(changed, judge::CHANGED),
     );
 }
@@ -206,9 +210,48 @@ fn wrong_records() {
     );
 }
 
+// How many of the 22 kinds of harm to a record are seen as a change.
+fn harms_seen(s: Session) -> u32 {
+    let mut n = 0;
+    for kind in 0u32..22 {
+        n = std::num::wrapping_add_u32(n, !same::record(s, refused::harmed(s, kind)) as u32);
+    }
+    n
+}
+
+// Whether this is taken for a call that was refused by 5 and changed nothing.
+fn passes(answer: Answer, s: Session, r: Session) -> bool {
+    let step = Step { answer, session: r };
+    refused::kept(step, s, 5) == 5
+}
+
+fn wrong_refusals() {
+    let s = read_times(3);
+    line(
+        b"a right refusal, no fault",
+        passes(Answer::Refused(5), s, s),
+    );
+    line(
+        b"refused by another number",
+        !passes(Answer::Refused(4), s, s),
+    );
+    line(b"not refused", !passes(Answer::NotYet, s, s));
+    let mut r = s;
+    r.joined = 9;
+    line(
+        b"a record changed by a refused call",
+        !passes(Answer::Refused(5), s, r),
+    );
+    line(
+        b"22 kinds of harm to a record, each a change",
+        harms_seen(s) == 22,
+    );
+}
+
 pub fn all() {
     line(b"a right list, no fault", finds(right(), 0));
     wrong_pairs();
     wrong_answers();
     wrong_records();
+    wrong_refusals();
 }

@@ -18,7 +18,8 @@ ghost use Prim.Native.Nat.{_≤_};
 // No call was made: the harm chosen does not fit the record or the tables.
 pub const NONE: u32 = 40;
 
-fn kept(step: Step, s: Session, code: u32) -> u32 {
+// The number, if the call was refused by it and gave back the same record; else 0.
+pub fn kept(step: Step, s: Session, code: u32) -> u32 {
     let r = step.session;
     let a = step.answer;
     if (judge::number(a) == code) & same::record(r, s) {
@@ -157,8 +158,8 @@ fn harmed_place(s: Session, kind: u32) -> Session {
     r
 }
 
-// A record that 5 refuses, made of one that it does not.
-fn harmed(s: Session, kind: u32) -> Session {
+// A record that 5 refuses, made of one that it does not: one of 22 kinds.
+pub fn harmed(s: Session, kind: u32) -> Session {
     if kind < 5 {
         return harmed_pair(s, kind);
     }
