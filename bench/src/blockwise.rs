@@ -28,7 +28,7 @@ pub struct Join<'a> {
 }
 
 impl<'a> Join<'a> {
-    fn open(query: Query, field: &'a [i32], trim: &'a [i32], checks: Checks) -> Join<'a> {
+    pub fn open(query: Query, field: &'a [i32], trim: &'a [i32], checks: Checks) -> Join<'a> {
         Join {
             query,
             tables: [field, trim],
@@ -122,7 +122,7 @@ impl<'a> Join<'a> {
     }
 
     /// Whether a block was read; none where the call is refused.
-    fn read(&mut self) -> Option<bool> {
+    pub fn read(&mut self) -> Option<bool> {
         if self.refused() {
             return None;
         }

@@ -4,6 +4,7 @@ use std::time::Instant;
 
 mod block_printed;
 mod blockwise;
+mod calls;
 mod checks;
 mod clock;
 mod contenders;
@@ -68,16 +69,19 @@ fn main() {
     match words.as_slice() {
         ["profile", rest @ ..] => return profile::run(rest),
         ["files"] => files::run(),
+        ["calls"] => calls::run(),
         ["short", plot_to] => queries(false, 3, plot_to),
         ["full", plot_to] => queries(true, 5, plot_to),
         _ => {
-            eprintln!("usage: bench/run [short|full|files], or bench/run profile CONTENDER RADIUS K BLOCK RUNS");
+            eprintln!("usage: bench/run [short|full|files|calls], or bench/run profile CONTENDER RADIUS K BLOCK RUNS");
             std::process::exit(2);
         }
     }
-    if words[0] != "files" {
+    if matches!(words[0], "short" | "full") {
         println!("\n## Files of 65,535 rows\n");
         files::run();
+        println!("\n## A read of a settled session\n");
+        calls::run();
     }
     println!("\n{} took {:.0} s", words[0], began.elapsed().as_secs_f64());
 }
