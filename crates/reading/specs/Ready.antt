@@ -1,5 +1,5 @@
 -- A record whose held pairs are in order, ready to meet a block pair. Definitions only. Assumes nothing.
-use Prim.Native.Nat.{_+_, _%_, _≤_, _<_}
+use Prim.Native.Nat.{_+_, _-_, _≤_, _<_}
 use mathlib.Core.Path.{_≡_}
 use mathlib.Core.Bool.{Bool, cond}
 use lib.ListN.{length, getD}
@@ -19,9 +19,9 @@ pub record Ready (s : Session) : Type 0 where
   pub zeros : s .pairs ≡ places (heldPairs s)
   pub order : Ordered ahead (heldPairs s)
 
--- the pair in the last held place; where none is held, what stands in the last place of all
-abbrev pub lastHeld : Session → Pair
-lastHeld s = getD (s .pairs) ((s .held + 63) % 64) noPair
+-- the pair in the last held place, where one is held
+abbrev pub LastHeld : Session → Pair → Type 0
+LastHeld s p = 0 < s .held → p ≡ getD (s .pairs) (s .held - 1) noPair
 
 -- a new block and an old one meet, as field and trim; the flag says whether the new block is of the field table
 abbrev pub meetParts : Bool → Session → Block → Block → Session

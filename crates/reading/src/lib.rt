@@ -16,7 +16,7 @@ ghost use Rattle.rules.specs.Session.{settled};
 ghost use Rattle.rules.specs.Read.{scoreDrop, fieldNext, skipped, meet, rowsBetween, meetBlocks, nextDepth};
 ghost use Rattle.laws.specs.Sizes.{Lent};
 ghost use Rattle.block.specs.Block.{at, Rows};
-ghost use Rattle.reading.specs.Ready.{Ready, lastHeld, meetParts};
+ghost use Rattle.reading.specs.Ready.{Ready, LastHeld, meetParts};
 ghost use Rattle.reading.specs.Effect.{Effect, EffectParts};
 ghost use Rattle.reading.specs.Side.{Due, downTo, readSide, sideStep};
 
@@ -65,7 +65,7 @@ pub fn field_next(f: &[i32], t: &[i32], s: Session) -> bool
 
 // Whether nothing unread can matter. `last` is the last held pair: of ranked pairs it decides.
 pub fn is_settled(f: &[i32], t: &[i32], s: Session, last: Pair) -> bool
-    requires { ⌜ Lent (now f) (now t) s × (last ≡ lastHeld s) ⌝ }
+    requires { ⌜ Lent (now f) (now t) s × LastHeld s last ⌝ }
     ensures { λ r. ⌜ r ≡ settled (now (f .entry)) (now (t .entry)) s ⌝ }
 {
     let m = s.rows.field.0;

@@ -4,10 +4,11 @@ use rules::Pair;
 use rules::Query;
 use rules::Session;
 ghost use mathlib.Core.Path.{_≡_};
+ghost use mathlib.Core.Bool.{true, cond};
 ghost use Prim.Native.Nat.{_+_, _*_, _-_, _≤_, _<_, _/_};
 ghost use Rattle.rules.specs.Read.{blockCount};
 ghost use Rattle.rules.specs.Calls.{queryCode, countsFit, isZeros, recordFits};
-ghost use Rattle.record.specs.Grounds.{pairWithin, markOf, numbersFit, placeFits};
+ghost use Rattle.record.specs.Grounds.{pairWithin, markOf, numbersFit, placeFits, lastOf};
 
 // What a query is refused by, 1 to 3 in this order; 0 where it is not.
 pub fn query_code(q: Query) -> u32
@@ -112,28 +113,49 @@ fn place_fits(i: usize, n: usize, depth: Counts, before: Pair, p: Pair) -> bool
     fits & ((i == 0) | held::is_ahead(before, p))
 }
 
-// Whether the record is not refused by 5. The places are looked at where they stand: none is copied but one by one.
-pub fn record_fits(s: Session) -> bool
-    ensures { λ r. ⌜ r ≡ recordFits s ⌝ }
+fn pick(t: bool, p: Pair, q: Pair) -> Pair
+    ensures { λ r. ⌜ r ≡ cond t p q ⌝ }
 {
-    if !numbers_fit(s.query, s.rows, s.depth, s.last, s.out, s.held, s.joined) {
-        return false;
-    }
-    let n = s.held as usize;
-    let depth = s.depth;
-    let mut before = Pair {
+    if t { p } else { q }
+}
+
+// What a look through a record finds: whether it is not refused by 5, and the last held pair.
+pub struct Looked {
+    pub fits: bool,
+    pub last: Pair,
+}
+
+// The record is handed in once, and its places are looked at where they stand: whoever calls need not look again.
+pub fn look(s: Session) -> Looked
+    ensures { λ r. ⌜ (r .fits ≡ recordFits s) × (r .fits ≡ true → r .last ≡ lastOf 64 (s .held) (s .pairs)) ⌝ }
+{
+    let none = Pair {
         sum: 0,
         field: 0,
         trim: 0,
     };
+    if !numbers_fit(s.query, s.rows, s.depth, s.last, s.out, s.held, s.joined) {
+        return Looked {
+            fits: false,
+            last: none,
+        };
+    }
+    let n = s.held as usize;
+    let depth = s.depth;
+    let mut before = none;
+    let mut last = none;
     let mut i: usize = 0;
     while i < 64 {
         let p = s.pairs[i];
         if !place_fits(i, n, depth, before, p) {
-            return false;
+            return Looked {
+                fits: false,
+                last: none,
+            };
         }
+        last = pick(i < n, p, last);
         before = p;
         i += 1;
     }
-    true
+    Looked { fits: true, last }
 }

@@ -98,16 +98,15 @@ pub fn start(q: Query, f: &[i32], t: &[i32]) -> Step
 pub fn read(f: &[i32], t: &[i32], s: Session) -> Step
     ensures { λ r. ⌜ r ≡ readCall (now (f .entry)) (now (t .entry)) s ⌝ }
 {
-    let fits = record::record_fits(s);
-    let code = checks::call_code(fits, s.rows, s.depth, f, t);
+    let seen = record::look(s);
+    let code = checks::call_code(seen.fits, s.rows, s.depth, f, t);
     if code != 0 {
         return Step {
             answer: Answer::Refused(code),
             session: s,
         };
     }
-    let last = s.pairs[(s.held as usize + 63) % 64];
-    if reading::is_settled(f, t, s, last) {
+    if reading::is_settled(f, t, s, seen.last) {
         return Step {
             answer: Answer::Settled,
             session: s,
@@ -168,8 +167,8 @@ fn is_finished(s: Session) -> bool
 pub fn take(f: &[i32], t: &[i32], s: Session) -> Step
     ensures { λ r. ⌜ r ≡ takeCall (now (f .entry)) (now (t .entry)) s ⌝ }
 {
-    let fits = record::record_fits(s);
-    let code = checks::call_code(fits, s.rows, s.depth, f, t);
+    let seen = record::look(s);
+    let code = checks::call_code(seen.fits, s.rows, s.depth, f, t);
     if code != 0 {
         return Step {
             answer: Answer::Refused(code),
@@ -213,8 +212,8 @@ pub fn show<'a>(f: &'a [i32], t: &'a [i32], s: Session) -> &'a [i32]
     ensures { λ r. ⌜ now r ≡ showCall (now (f .entry)) (now (t .entry)) s ⌝ }
     ensures { λ r. ⌜ ptr r ≡ showPlace (now (f .entry)) (now (t .entry)) (ptr (f .entry)) (ptr (t .entry)) s ⌝ }
 {
-    let fits = record::record_fits(s);
-    if checks::lent_code(fits, s.rows, f, t) != 0 {
+    let seen = record::look(s);
+    if checks::lent_code(seen.fits, s.rows, f, t) != 0 {
         return &f[..0];
     }
     if s.last == 1 {

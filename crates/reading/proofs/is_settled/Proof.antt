@@ -1,11 +1,11 @@
 -- `is_settled` meets its contract: of ranked pairs the last decides. Assumes nothing.
-use mathlib.Core.Path.{_≡_, refl, sym, ap, _∙_}
+use mathlib.Core.Path.{_≡_, refl, sym, _∙_}
 use mathlib.Core.Bool.{true}
-use Prim.Native.Nat.{ℕ, _+_, _-_, _%_, _<_, _≤_}
+use Prim.Native.Nat.{_<_, _≤_}
 use native.Mathlib.Omega.{arith}
-use lib.ListN.{length, length-map, getD}
+use lib.ListN.{length, length-map}
 use borrow.Author.Tests.{eq-eqb, ne-eqb}
-use Rattle.rules.specs.Session.{noPair, aTableIsEmpty, settled}
+use Rattle.rules.specs.Session.{aTableIsEmpty, settled}
 use Rattle.ceiling.specs.Last.{held-then-reached, held-secured}
 use borrow.Author.Needs.{needs}
 use Rattle.reading.proofs.is_settled.Statement.{statement}
@@ -52,8 +52,7 @@ returns-5 c =
     let s = c .before .before .before .before .before .before .before .before .before .before in
     let l = s .pre .0 .fits in
     let fit : s .args .s .held ≤ length (s .args .s .pairs) = omega (arith, long s, l .room, l .query .k .1) in
-    let here : (s .args .s .held + 63) % 64 ≡ s .args .s .held - 1 = omega (arith, some (c .before), l .room, l .query .k .1) in
-    let last : s .args .last ≡ getD (s .args .s .pairs) (s .args .s .held - 1) noPair = s .pre .1 ∙ ap (λ (i : ℕ). getD (s .args .s .pairs) i noPair) here in
+    let last = s .pre .1 (some (c .before)) in
     simp (
       c .before .before .before .before .before .before .before .before .before .if1 .left,
       c .before .before .before .before .before .before .if2 .left,

@@ -19,7 +19,7 @@ code-is : (c : tie.After-call-code) → c .call-code .result ≡ callCode (c .be
 code-is c =
     let s = c .before .before .before .before .args in
     c .call-code .ensures
-    ∙ ap (λ (b : Bool). callOf b (s .t3 .rows) (s .t3 .depth) (s .f .now) (s .t .now)) (c .before .before .before .record-fits .ensures)
+    ∙ ap (λ (b : Bool). callOf b (s .t3 .rows) (s .t3 .depth) (s .f .now) (s .t .now)) (c .before .before .before .look .ensures .0)
     ∙ call-is (s .f .now) (s .t .now) (s .t3)
 
 passed : (c : tie.Else1) → eqb (callCode (c .before .before .before .before .before .args .f .now) (c .before .before .before .before .before .args .t .now) (c .before .before .before .before .before .args .t3)) 0 ≡ true
@@ -28,11 +28,11 @@ passed c = eq-eqb _ _ (sym (code-is (c .before)) ∙ c .if1 .left)
 known : (c : tie.Else1) → Lent (c .before .before .before .before .before .args .f .now) (c .before .before .before .before .before .args .t .now) (c .before .before .before .before .before .args .t3)
 known c = call-lent (c .before .before .before .before .before .args .f .now) (c .before .before .before .before .before .args .t .now) (c .before .before .before .before .before .args .t3) (passed c)
 
-record-fits-requires : tie.Need-record-fits-requires
-record-fits-requires c κs = search needs
+look-requires : tie.Need-look-requires
+look-requires c κs = search needs
 
 call-code-requires : tie.Need-call-code-requires
-call-code-requires c κs h = within (c .before .before .before .args .t3) (sym (c .before .before .record-fits .ensures) ∙ h)
+call-code-requires c κs h = within (c .before .before .before .args .t3) (sym (c .before .before .look .ensures .0) ∙ h)
 
 returns : tie.Need-returns
 unfolding takeCall
@@ -88,7 +88,7 @@ pub take-spec : {M : Type 1} → statement M
 take-spec =
     tie.close
     (tie.spec
-    record-fits-requires
+    look-requires
     call-code-requires
     returns
     gives-pair-requires
