@@ -1,15 +1,15 @@
 -- Grounds of 5, over the numbers that they look at and not the whole record, and the last held pair. Assumes nothing.
-use mathlib.Core.Path.{_≡_, refl, ap}
-use Prim.Native.Nat.{ℕ, zero, suc, _+_, _*_, _-_, _≤_, _<_}
+use mathlib.Core.Path.{_≡_, ap}
+use Prim.Native.Nat.{ℕ, suc, _+_, _*_, _-_, _%_, _≤_, _<_}
 use native.Mathlib.Omega.{arith}
 use mathlib.Core.Bool.{Bool, true, false, cond, _&&_, _||_}
 use mathlib.Core.List.{List, [], _∷_}
 use lib.Dec.{leb, ltb, eqb}
 use lib.ListN.{getD}
-use borrow.Author.Tests.{ltb-true, ltb-false}
 use Rattle.rules.specs.declared.Counts.{Counts}
 use Rattle.rules.specs.declared.Pair.{Pair}
 use Rattle.rules.specs.declared.Query.{Query}
+use Rattle.rules.specs.declared.Session.{Session}
 use Rattle.rules.specs.Tables.{ahead}
 use Rattle.rules.specs.Session.{noPair}
 use Rattle.rules.specs.Read.{blockCount}
@@ -45,17 +45,12 @@ unfoldable pub placesFrom : ℕ → ℕ → Counts → Pair → List Pair → Bo
 placesFrom i n depth before [] = true
 placesFrom i n depth before (p ∷ l) = placeFits i n depth before p && placesFrom (suc i) n depth p l
 
--- of the first i places the last one that is held, n being held; zeros where there is none
-unfoldable pub lastOf : ℕ → ℕ → List Pair → Pair
-lastOf zero n a = noPair
-lastOf (suc i) n a = cond (ltb i n) (getD a i noPair) (lastOf i n a)
+-- the pair in the last held place; where none is held, what stands in the last place of all
+unfoldable pub lastHeld : Session → Pair
+lastHeld s = getD (s .pairs) ((s .held + 63) % 64) noPair
 
--- it is the pair in place n
-pub last-held : (i n : ℕ) (a : List Pair) → 0 < n → n ≤ i → lastOf i n a ≡ getD a (n - 1) noPair
-unfolding lastOf
-last-held zero n a some h = absurd (omega arith)
-last-held (suc i) n a some h = go (ltb i n) refl (last-held i n a some)
-  where
-    go : (t : Bool) → ltb i n ≡ t → (n ≤ i → lastOf i n a ≡ getD a (n - 1) noPair) → cond t (getD a i noPair) (lastOf i n a) ≡ getD a (n - 1) noPair
-    go true e before = let here : i ≡ n - 1 = omega (arith, ltb-true i n e) in ap (λ (k : ℕ). getD a k noPair) here
-    go false e before = before (ltb-false i n e)
+pub last-held : (s : Session) → 0 < s .held → s .held ≤ 64 → lastHeld s ≡ getD (s .pairs) (s .held - 1) noPair
+unfolding lastHeld
+last-held s some few =
+    let here : (s .held + 63) % 64 ≡ s .held - 1 = omega arith in
+    ap (λ (i : ℕ). getD (s .pairs) i noPair) here

@@ -4,11 +4,11 @@ use rules::Pair;
 use rules::Query;
 use rules::Session;
 ghost use mathlib.Core.Path.{_≡_};
-ghost use mathlib.Core.Bool.{true, cond};
+ghost use mathlib.Core.Bool.{true};
 ghost use Prim.Native.Nat.{_+_, _*_, _-_, _≤_, _<_, _/_};
 ghost use Rattle.rules.specs.Read.{blockCount};
 ghost use Rattle.rules.specs.Calls.{queryCode, countsFit, isZeros, recordFits};
-ghost use Rattle.record.specs.Grounds.{pairWithin, markOf, numbersFit, placeFits, lastOf};
+ghost use Rattle.record.specs.Grounds.{pairWithin, markOf, numbersFit, placeFits, lastHeld};
 
 // What a query is refused by, 1 to 3 in this order; 0 where it is not.
 pub fn query_code(q: Query) -> u32
@@ -113,12 +113,6 @@ fn place_fits(i: usize, n: usize, depth: Counts, before: Pair, p: Pair) -> bool
     fits & ((i == 0) | held::is_ahead(before, p))
 }
 
-fn pick(t: bool, p: Pair, q: Pair) -> Pair
-    ensures { λ r. ⌜ r ≡ cond t p q ⌝ }
-{
-    if t { p } else { q }
-}
-
 // What a look through a record finds: whether it is not refused by 5, and the last held pair.
 pub struct Looked {
     pub fits: bool,
@@ -127,7 +121,7 @@ pub struct Looked {
 
 // The record is handed in once, and its places are looked at where they stand: whoever calls need not look again.
 pub fn look(s: Session) -> Looked
-    ensures { λ r. ⌜ (r .fits ≡ recordFits s) × (r .fits ≡ true → r .last ≡ lastOf 64 (s .held) (s .pairs)) ⌝ }
+    ensures { λ r. ⌜ (r .fits ≡ recordFits s) × (r .fits ≡ true → r .last ≡ lastHeld s) ⌝ }
 {
     let none = Pair {
         sum: 0,
@@ -143,7 +137,6 @@ pub fn look(s: Session) -> Looked
     let n = s.held as usize;
     let depth = s.depth;
     let mut before = none;
-    let mut last = none;
     let mut i: usize = 0;
     while i < 64 {
         let p = s.pairs[i];
@@ -153,9 +146,9 @@ pub fn look(s: Session) -> Looked
                 last: none,
             };
         }
-        last = pick(i < n, p, last);
         before = p;
         i += 1;
     }
+    let last = s.pairs[(n + 63) % 64];
     Looked { fits: true, last }
 }

@@ -53,7 +53,7 @@ is-settled-requires c κs =
     let look = c .before .before .look in
     let k = known c .fits in
     let fits = call-passed (look .result .fits) (s .rows) (s .depth) (a .f .now) (a .t .now) (eq-eqb _ _ (sym (c .before .call-code .ensures) ∙ c .if1 .left)) in
-    (known c, λ some. look .ensures .1 fits ∙ last-held 64 (s .held) (s .pairs) some (omega (arith, k .room, k .query .k .1)))
+    (known c, λ some. look .ensures .1 fits ∙ last-held s some (omega (arith, k .room, k .query .k .1)))
 
 returns-2 : tie.Need-returns-2
 unfolding readCall
