@@ -50,8 +50,9 @@ pairIn l i = record { sum = getD l (12 + 3 * i) 0; field = getD l (13 + 3 * i) 0
 unfoldable pub pairsIn : List ℕ → ℕ → List Pair
 pairsIn l n = map (pairIn l) (range 0 n)
 
-unfoldable pub unflatten : List ℕ → Session
-unflatten l =
+-- the record that the numbers in front of the pair places are, with these pairs in its places
+unfoldable pub withPairs : List ℕ → List Pair → Session
+withPairs l pairs =
     record {
       query = queryIn l;
       rows = record { field = record { 0 = getD l 3 0 }; trim = record { 0 = getD l 4 0 } };
@@ -59,6 +60,9 @@ unflatten l =
       last = getD l 7 0;
       out = getD l 8 0;
       held = getD l 9 0;
-      pairs = pairsIn l 64;
+      pairs = pairs;
       joined = getD l 10 0 + getD l 11 0 * word;
     }
+
+unfoldable pub unflatten : List ℕ → Session
+unflatten l = withPairs l (pairsIn l 64)

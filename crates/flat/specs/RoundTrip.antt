@@ -11,7 +11,7 @@ use Rattle.lists.specs.Appends.{each-append, range-end}
 use Rattle.rules.specs.declared.Pair.{Pair}
 use Rattle.rules.specs.declared.Session.{Session}
 use Rattle.rules.specs.Session.{noPair}
-use Rattle.flat.specs.Flat.{flatSize, word, flatPair, flatHead, flatten, queryIn, pairIn, pairsIn, unflatten}
+use Rattle.flat.specs.Flat.{flatSize, word, flatPair, flatHead, flatten, queryIn, pairIn, pairsIn, withPairs, unflatten}
 
 zero-add : (n : ℕ) → 0 + n ≡ n
 zero-add n = omega arith
@@ -63,7 +63,7 @@ module _ (s : Session) (rest : List ℕ) where
       ∙ sym (take-suc (s .pairs) n noPair (omega arith))
 
   pub back : length (s .pairs) ≡ 64 → unflatten (flatten s ++ rest) ≡ s
-  unfolding flatten flatHead unflatten queryIn
+  unfolding flatten flatHead unflatten withPairs queryIn
   back h =
       let pairs = pairs-back 64 (omega arith) ∙ take-all 64 (s .pairs) (omega arith) in
       let joined : s .joined % word + s .joined / word * word ≡ s .joined = omega (arith, div-add-mod' (s .joined) word) in
@@ -111,7 +111,7 @@ module _ (l : List ℕ) (long : flatSize ≤ length l) where
       ∙ ap (λ (m : ℕ). take m (drop 12 l)) (sym k)
 
   head-forth : getD l 10 0 < word → flatHead (unflatten l) ≡ take 12 l
-  unfolding flatHead unflatten queryIn
+  unfolding flatHead unflatten withPairs queryIn
   head-forth h =
       simp
       (add-mul-mod-self-right (getD l 10 0) (getD l 11 0) word, mod-eq-of-lt h, add-mul-div-right (getD l 10 0) (getD l 11 0) {z = word} (omega arith), div-eq-of-lt h, zero-add (getD l 11 0))
@@ -119,7 +119,7 @@ module _ (l : List ℕ) (long : flatSize ≤ length l) where
 
   -- the record that stands in a lent slice, laid out in it, changes no number
   pub forth : getD l 10 0 < word → flatten (unflatten l) ++ drop flatSize l ≡ l
-  unfolding flatten unflatten
+  unfolding flatten unflatten withPairs
   forth h =
       ap (λ (r : List ℕ). r ++ each flatPair (pairsIn l 64) ++ drop flatSize l) (head-forth h)
       ∙ ap (λ (r : List ℕ). take 12 l ++ r ++ drop flatSize l) (pairs-forth 64 (omega arith))

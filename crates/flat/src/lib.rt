@@ -8,9 +8,9 @@ use rules::TrimRows;
 ghost use mathlib.Core.Path.{_≡_};
 ghost use mathlib.Core.List.{[], _∷_, _++_};
 ghost use Prim.Native.Nat.{_+_, _*_, _≤_, _<_};
-ghost use lib.ListN.{length, take, drop};
-ghost use Rattle.lists.specs.Lists.{each};
-ghost use Rattle.flat.specs.Flat.{flatSize, word, flatPair, flatHead, flatten, queryIn, pairIn, pairsIn, unflatten};
+ghost use lib.ListN.{length, take, drop, replicate};
+ghost use Rattle.rules.specs.Session.{noPair};
+ghost use Rattle.flat.specs.Flat.{flatSize, word, flatPair, flatHead, flatten, queryIn, pairIn, withPairs, unflatten};
 
 // How many numbers a record is.
 pub const SIZE: usize = 204;
@@ -39,36 +39,16 @@ fn pair_in(l: &[u32], i: usize) -> Pair
     }
 }
 
-// The 64 pair places.
-fn pairs_in(l: &[u32]) -> [Pair; 64]
-    requires { ⌜ flatSize ≤ length (now l) ⌝ }
-    ensures { λ r. ⌜ r ≡ pairsIn (now (l .entry)) 64 ⌝ }
-{
-    let z = Pair {
-        sum: 0,
-        field: 0,
-        trim: 0,
-    };
-    let mut a = [z; 64];
-    let mut i: usize = 0;
-    while i < 64 {
-        let p = pair_in(l, i);
-        a[i] = p;
-        i += 1;
-    }
-    a
-}
-
 fn wide(n: u32) -> u64
     ensures { λ r. ⌜ (r ≡ n) × (r < word) ⌝ }
 {
     n as u64
 }
 
-// The record that the first 204 numbers are, whatever they are.
-pub fn unpack(l: &[u32]) -> Session
+// The record that the first 12 numbers are, with no pair in its places.
+fn head_in(l: &[u32]) -> Session
     requires { ⌜ flatSize ≤ length (now l) ⌝ }
-    ensures { λ r. ⌜ r ≡ unflatten (now (l .entry)) ⌝ }
+    ensures { λ r. ⌜ r ≡ withPairs (now (l .entry)) (replicate 64 noPair) ⌝ }
 {
     let query = query_in(l);
     let rows = Counts {
@@ -79,7 +59,11 @@ pub fn unpack(l: &[u32]) -> Session
         field: FieldRows(l[5]),
         trim: TrimRows(l[6]),
     };
-    let pairs = pairs_in(l);
+    let none = Pair {
+        sum: 0,
+        field: 0,
+        trim: 0,
+    };
     let low = wide(l[10]);
     let high = wide(l[11]);
     Session {
@@ -89,9 +73,24 @@ pub fn unpack(l: &[u32]) -> Session
         last: l[7],
         out: l[8],
         held: l[9],
-        pairs,
+        pairs: [none; 64],
         joined: low + high * 4294967296,
     }
+}
+
+// The record that the first 204 numbers are, whatever they are. Its places are filled where they stand.
+pub fn unpack(l: &[u32]) -> Session
+    requires { ⌜ flatSize ≤ length (now l) ⌝ }
+    ensures { λ r. ⌜ r ≡ unflatten (now (l .entry)) ⌝ }
+{
+    let mut s = head_in(l);
+    let mut i: usize = 0;
+    while i < 64 {
+        let p = pair_in(l, i);
+        s.pairs[i] = p;
+        i += 1;
+    }
+    s
 }
 
 // Four numbers from place o on.
@@ -141,25 +140,16 @@ fn put_head(out: &mut [u32], s: Session)
     put_four(out, 8, s.out, s.held, low, high);
 }
 
-// The 64 pair places, behind the first 12 numbers.
-fn put_pairs(out: &mut [u32], a: [Pair; 64])
-    requires { ⌜ flatSize ≤ length (now out) ⌝ }
-    ensures { λ _. ⌜ now (out .exit) ≡ take 12 (now (out .entry)) ++ each flatPair a ++ drop flatSize (now (out .entry)) ⌝ }
-{
-    let mut i: usize = 0;
-    while i < 64 {
-        let p = a[i];
-        put_pair(out, 12 + 3 * i, p);
-        i += 1;
-    }
-}
-
 // A record laid out in the first 204 numbers; the rest is left as it was.
 pub fn pack(s: Session, out: &mut [u32])
     requires { ⌜ flatSize ≤ length (now out) ⌝ }
     ensures { λ _. ⌜ now (out .exit) ≡ flatten s ++ drop flatSize (now (out .entry)) ⌝ }
 {
     put_head(out, s);
-    let a = s.pairs;
-    put_pairs(out, a);
+    let mut i: usize = 0;
+    while i < 64 {
+        let p = s.pairs[i];
+        put_pair(out, 12 + 3 * i, p);
+        i += 1;
+    }
 }

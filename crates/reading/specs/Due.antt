@@ -14,19 +14,17 @@ use Rattle.lists.specs.Lists.{every}
 use Rattle.lists.specs.Sorts.{ranked-ordered}
 use Rattle.rules.specs.declared.Pair.{Pair}
 use Rattle.rules.specs.declared.Session.{Session}
-use Rattle.rules.specs.declared.Step.{Step}
-use Rattle.rules.specs.declared.Answer.the-variants.{Refused, Read}
 use Rattle.rules.specs.Tables.{ahead}
 use Rattle.rules.specs.Ranking.{ahead-strict}
 use Rattle.rules.specs.Session.{noPair, places, heldPairs, fieldReadOut, trimReadOut, settled}
 use Rattle.rules.specs.Read.{fieldNext, readTable, readBlock}
-use Rattle.rules.specs.Calls.{isZeros, step, newBlockCode}
+use Rattle.rules.specs.Calls.{isZeros, newBlockCode}
 use Rattle.laws.specs.Bools.{and-left, and-right}
 use Rattle.laws.specs.Record.{Fits}
 use Rattle.laws.specs.Sizes.{Lent}
 use Rattle.laws.specs.Read.{unsettled, chosen-unread}
 use Rattle.reading.specs.Ready.{Ready}
-use Rattle.reading.specs.Side.{readSide, sideCode, sideStep, Due}
+use Rattle.reading.specs.Side.{readSide, sideCode, Unread, Due}
 
 -- ---- The places beyond the held pairs
 
@@ -96,9 +94,13 @@ module _ (f t : List ℤ) (s : Session) (l : Lent f t s) (n : length (s .pairs) 
       let d : s .depth .field .0 ≡ s .rows .field .0 → ⊥ = eqb-false (s .depth .field .0) (s .rows .field .0) (unread true e) in
       record {
         ready = ready;
-        left = omega (arith, l .fits .field .within);
-        few = l .fits .field .few;
-        rows = omega (arith, l .field .size .whole, l .field .count);
+        unread =
+            record {
+              block = l .fits .query .block .1;
+              left = omega (arith, l .fits .field .within);
+              few = l .fits .field .few;
+              rows = omega (arith, l .field .size .whole, l .field .count);
+            };
         other-few = omega (arith, l .fits .trim .few, l .fits .trim .within);
         other-rows = omega (arith, l .trim .size .whole, l .trim .count, l .fits .trim .within);
         joined = joined-few;
@@ -109,9 +111,13 @@ module _ (f t : List ℤ) (s : Session) (l : Lent f t s) (n : length (s .pairs) 
       let d : s .depth .trim .0 ≡ s .rows .trim .0 → ⊥ = eqb-false (s .depth .trim .0) (s .rows .trim .0) (unread false e) in
       record {
         ready = ready;
-        left = omega (arith, l .fits .trim .within);
-        few = l .fits .trim .few;
-        rows = omega (arith, l .trim .size .whole, l .trim .count);
+        unread =
+            record {
+              block = l .fits .query .block .1;
+              left = omega (arith, l .fits .trim .within);
+              few = l .fits .trim .few;
+              rows = omega (arith, l .trim .size .whole, l .trim .count);
+            };
         other-few = omega (arith, l .fits .field .few, l .fits .field .within);
         other-rows = omega (arith, l .field .size .whole, l .field .count, l .fits .field .within);
         joined = joined-few;
@@ -119,15 +125,19 @@ module _ (f t : List ℤ) (s : Session) (l : Lent f t s) (n : length (s .pairs) 
 
 -- ---- The rule's read, by the table that is next
 
--- what an unsettled read gives, by the rule
-abbrev pub ruleStep : List ℤ → List ℤ → Session → Step
-ruleStep f t s =
-    cond (eqb (newBlockCode f t s) 0) (step Read (readBlock f t s)) (step (Refused (newBlockCode f t s)) s)
+module _ (f t : List ℤ) (s : Session) where
+  pub code-field : fieldNext f t s ≡ true → sideCode true f s ≡ newBlockCode f t s
+  unfolding newBlockCode sideCode
+  code-field e = rw e
 
-pub rule-field : (f t : List ℤ) (s : Session) → fieldNext f t s ≡ true → ruleStep f t s ≡ sideStep true f t s
-unfolding newBlockCode readTable readSide sideStep sideCode
-rule-field f t s e = rw e
+  pub code-trim : fieldNext f t s ≡ false → sideCode false t s ≡ newBlockCode f t s
+  unfolding newBlockCode sideCode
+  code-trim e = rw e
 
-pub rule-trim : (f t : List ℤ) (s : Session) → fieldNext f t s ≡ false → ruleStep f t s ≡ sideStep false t f s
-unfolding newBlockCode readTable readSide sideStep sideCode
-rule-trim f t s e = rw e
+  pub read-field : fieldNext f t s ≡ true → readSide true f t s ≡ readBlock f t s
+  unfolding readTable readSide
+  read-field e = rw e
+
+  pub read-trim : fieldNext f t s ≡ false → readSide false t f s ≡ readBlock f t s
+  unfolding readTable readSide
+  read-trim e = rw e

@@ -2,15 +2,12 @@
 use Prim.Native.Nat.{ℕ, _*_, _-_, _≤_, _<_}
 use mathlib.Core.Bool.{Bool, cond}
 use mathlib.Core.List.{List}
-use lib.Dec.{eqb}
 use lib.IntN.{ℤ}
 use lib.ListN.{length}
 use Rattle.rules.specs.declared.Counts.{Counts}
 use Rattle.rules.specs.declared.Session.{Session}
-use Rattle.rules.specs.declared.Step.{Step}
-use Rattle.rules.specs.declared.Answer.the-variants.{Refused, Read}
 use Rattle.rules.specs.Read.{rowsBetween, blockCount, oldDepth, newDepth, meetBlocks, readTo}
-use Rattle.rules.specs.Calls.{step, rowsCode}
+use Rattle.rules.specs.Calls.{rowsCode}
 use Rattle.reading.specs.Ready.{Ready}
 
 -- rows of the table that is read, and the depth of the other one
@@ -38,17 +35,17 @@ readSide field own other s =
 unfoldable pub sideCode : Bool → List ℤ → Session → ℕ
 sideCode field own s = rowsCode own (oldDepth field s) (newDepth field s - oldDepth field s)
 
--- the read's answer: the new block is checked first
-unfoldable pub sideStep : Bool → List ℤ → List ℤ → Session → Step
-sideStep field own other s =
-    cond (eqb (sideCode field own s) 0) (step Read (readSide field own other s)) (step (Refused (sideCode field own s)) s)
-
--- what a read knows of the two tables: rows are left of the one that is read, and the slices have the rows
-pub record Due (field : Bool) (own other : List ℤ) (s : Session) : Type 0 where
-  pub ready : Ready s
+-- rows are left of the table that is read, and its slice has them
+pub record Unread (field : Bool) (own : List ℤ) (s : Session) : Type 0 where
+  pub block : s .query .block ≤ 1024
   pub left : oldDepth field s < ownRows field s
   pub few : ownRows field s ≤ 65535
   pub rows : 4 * ownRows field s ≤ length own
+
+-- what a read knows of the two tables
+pub record Due (field : Bool) (own other : List ℤ) (s : Session) : Type 0 where
+  pub ready : Ready s
+  pub unread : Unread field own s
   pub other-few : otherDepth field s ≤ 65535
   pub other-rows : 4 * otherDepth field s ≤ length other
   pub joined : s .joined ≤ 4294836225

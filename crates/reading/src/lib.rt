@@ -1,24 +1,23 @@
 // Read: which table is next, whether anything unread can matter, and a new block that meets the blocks already read of
 // the other table in their order.
 use held::Held;
-use rules::Answer;
 use rules::Counts;
 use rules::FieldRows;
 use rules::Pair;
 use rules::Session;
-use rules::Step;
 use rules::TrimRows;
 ghost use mathlib.Core.Path.{_≡_};
-ghost use mathlib.Core.Bool.{cond};
+ghost use mathlib.Core.Bool.{false, cond};
 ghost use Prim.Native.Nat.{_+_, _*_, _-_, _≤_, _<_, _^_, min};
 ghost use lib.ListN.{length, take, drop};
 ghost use Rattle.rules.specs.Session.{settled};
-ghost use Rattle.rules.specs.Read.{scoreDrop, fieldNext, skipped, meet, rowsBetween, meetBlocks, nextDepth};
+ghost use Rattle.rules.specs.Read.{scoreDrop, fieldNext, skipped, meet, rowsBetween, meetBlocks, nextDepth, readBlock};
+ghost use Rattle.rules.specs.Calls.{newBlockCode};
 ghost use Rattle.laws.specs.Sizes.{Lent};
 ghost use Rattle.block.specs.Block.{at, Rows};
 ghost use Rattle.reading.specs.Ready.{Ready, LastHeld, meetParts};
 ghost use Rattle.reading.specs.Effect.{Effect, EffectParts};
-ghost use Rattle.reading.specs.Side.{Due, downTo, readSide, sideStep};
+ghost use Rattle.reading.specs.Side.{Unread, Due, downTo, readSide, sideCode};
 
 // How far a table's score has dropped from its first row to the last row read.
 fn drop_of(t: &[i32], depth: u32) -> u32
@@ -34,7 +33,7 @@ fn drop_of(t: &[i32], depth: u32) -> u32
 }
 
 // Whether the field table is read next.
-pub fn field_next(f: &[i32], t: &[i32], s: Session) -> bool
+fn field_next(f: &[i32], t: &[i32], s: Session) -> bool
     requires { ⌜ Lent (now f) (now t) s ⌝ }
     ensures { λ r. ⌜ r ≡ fieldNext (now (f .entry)) (now (t .entry)) s ⌝ }
 {
@@ -298,24 +297,35 @@ fn read_on(field: bool, own: &[i32], other: &[i32], s: Session) -> Session
     r
 }
 
-// The new block is checked by 6 and 7, then read.
-pub fn read_side(field: bool, own: &[i32], other: &[i32], s: Session) -> Step
-    requires { ⌜ Due field (now own) (now other) s ⌝ }
-    ensures { λ r. ⌜ r ≡ sideStep field (now (own .entry)) (now (other .entry)) s ⌝ }
+// What 6 and 7 say of the new block of one table.
+fn side_code(field: bool, own: &[i32], s: Session) -> u32
+    requires { ⌜ Unread field (now own) s ⌝ }
+    ensures { λ r. ⌜ r ≡ sideCode field (now (own .entry)) s ⌝ }
 {
     let rows = pick(field, s.rows.field.0, s.rows.trim.0);
     let d = pick(field, s.depth.field.0, s.depth.trim.0);
     let e = next_depth(s.query.block, rows, d);
-    let code = tables::rows_code(own, d as usize, (e - d) as usize);
-    if code != 0 {
-        return Step {
-            answer: Answer::Refused(code),
-            session: s,
-        };
+    tables::rows_code(own, d as usize, (e - d) as usize)
+}
+
+// What 6 and 7 say of the new block, of the table that is read next.
+pub fn new_block_code(f: &[i32], t: &[i32], s: Session) -> u32
+    requires { ⌜ Lent (now f) (now t) s × (settled (now f) (now t) s ≡ false) ⌝ }
+    ensures { λ r. ⌜ r ≡ newBlockCode (now (f .entry)) (now (t .entry)) s ⌝ }
+{
+    if field_next(f, t, s) {
+        return side_code(true, f, s);
     }
-    let r = read_on(field, own, other, s);
-    Step {
-        answer: Answer::Read,
-        session: r,
+    side_code(false, t, s)
+}
+
+// One block of the table that is next is read and meets the other table's.
+pub fn read_block(f: &[i32], t: &[i32], s: Session) -> Session
+    requires { ⌜ Lent (now f) (now t) s × (settled (now f) (now t) s ≡ false) ⌝ }
+    ensures { λ r. ⌜ r ≡ readBlock (now (f .entry)) (now (t .entry)) s ⌝ }
+{
+    if field_next(f, t, s) {
+        return read_on(true, f, t, s);
     }
+    read_on(false, t, f, s)
 }

@@ -16,6 +16,8 @@ ghost use Rattle.rules.specs.Session.{opened, zeros};
 ghost use Rattle.rules.specs.Take.{givesPair, movedOut, finished, lastBlock};
 ghost use Rattle.rules.specs.Tables.{part};
 ghost use Rattle.laws.specs.Sizes.{Lent};
+ghost use Rattle.reading.specs.Ready.{LastHeld};
+ghost use Rattle.session.specs.Answers.{readAnswer, takeAnswer};
 ghost use Rattle.rules.specs.Calls.{openCode, openCall, readCall, takeCall, showCall, movedOn, showPlace};
 
 // What an opening is refused by: 1, 2, 3, 4; 0 where it is not.
@@ -94,28 +96,37 @@ pub fn start(q: Query, f: &[i32], t: &[i32]) -> Step
     }
 }
 
+// What a read answers, of the code that the checks gave: refused; settled; or a block is read, unless 6 or 7 refuses it.
+fn read_answer(code: u32, f: &[i32], t: &[i32], s: Session, last: Pair) -> Answer
+    requires { ⌜ (code ≡ 0 → Lent (now f) (now t) s × LastHeld s last) ⌝ }
+    ensures { λ r. ⌜ r ≡ readAnswer code (now (f .entry)) (now (t .entry)) s ⌝ }
+{
+    if code != 0 {
+        return Answer::Refused(code);
+    }
+    if reading::is_settled(f, t, s, last) {
+        return Answer::Settled;
+    }
+    let new = reading::new_block_code(f, t, s);
+    if new != 0 {
+        return Answer::Refused(new);
+    }
+    Answer::Read
+}
+
 // Read: settled, or one block of the table that is next, which meets the blocks already read of the other.
 pub fn read(f: &[i32], t: &[i32], s: Session) -> Step
     ensures { λ r. ⌜ r ≡ readCall (now (f .entry)) (now (t .entry)) s ⌝ }
 {
-    let seen = record::look(s);
-    let code = checks::call_code(seen.fits, s.rows, s.depth, f, t);
-    if code != 0 {
-        return Step {
-            answer: Answer::Refused(code),
-            session: s,
-        };
+    let mut r = s;
+    let seen = record::look(r);
+    let code = checks::call_code(seen.fits, r.rows, r.depth, f, t);
+    let answer = read_answer(code, f, t, r, seen.last);
+    if let Answer::Read = answer {
+        let read = reading::read_block(f, t, r);
+        r = read;
     }
-    if reading::is_settled(f, t, s, seen.last) {
-        return Step {
-            answer: Answer::Settled,
-            session: s,
-        };
-    }
-    if reading::field_next(f, t, s) {
-        return reading::read_side(true, f, t, s);
-    }
-    reading::read_side(false, t, f, s)
+    Step { answer, session: r }
 }
 
 // The first held pair moves out: those behind it move up, and a place of zeros stands at the end.
@@ -163,36 +174,37 @@ fn is_finished(s: Session) -> bool
     (s.out == s.query.k) | (((m == 0) | (n == 0)) | (((d == m) & (e == n)) & (s.held == 0)))
 }
 
-// Take: the first held pair, if it is secured; else finished, or not yet.
-pub fn take(f: &[i32], t: &[i32], s: Session) -> Step
-    ensures { λ r. ⌜ r ≡ takeCall (now (f .entry)) (now (t .entry)) s ⌝ }
+// What a take answers, of the code that the checks gave: refused; the first held pair, if it is secured; else finished,
+// or not yet.
+fn take_answer(code: u32, f: &[i32], t: &[i32], s: Session) -> Answer
+    requires { ⌜ (code ≡ 0 → Lent (now f) (now t) s) ⌝ }
+    ensures { λ r. ⌜ r ≡ takeAnswer code (now (f .entry)) (now (t .entry)) s ⌝ }
 {
-    let seen = record::look(s);
-    let code = checks::call_code(seen.fits, s.rows, s.depth, f, t);
     if code != 0 {
-        return Step {
-            answer: Answer::Refused(code),
-            session: s,
-        };
+        return Answer::Refused(code);
     }
     if gives_pair(f, t, s) {
         let p = s.pairs[0];
-        let r = moved_out(s);
-        return Step {
-            answer: Answer::Given(p),
-            session: r,
-        };
+        return Answer::Given(p);
     }
     if is_finished(s) {
-        return Step {
-            answer: Answer::Finished,
-            session: s,
-        };
+        return Answer::Finished;
     }
-    Step {
-        answer: Answer::NotYet,
-        session: s,
+    Answer::NotYet
+}
+
+// Take: the first held pair is answered and moved out; nothing else changes the record.
+pub fn take(f: &[i32], t: &[i32], s: Session) -> Step
+    ensures { λ r. ⌜ r ≡ takeCall (now (f .entry)) (now (t .entry)) s ⌝ }
+{
+    let mut r = s;
+    let seen = record::look(r);
+    let code = checks::call_code(seen.fits, r.rows, r.depth, f, t);
+    let answer = take_answer(code, f, t, r);
+    if let Answer::Given(_) = answer {
+        r = moved_out(r);
     }
+    Step { answer, session: r }
 }
 
 // The rows of a table from the first to the last of its last block down to a depth.

@@ -1,99 +1,97 @@
--- `unpack` meets its contract. Assumes nothing.
-use mathlib.Core.Path.{refl}
+-- `unpack` meets its contract: after i turns the first i places are taken back. Assumes nothing.
+use mathlib.Core.Path.{_≡_, refl, ap, _∙_}
+use mathlib.Core.List.{List, _++_, append-nil}
+use Prim.Native.Nat.{ℕ, _+_, _*_, _-_, _≤_, _<_}
 use native.Mathlib.Omega.{arith}
-use Rattle.flat.specs.Flat.{unflatten}
+use lib.ListN.{length, drop, set, length-set, replicate}
 use borrow.Author.Needs.{needs}
+use Rattle.lists.specs.Lists.{range}
+use Rattle.rules.specs.declared.Pair.{Pair}
+use Rattle.rules.specs.declared.Session.{Session}
+use Rattle.rules.specs.Session.{noPair}
+use Rattle.flat.specs.Flat.{pairsIn, withPairs, unflatten}
+use Rattle.flat.proofs.Places.{one-in}
 use Rattle.flat.proofs.unpack.Statement.{statement}
 use Rattle.flat.proofs.unpack.Tie as tie
-use Rattle.flat.proofs.unpack.Reads as reads
-use Rattle.flat.proofs.unpack.Lts as lts
-use Rattle.flat.proofs.pairs_in.Reads as pairs-in-reads
-use Rattle.flat.proofs.query_in.Reads as query-in-reads
-use Rattle.flat.proofs.wide.Reads as wide-reads
 
--- src/lib.rt:73:9
-query-in-requires : tie.Need-query-in-requires
-query-in-requires c κs = search needs
+abbrev zeros : List Pair
+zeros = replicate 64 noPair
 
--- src/lib.rt:75:26
-shared-slice-read-wide : tie.Need-shared-slice-read-wide
-shared-slice-read-wide c = search needs
+-- a record with one place set
+abbrev put : Session → ℕ → Pair → Session
+put s i p =
+    record {
+      query = s .query;
+      rows = s .rows;
+      depth = s .depth;
+      last = s .last;
+      out = s .out;
+      held = s .held;
+      pairs = set (s .pairs) i p;
+      joined = s .joined;
+    }
 
--- src/lib.rt:76:24
-shared-slice-read-wide-2 : tie.Need-shared-slice-read-wide-2
-shared-slice-read-wide-2 c = search needs
+abbrev Inv-loop : tie.InvT-loop
+Inv-loop l s₀ i₀ s i = (i ≤ 64) × (length (s .pairs) ≡ 64) × (s ≡ withPairs l (pairsIn l i ++ drop i zeros))
 
--- src/lib.rt:79:26
-shared-slice-read-wide-3 : tie.Need-shared-slice-read-wide-3
-shared-slice-read-wide-3 c = search needs
+abbrev μ-loop : tie.MeasureT-loop
+μ-loop l s₀ i₀ s i = 64 - i
 
--- src/lib.rt:80:24
-shared-slice-read-wide-4 : tie.Need-shared-slice-read-wide-4
-shared-slice-read-wide-4 c = search needs
+head-in-requires : tie.Need-head-in-requires Inv-loop μ-loop
+head-in-requires c κs = search needs
 
--- src/lib.rt:82:9
-pairs-in-requires : tie.Need-pairs-in-requires
-pairs-in-requires c κs = search needs
+loop-holds : tie.Need-loop-holds Inv-loop μ-loop
+unfolding withPairs pairsIn range
+loop-holds c = (omega arith, ap (λ (s : Session). length (s .pairs)) (c .head-in .ensures), c .head-in .ensures)
 
--- src/lib.rt:83:20
-shared-slice-read-wide-5 : tie.Need-shared-slice-read-wide-5
-shared-slice-read-wide-5 c = search needs
+pair-in-requires : tie.Need-pair-in-requires Inv-loop μ-loop
+pair-in-requires c κs = search needs
 
--- src/lib.rt:83:9
-wide-requires : tie.Need-wide-requires
-wide-requires c κs = search needs
+mul-p : tie.Need-mul-p Inv-loop μ-loop
+mul-p c = omega arith
 
--- src/lib.rt:84:21
-shared-slice-read-wide-6 : tie.Need-shared-slice-read-wide-6
-shared-slice-read-wide-6 c = search needs
+element-set-from-p : tie.Need-element-set-from-p Inv-loop μ-loop
+element-set-from-p c = search needs
 
--- src/lib.rt:84:9
-wide-requires-2 : tie.Need-wide-requires-2
-wide-requires-2 c κs = search needs
+add-i : tie.Need-add-i Inv-loop μ-loop
+add-i c = omega arith
 
--- src/lib.rt:89:15
-shared-slice-read-t9 : tie.Need-shared-slice-read-t9
-shared-slice-read-t9 c = search needs
+loop-less : tie.Need-loop-less Inv-loop μ-loop
+loop-less c = omega arith
 
--- src/lib.rt:90:14
-shared-slice-read-t12 : tie.Need-shared-slice-read-t12
-shared-slice-read-t12 c = search needs
+loop-again : tie.Need-loop-again Inv-loop μ-loop
+unfolding withPairs
+loop-again c =
+    let l = c .before .before .before .before .before .args .l .now in
+    let v = c .before .before .loop in
+    let h : v .i < 64 = c .before .loop-test .taken in (
+      omega arith,
+      length-set (v .s .pairs) (v .i) (c .pair-in .result) ∙ v .inv .1,
+      ap (λ (s : Session). put s (v .i) (c .pair-in .result)) (v .inv .2)
+          ∙ ap (λ (p : Pair). withPairs l (set (pairsIn l (v .i) ++ drop (v .i) zeros) (v .i) p)) (c .pair-in .ensures)
+          ∙ ap (withPairs l) (one-in l zeros (v .i) h),
+    )
 
--- src/lib.rt:91:15
-shared-slice-read-t21 : tie.Need-shared-slice-read-t21
-shared-slice-read-t21 c = search needs
-
--- src/lib.rt:93:23
-mul-t22 : tie.Need-mul-t22
-mul-t22 c = omega arith
-
--- src/lib.rt:93:17
-add-t23 : tie.Need-add-t23
-add-t23 c = omega arith
-
--- src/lib.rt:69:1
-returns : tie.Need-returns
+returns : tie.Need-returns Inv-loop μ-loop
 unfolding unflatten
 returns c =
-    simp (c .before .before .before .wide2 .ensures .0, c .before .before .before .before .before .wide .ensures .0, c .before .before .before .before .before .before .before .pairs-in .ensures, c .before .before .before .before .before .before .before .before .before .before .before .before .query-in .ensures) refl
+    let l = c .before .before .before .before .args .l .now in
+    let v = c .before .loop in
+    let e : v .i ≡ 64 = omega (arith, v .inv .0, c .loop-test .left) in
+    v .inv .2 ∙ ap (λ (i : ℕ). withPairs l (pairsIn l i ++ drop i zeros)) e ∙ ap (withPairs l) (append-nil (pairsIn l 64))
 
 pub unpack-spec : {M : Type 1} → statement M
 unpack-spec =
     tie.close
     (tie.spec
-    query-in-requires
-    shared-slice-read-wide
-    shared-slice-read-wide-2
-    shared-slice-read-wide-3
-    shared-slice-read-wide-4
-    pairs-in-requires
-    shared-slice-read-wide-5
-    wide-requires
-    shared-slice-read-wide-6
-    wide-requires-2
-    shared-slice-read-t9
-    shared-slice-read-t12
-    shared-slice-read-t21
-    mul-t22
-    add-t23
+    Inv-loop
+    μ-loop
+    head-in-requires
+    loop-holds
+    pair-in-requires
+    mul-p
+    element-set-from-p
+    add-i
+    loop-less
+    loop-again
     returns)

@@ -47,7 +47,7 @@ meet-blocks-requires c κs =
     rw (n .ensures .0) (omega (arith, due .ready .query .block .0)) in (
       (due .ready, omega (arith, due .joined, n .ensures .1)),
       (
-        omega (arith, due .left, due .few, due .rows, due .ready .query .block .0),
+        omega (arith, due .unread .left, due .unread .few, due .unread .rows, due .ready .query .block .0),
         (omega (arith, due .other-few), omega (arith, due .other-rows), blocks),
       ),
     )
