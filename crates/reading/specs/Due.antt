@@ -89,7 +89,7 @@ module _ (f t : List ℤ) (s : Session) (l : Lent f t s) (n : length (s .pairs) 
       ap (λ (c : Bool). cond c (fieldReadOut s) (trimReadOut s)) (sym e)
       ∙ chosen-unread f t s (unsettled f t s h .no-table-empty) (unsettled f t s h .not-both-out)
 
-  pub due-field : fieldNext f t s ≡ true → Due true f t s
+  due-field : fieldNext f t s ≡ true → Due true f t s
   due-field e =
       let d : s .depth .field .0 ≡ s .rows .field .0 → ⊥ = eqb-false (s .depth .field .0) (s .rows .field .0) (unread true e) in
       record {
@@ -106,7 +106,7 @@ module _ (f t : List ℤ) (s : Session) (l : Lent f t s) (n : length (s .pairs) 
         joined = joined-few;
       }
 
-  pub due-trim : fieldNext f t s ≡ false → Due false t f s
+  due-trim : fieldNext f t s ≡ false → Due false t f s
   due-trim e =
       let d : s .depth .trim .0 ≡ s .rows .trim .0 → ⊥ = eqb-false (s .depth .trim .0) (s .rows .trim .0) (unread false e) in
       record {
@@ -123,21 +123,18 @@ module _ (f t : List ℤ) (s : Session) (l : Lent f t s) (n : length (s .pairs) 
         joined = joined-few;
       }
 
--- ---- The rule's read, by the table that is next
+  -- of the table that is read next, and the other one
+  pub due : (b : Bool) → b ≡ fieldNext f t s → Due b (cond b f t) (cond b t f) s
+  due true e = due-field (sym e)
+  due false e = due-trim (sym e)
 
-module _ (f t : List ℤ) (s : Session) where
-  pub code-field : fieldNext f t s ≡ true → sideCode true f s ≡ newBlockCode f t s
+-- ---- The rule's read, of the table that is next and the other one
+
+module _ (f t : List ℤ) (s : Session) (b : Bool) (next : b ≡ fieldNext f t s) where
+  pub code-is : sideCode b (cond b f t) s ≡ newBlockCode f t s
   unfolding newBlockCode sideCode
-  code-field e = rw e
+  code-is = ap (λ (c : Bool). sideCode c (cond c f t) s) next
 
-  pub code-trim : fieldNext f t s ≡ false → sideCode false t s ≡ newBlockCode f t s
-  unfolding newBlockCode sideCode
-  code-trim e = rw e
-
-  pub read-field : fieldNext f t s ≡ true → readSide true f t s ≡ readBlock f t s
+  pub read-is : readSide b (cond b f t) (cond b t f) s ≡ readBlock f t s
   unfolding readTable readSide
-  read-field e = rw e
-
-  pub read-trim : fieldNext f t s ≡ false → readSide false t f s ≡ readBlock f t s
-  unfolding readTable readSide
-  read-trim e = rw e
+  read-is = ap (λ (c : Bool). readSide c (cond c f t) (cond c t f) s) next

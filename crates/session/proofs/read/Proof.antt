@@ -50,7 +50,7 @@ ended c =
 returns : tie.Need-returns
 returns c =
     let told : wasRead (c .before .before .before .read-answer .result) ≡ true = ap wasRead (c .before .enum-told .given .1) in
-    ap (step (c .before .before .before .read-answer .result)) (c .read-block .ensures) ∙ simp told at (ended (c .before .before .before))
+    simp (told, ← c .read-block .ensures) at (ended (c .before .before .before))
 
 returns-2 : tie.Need-returns-2
 returns-2 c = simp (not-read (c .before .read-answer .result) (c .match .keys2)) at (ended (c .before))

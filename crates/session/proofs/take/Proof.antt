@@ -57,8 +57,7 @@ ended c =
     (code-is (a .f .now) (a .t .now) (a .s) (look .result .fits) (call .result) (look .ensures .0) (call .ensures)) (c .take-answer .ensures)
 
 returns : tie.Need-returns
-returns c =
-    ap (step (c .before .before .before .take-answer .result)) (c .moved-out .ensures) ∙ simp (told (c .before)) at (ended (c .before .before .before))
+returns c = simp (told (c .before), ← c .moved-out .ensures) at (ended (c .before .before .before))
 
 returns-2 : tie.Need-returns-2
 returns-2 c = simp (not-given (c .before .take-answer .result) (c .match .keys2)) at (ended (c .before))

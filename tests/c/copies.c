@@ -1,0 +1,101 @@
+/* How often a call copies the session's record: the linker hands every memcpy and memmove of the library to the counters
+ * below (--wrap). A record is 816 bytes, its pair places 768; nothing else that is copied is as long. Exit status 0: no
+ * call copies it more often than is written here. */
+#include <stdio.h>
+#include <string.h>
+
+#include "furzeladle.h"
+
+enum { ROWS = 256, BLOCK = 4, PLACES = 700 };
+
+static int copies;
+
+void *__real_memcpy(void *to, const void *from, size_t n);
+void *__real_memmove(void *to, const void *from, size_t n);
+
+void *__wrap_memcpy(void *to, const void *from, size_t n)
+{
+    copies += n >= PLACES;
+    return __real_memcpy(to, from, n);
+}
+
+void *__wrap_memmove(void *to, const void *from, size_t n)
+{
+    copies += n >= PLACES;
+    return __real_memmove(to, from, n);
+}
+
+static int failures;
+static uint32_t record[FURZELADLE_RECORD_SIZE];
+static int32_t field[4 * ROWS], trim[4 * ROWS];
+
+static void expect(const char *call, int32_t answer, int32_t wanted, int most)
+{
+    printf("%-44s %d\n", call, copies);
+    if (answer != wanted || copies > most) {
+        printf("%s: answer %d, not %d; %d copies, at most %d\n", call, answer, wanted, copies, most);
+        failures++;
+    }
+    copies = 0;
+}
+
+/* Scores fall evenly; the shades of the two tables lie `apart` from each other. */
+static void fill(int apart)
+{
+    for (int i = 0; i < ROWS; i++) {
+        const int32_t row[4] = {i + 1, 9999 - i, 0, 0}, other[4] = {i + 1, 9999 - i, apart, 0};
+        memcpy(field + 4 * i, row, sizeof row);
+        memcpy(trim + 4 * i, other, sizeof other);
+    }
+}
+
+static int32_t open(void)
+{
+    const uint32_t query[3] = {10, BLOCK, 5};
+    return furzeladle_open(query, 3, field, 4 * ROWS, trim, 4 * ROWS, record, FURZELADLE_RECORD_SIZE);
+}
+
+static int32_t read(size_t len)
+{
+    return furzeladle_read(field, len, trim, 4 * ROWS, record, FURZELADLE_RECORD_SIZE);
+}
+
+static int32_t take(void)
+{
+    uint32_t pair[3];
+    return furzeladle_take(field, 4 * ROWS, trim, 4 * ROWS, record, FURZELADLE_RECORD_SIZE, pair, 3);
+}
+
+int main(void)
+{
+    uint32_t place[3];
+
+    fill(6);
+    expect("open", open(), FURZELADLE_DONE, 9);
+    expect("read, the first block", read(4 * ROWS), FURZELADLE_DONE, 9);
+    expect("read, a block meets 1, no pair is near", read(4 * ROWS), FURZELADLE_DONE, 9);
+    for (int i = 0; i < 60; i++)
+        read(4 * ROWS);
+    copies = 0;
+    expect("read, a block meets 31, no pair is near", read(4 * ROWS), FURZELADLE_DONE, 9);
+    expect("take, not yet", take(), FURZELADLE_NOT_YET, 9);
+    expect("read, refused by 4", read(4), -FURZELADLE_TABLE_SIZE, 9);
+    fill(3);
+    expect("open", open(), FURZELADLE_DONE, 9);
+    read(4 * ROWS);
+    copies = 0;
+    expect("read, a block meets 1, 16 pairs are near", read(4 * ROWS), FURZELADLE_DONE, 99);
+    while (read(4 * ROWS) == FURZELADLE_DONE) {
+    }
+    copies = 0;
+    expect("read, settled", read(4 * ROWS), FURZELADLE_SETTLED, 9);
+    expect("show", furzeladle_show(field, 4 * ROWS, trim, 4 * ROWS, record, FURZELADLE_RECORD_SIZE, place, 3), FURZELADLE_DONE, 9);
+    expect("take, a pair", take(), FURZELADLE_GIVEN, 9);
+    while (take() == FURZELADLE_GIVEN) {
+    }
+    copies = 0;
+    expect("take, finished", take(), FURZELADLE_FINISHED, 9);
+    record[FURZELADLE_K] = 0;
+    expect("read, refused by 5", read(4 * ROWS), -FURZELADLE_RECORD, 9);
+    return failures != 0;
+}
