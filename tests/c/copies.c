@@ -1,12 +1,12 @@
 /* How often a call copies the session's record: the linker hands every memcpy and memmove of the library to the counters
- * below (--wrap). A record is 816 bytes, its pair places 768; nothing else that is copied is as long. Exit status 0: no
- * call copies it more often than is written here. */
+ * below (--wrap). A record is 816 bytes, its pair places 768; nothing else that is copied is as long. It prints the counts;
+ * exit status 0: none is above what is written here. */
 #include <stdio.h>
 #include <string.h>
 
 #include "furzeladle.h"
 
-enum { ROWS = 256, BLOCK = 4, PLACES = 700 };
+enum { ROWS = 256, BLOCK = 4, AS_LONG = 700 };
 
 static int copies;
 
@@ -15,13 +15,13 @@ void *__real_memmove(void *to, const void *from, size_t n);
 
 void *__wrap_memcpy(void *to, const void *from, size_t n)
 {
-    copies += n >= PLACES;
+    copies += n >= AS_LONG;
     return __real_memcpy(to, from, n);
 }
 
 void *__wrap_memmove(void *to, const void *from, size_t n)
 {
-    copies += n >= PLACES;
+    copies += n >= AS_LONG;
     return __real_memmove(to, from, n);
 }
 
@@ -66,36 +66,35 @@ static int32_t take(void)
     return furzeladle_take(field, 4 * ROWS, trim, 4 * ROWS, record, FURZELADLE_RECORD_SIZE, pair, 3);
 }
 
+/* A new session over tables that lie `apart`, after some reads. */
+static void reads(int apart, int n)
+{
+    fill(apart);
+    open();
+    while (n-- > 0)
+        read(4 * ROWS);
+    copies = 0;
+}
+
 int main(void)
 {
     uint32_t place[3];
 
-    fill(6);
-    expect("open", open(), FURZELADLE_DONE, 9);
-    expect("read, the first block", read(4 * ROWS), FURZELADLE_DONE, 9);
-    expect("read, a block meets 1, no pair is near", read(4 * ROWS), FURZELADLE_DONE, 9);
-    for (int i = 0; i < 60; i++)
-        read(4 * ROWS);
-    copies = 0;
-    expect("read, a block meets 31, no pair is near", read(4 * ROWS), FURZELADLE_DONE, 9);
-    expect("take, not yet", take(), FURZELADLE_NOT_YET, 9);
-    expect("read, refused by 4", read(4), -FURZELADLE_TABLE_SIZE, 9);
-    fill(3);
-    expect("open", open(), FURZELADLE_DONE, 9);
-    read(4 * ROWS);
-    copies = 0;
-    expect("read, a block meets 1, 16 pairs are near", read(4 * ROWS), FURZELADLE_DONE, 99);
-    while (read(4 * ROWS) == FURZELADLE_DONE) {
-    }
-    copies = 0;
-    expect("read, settled", read(4 * ROWS), FURZELADLE_SETTLED, 9);
-    expect("show", furzeladle_show(field, 4 * ROWS, trim, 4 * ROWS, record, FURZELADLE_RECORD_SIZE, place, 3), FURZELADLE_DONE, 9);
-    expect("take, a pair", take(), FURZELADLE_GIVEN, 9);
-    while (take() == FURZELADLE_GIVEN) {
-    }
-    copies = 0;
-    expect("take, finished", take(), FURZELADLE_FINISHED, 9);
+    reads(6, 0);
+    expect("open", open(), FURZELADLE_DONE, 1);
+    expect("read: the first block", read(4 * ROWS), FURZELADLE_DONE, 9);
+    expect("read: a block meets 1, no pair is near", read(4 * ROWS), FURZELADLE_DONE, 9);
+    reads(6, 62);
+    expect("read: a block meets 31, no pair is near", read(4 * ROWS), FURZELADLE_DONE, 9);
+    expect("read: refused by 4", read(4), -FURZELADLE_TABLE_SIZE, 4);
+    expect("take: not yet", take(), FURZELADLE_NOT_YET, 4);
+    reads(3, 1);
+    expect("read: a block meets 1, 16 pairs are near", read(4 * ROWS), FURZELADLE_DONE, 48);
+    reads(3, ROWS);
+    expect("read: settled", read(4 * ROWS), FURZELADLE_SETTLED, 4);
+    expect("show", furzeladle_show(field, 4 * ROWS, trim, 4 * ROWS, record, FURZELADLE_RECORD_SIZE, place, 3), FURZELADLE_DONE, 1);
+    expect("take: a pair", take(), FURZELADLE_GIVEN, 7);
     record[FURZELADLE_K] = 0;
-    expect("read, refused by 5", read(4 * ROWS), -FURZELADLE_RECORD, 9);
+    expect("read: refused by 5", read(4 * ROWS), -FURZELADLE_RECORD, 4);
     return failures != 0;
 }

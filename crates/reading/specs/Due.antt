@@ -2,7 +2,7 @@
 use mathlib.Core.Path.{_≡_, refl, sym, ap, ap₂, _∙_}
 use mathlib.Core.Bool.{Bool, true, false, cond, _&&_}
 use mathlib.Core.List.{List, [], _∷_, _++_}
-use Prim.Native.Nat.{ℕ, _+_, _-_, _/_, _≤_, _<_}
+use Prim.Native.Nat.{ℕ, _+_, _*_, _-_, _/_, _≤_, _<_}
 use native.Mathlib.Nat.{div-lt-iff-lt-mul, mul-le-mul}
 use native.Mathlib.Omega.{arith}
 use lib.Dec.{eqb}
@@ -17,14 +17,14 @@ use Rattle.rules.specs.declared.Session.{Session}
 use Rattle.rules.specs.Tables.{ahead}
 use Rattle.rules.specs.Ranking.{ahead-strict}
 use Rattle.rules.specs.Session.{noPair, places, heldPairs, fieldReadOut, trimReadOut, settled}
-use Rattle.rules.specs.Read.{fieldNext, readTable, readBlock}
-use Rattle.rules.specs.Calls.{isZeros, newBlockCode}
+use Rattle.rules.specs.Read.{fieldNext, oldDepth, newDepth}
+use Rattle.rules.specs.Calls.{isZeros, rowsCode, newBlockCode}
 use Rattle.laws.specs.Bools.{and-left, and-right}
 use Rattle.laws.specs.Record.{Fits}
 use Rattle.laws.specs.Sizes.{Lent}
 use Rattle.laws.specs.Read.{unsettled, chosen-unread}
 use Rattle.reading.specs.Ready.{Ready}
-use Rattle.reading.specs.Side.{readSide, sideCode, Unread, Due}
+use Rattle.reading.specs.Side.{Due}
 
 -- ---- The places beyond the held pairs
 
@@ -94,47 +94,42 @@ module _ (f t : List ℤ) (s : Session) (l : Lent f t s) (n : length (s .pairs) 
       let d : s .depth .field .0 ≡ s .rows .field .0 → ⊥ = eqb-false (s .depth .field .0) (s .rows .field .0) (unread true e) in
       record {
         ready = ready;
-        unread =
-            record {
-              block = l .fits .query .block .1;
-              left = omega (arith, l .fits .field .within);
-              few = l .fits .field .few;
-              rows = omega (arith, l .field .size .whole, l .field .count);
-            };
+        left = omega (arith, l .fits .field .within);
+        few = l .fits .field .few;
+        rows = omega (arith, l .field .size .whole, l .field .count);
         other-few = omega (arith, l .fits .trim .few, l .fits .trim .within);
         other-rows = omega (arith, l .trim .size .whole, l .trim .count, l .fits .trim .within);
         joined = joined-few;
       }
 
-  due-trim : fieldNext f t s ≡ false → Due false t f s
+  due-trim : fieldNext f t s ≡ false → Due false f t s
   due-trim e =
       let d : s .depth .trim .0 ≡ s .rows .trim .0 → ⊥ = eqb-false (s .depth .trim .0) (s .rows .trim .0) (unread false e) in
       record {
         ready = ready;
-        unread =
-            record {
-              block = l .fits .query .block .1;
-              left = omega (arith, l .fits .trim .within);
-              few = l .fits .trim .few;
-              rows = omega (arith, l .trim .size .whole, l .trim .count);
-            };
+        left = omega (arith, l .fits .trim .within);
+        few = l .fits .trim .few;
+        rows = omega (arith, l .trim .size .whole, l .trim .count);
         other-few = omega (arith, l .fits .field .few, l .fits .field .within);
         other-rows = omega (arith, l .field .size .whole, l .field .count, l .fits .field .within);
         joined = joined-few;
       }
 
-  -- of the table that is read next, and the other one
-  pub due : (b : Bool) → b ≡ fieldNext f t s → Due b (cond b f t) (cond b t f) s
+  -- of the table that is read next
+  pub due : (b : Bool) → b ≡ fieldNext f t s → Due b f t s
   due true e = due-field (sym e)
   due false e = due-trim (sym e)
 
--- ---- The rule's read, of the table that is next and the other one
+-- ---- The new block
 
-module _ (f t : List ℤ) (s : Session) (b : Bool) (next : b ≡ fieldNext f t s) where
-  pub code-is : sideCode b (cond b f t) s ≡ newBlockCode f t s
-  unfolding newBlockCode sideCode
-  code-is = ap (λ (c : Bool). sideCode c (cond c f t) s) next
+module _ (f t : List ℤ) (s : Session) (b : Bool) where
+  -- it lies within its table
+  pub new-inside : Due b f t s → (oldDepth b s ≤ newDepth b s) × (newDepth b s ≤ 65535) × (4 * newDepth b s ≤ length (cond b f t))
+  new-inside d = omega (arith, d .left, d .few, d .rows)
 
-  pub read-is : readSide b (cond b f t) (cond b t f) s ≡ readBlock f t s
-  unfolding readTable readSide
-  read-is = ap (λ (c : Bool). readSide c (cond c f t) (cond c t f) s) next
+  -- what 6 and 7 say of it is the rule's
+  pub code-is : b ≡ fieldNext f t s → (own : List ℤ) (d e : ℕ) → own ≡ cond b f t → d ≡ oldDepth b s → e ≡ newDepth b s
+      → rowsCode own d (e - d) ≡ newBlockCode f t s
+  unfolding newBlockCode
+  code-is next own d e x y z =
+      (λ i. rowsCode (x i) (y i) (z i - y i)) ∙ ap (λ (c : Bool). rowsCode (cond c f t) (oldDepth c s) (newDepth c s - oldDepth c s)) next

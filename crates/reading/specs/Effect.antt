@@ -39,10 +39,6 @@ module _ (full : Bool) (low radius : ℕ) (x y : List ℤ) where
   pub effect-open : Effect full low radius x y 2
   effect-open = record { skip = λ e. absurd (omega (arith, e)); quiet = λ e. absurd (omega (arith, e)); most = omega arith }
 
--- of a new block and an old one, as field and trim
-abbrev pub EffectParts : Bool → Bool → ℕ → ℕ → Block → Block → ℕ → Type 0
-EffectParts field full low radius new old r = Effect full low radius (cond field new old .rows) (cond field old new .rows) r
-
 -- so many block pairs more are joined
 unfoldable pub counted : Session → ℕ → Session
 counted s w =

@@ -1,5 +1,5 @@
 -- Block pairs met by a record that is ready: it stays ready. Assumes nothing.
-use mathlib.Core.Path.{_≡_, sym, ap, ap₂, _∙_}
+use mathlib.Core.Path.{_≡_, refl, sym, ap, ap₂, _∙_}
 use mathlib.Core.Bool.{Bool, true, false, cond}
 use mathlib.Core.List.{List, _++_}
 use Prim.Native.Nat.{ℕ, zero, suc, _+_, _*_, _-_, _≤_, _<_, min}
@@ -23,7 +23,9 @@ use Rattle.held.specs.Held.{heldOf, Tidy}
 use Rattle.held.specs.Tidy.{list-of-held}
 use Rattle.block.specs.Block.{at, Rows}
 use Rattle.ceiling.specs.Last.{lowest-is-last, last-taken}
-use Rattle.reading.specs.Ready.{Ready, meetParts}
+use Rattle.reading.specs.declared.Span.{Span}
+use Rattle.reading.specs.Ready.{Ready}
+use Rattle.reading.specs.Side.{Inside, rowsOf}
 
 -- the pairs held, as the block join takes them
 abbrev pub heldIn : Session → Held
@@ -106,6 +108,22 @@ part-long t a e h l =
     length-take-le (4 * e - 4 * a) (drop (4 * a) t) (omega (arith, length-drop (4 * a) t)) in
     omega arith
 
+-- ---- A new block and an old one, as field and trim
+
+module _ (f t : List ℤ) (new old : Span) where
+  pub inside-field : (b : Bool) → Inside new (cond b f t) → Inside old (cond b t f) → Inside (cond b new old) f
+  inside-field true x y = x
+  inside-field false x y = y
+
+  pub inside-trim : (b : Bool) → Inside new (cond b f t) → Inside old (cond b t f) → Inside (cond b old new) t
+  inside-trim true x y = y
+  inside-trim false x y = x
+
+  pub parts-meet : (b : Bool) (r : Session) → meet r (rowsOf f (cond b new old)) (rowsOf t (cond b old new))
+      ≡ meet r (cond b (rowsOf (cond b f t) new) (rowsOf (cond b t f) old)) (cond b (rowsOf (cond b t f) old) (rowsOf (cond b f t) new))
+  parts-meet true r = refl
+  parts-meet false r = refl
+
 -- ---- The blocks of a table, one after the other
 
 -- block i + 1 begins above the depth, if blocks up to the n-th do
@@ -123,12 +141,12 @@ pub blocks-next : (field : Bool) (s : Session) (new : Block) (t : List ℤ) (dep
     c ≡ i * block →
     r ≡ meetBlocks field s new t depth i →
     g ≡ min (c + block) depth →
-    r′ ≡ meetParts field r new (rowsBetween t c g) →
+    r′ ≡ meet r (cond field new (rowsBetween t c g)) (cond field (rowsBetween t c g) new) →
     r′ ≡ meetBlocks field s new t depth (i + 1)
 unfolding meetBlocks
 blocks-next field s new t depth i c g block r r′ eb ec er eg h =
     let c-is : c ≡ i * s .query .block = ec ∙ ap (λ (b : ℕ). i * b) eb in
     let g-is : g ≡ min (i * s .query .block + s .query .block) depth = eg ∙ ap₂ (λ (x y : ℕ). min (x + y) depth) c-is eb in
     h
-    ∙ ap₂ (λ (x : Session) (y : Block). meetParts field x new y) er (ap₂ (λ (x y : ℕ). rowsBetween t x y) c-is g-is)
+    ∙ ap₂ (λ (x : Session) (y : Block). meet x (cond field new y) (cond field y new)) er (ap₂ (λ (x y : ℕ). rowsBetween t x y) c-is g-is)
     ∙ sym (rw add-one)

@@ -1,13 +1,11 @@
 -- A record whose held pairs are in order, ready to meet a block pair. Definitions only. Assumes nothing.
 use Prim.Native.Nat.{_+_, _-_, _≤_, _<_}
 use mathlib.Core.Path.{_≡_}
-use mathlib.Core.Bool.{Bool, cond}
 use lib.ListN.{length, getD}
 use Rattle.lists.specs.Words.{Ordered}
 use Rattle.rules.specs.declared.Pair.{Pair}
 use Rattle.rules.specs.declared.Session.{Session}
-use Rattle.rules.specs.Tables.{Block, ahead}
-use Rattle.rules.specs.Read.{meet}
+use Rattle.rules.specs.Tables.{ahead}
 use Rattle.rules.specs.Session.{noPair, places, heldPairs}
 use Rattle.laws.specs.Record.{QueryFits}
 
@@ -22,7 +20,3 @@ pub record Ready (s : Session) : Type 0 where
 -- the pair in the last held place, where one is held
 abbrev pub LastHeld : Session → Pair → Type 0
 LastHeld s p = 0 < s .held → p ≡ getD (s .pairs) (s .held - 1) noPair
-
--- a new block and an old one meet, as field and trim; the flag says whether the new block is of the field table
-abbrev pub meetParts : Bool → Session → Block → Block → Session
-meetParts field s new old = meet s (cond field new old) (cond field old new)

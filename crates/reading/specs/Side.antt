@@ -1,13 +1,14 @@
--- A read of one table, the other one beside it: one text for field and trim. Definitions only. Assumes nothing.
-use Prim.Native.Nat.{ℕ, _*_, _-_, _≤_, _<_}
+-- A read of one table, field or trim, the other one beside it. Definitions only. Assumes nothing.
+use Prim.Native.Nat.{ℕ, _*_, _≤_, _<_}
 use mathlib.Core.Bool.{Bool, cond}
 use mathlib.Core.List.{List}
 use lib.IntN.{ℤ}
 use lib.ListN.{length}
 use Rattle.rules.specs.declared.Counts.{Counts}
 use Rattle.rules.specs.declared.Session.{Session}
-use Rattle.rules.specs.Read.{rowsBetween, blockCount, oldDepth, newDepth, meetBlocks, readTo}
-use Rattle.rules.specs.Calls.{rowsCode}
+use Rattle.rules.specs.Tables.{Block}
+use Rattle.rules.specs.Read.{rowsBetween, oldDepth}
+use Rattle.reading.specs.declared.Span.{Span}
 use Rattle.reading.specs.Ready.{Ready}
 
 -- rows of the table that is read, and the depth of the other one
@@ -25,27 +26,22 @@ downTo field e depth =
       trim = record { 0 = cond field (depth .trim .0) e };
     }
 
--- `readTable`, of the table that is read and of the other one
-unfoldable pub readSide : Bool → List ℤ → List ℤ → Session → Session
-readSide field own other s =
-    readTo field (newDepth field s)
-    (meetBlocks field s (rowsBetween own (oldDepth field s) (newDepth field s)) other (otherDepth field s) (blockCount (s .query .block) (otherDepth field s)))
+-- rows of a table, as the rules' block
+abbrev pub rowsOf : List ℤ → Span → Block
+rowsOf t x = rowsBetween t (x .from) (x .to)
 
--- what 6 and 7 say of the new block
-unfoldable pub sideCode : Bool → List ℤ → Session → ℕ
-sideCode field own s = rowsCode own (oldDepth field s) (newDepth field s - oldDepth field s)
+-- they lie within a slice and a table's 65,535 rows, and there is one at least
+pub record Inside (x : Span) (t : List ℤ) : Type 0 where
+  pub some : x .from < x .to
+  pub few : x .to ≤ 65535
+  pub within : 4 * x .to ≤ length t
 
--- rows are left of the table that is read, and its slice has them
-pub record Unread (field : Bool) (own : List ℤ) (s : Session) : Type 0 where
-  pub block : s .query .block ≤ 1024
+-- what a read knows of the two tables: rows are left of the one that is read, and the slices have the rows
+pub record Due (field : Bool) (f t : List ℤ) (s : Session) : Type 0 where
+  pub ready : Ready s
   pub left : oldDepth field s < ownRows field s
   pub few : ownRows field s ≤ 65535
-  pub rows : 4 * ownRows field s ≤ length own
-
--- what a read knows of the two tables
-pub record Due (field : Bool) (own other : List ℤ) (s : Session) : Type 0 where
-  pub ready : Ready s
-  pub unread : Unread field own s
+  pub rows : 4 * ownRows field s ≤ length (cond field f t)
   pub other-few : otherDepth field s ≤ 65535
-  pub other-rows : 4 * otherDepth field s ≤ length other
+  pub other-rows : 4 * otherDepth field s ≤ length (cond field t f)
   pub joined : s .joined ≤ 4294836225

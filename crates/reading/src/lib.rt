@@ -11,13 +11,13 @@ ghost use mathlib.Core.Bool.{false, cond};
 ghost use Prim.Native.Nat.{_+_, _*_, _-_, _≤_, _<_, _^_, min};
 ghost use lib.ListN.{length, take, drop};
 ghost use Rattle.rules.specs.Session.{settled};
-ghost use Rattle.rules.specs.Read.{scoreDrop, fieldNext, skipped, meet, rowsBetween, meetBlocks, nextDepth, readBlock};
+ghost use Rattle.rules.specs.Read.{scoreDrop, fieldNext, skipped, meet, meetBlocks, nextDepth, readTable, readBlock};
 ghost use Rattle.rules.specs.Calls.{newBlockCode};
 ghost use Rattle.laws.specs.Sizes.{Lent};
 ghost use Rattle.block.specs.Block.{at, Rows};
-ghost use Rattle.reading.specs.Ready.{Ready, LastHeld, meetParts};
-ghost use Rattle.reading.specs.Effect.{Effect, EffectParts};
-ghost use Rattle.reading.specs.Side.{Unread, Due, downTo, readSide, sideCode};
+ghost use Rattle.reading.specs.Ready.{Ready, LastHeld};
+ghost use Rattle.reading.specs.Effect.{Effect};
+ghost use Rattle.reading.specs.Side.{Inside, rowsOf, Due, downTo};
 
 // How far a table's score has dropped from its first row to the last row read.
 fn drop_of(t: &[i32], depth: u32) -> u32
@@ -129,30 +129,29 @@ fn lesser(a: usize, b: usize) -> usize
     if a <= b { a } else { b }
 }
 
-// Rows a + 1 to e of one table meet rows c + 1 to g of the other; the flag says whether the first are of the field table.
-fn meet_parts(
-    field: bool,
-    s: Session,
-    own: &[i32],
-    a: usize,
-    e: usize,
-    other: &[i32],
-    c: usize,
-    g: usize,
-) -> Session
-    requires { ⌜ Ready s × (s .joined < 2 ^ 63) ⌝ }
-    requires { ⌜ (a < e) × (e ≤ 65535) × (4 * e ≤ length (now own)) ⌝ }
-    requires { ⌜ (c < g) × (g ≤ 65535) × (4 * g ≤ length (now other)) ⌝ }
-    ensures { λ r. ⌜ r ≡ meetParts field s (rowsBetween (now (own .entry)) a e) (rowsBetween (now (other .entry)) c g) ⌝ }
+// Some rows of a table: those after row `from`, down to row `to`.
+pub struct Span {
+    pub from: usize,
+    pub to: usize,
+}
+
+fn either(first: bool, a: Span, b: Span) -> Span
+    ensures { λ r. ⌜ r ≡ cond first a b ⌝ }
 {
-    let i = 4 * a;
-    let j = 4 * e;
-    let k = 4 * c;
-    let l = 4 * g;
-    if field {
-        return meet_pair(s, &own[i..j], a, &other[k..l], c);
-    }
-    meet_pair(s, &other[k..l], c, &own[i..j], a)
+    if first { a } else { b }
+}
+
+// Rows of the field table and rows of the trim table meet, each as a part of its table.
+fn meet_parts(s: Session, f: &[i32], x: Span, t: &[i32], y: Span) -> Session
+    requires { ⌜ Ready s × (s .joined < 2 ^ 63) ⌝ }
+    requires { ⌜ Inside x (now f) × Inside y (now t) ⌝ }
+    ensures { λ r. ⌜ r ≡ meet s (rowsOf (now (f .entry)) x) (rowsOf (now (t .entry)) y) ⌝ }
+{
+    let i = 4 * x.from;
+    let j = 4 * x.to;
+    let k = 4 * y.from;
+    let l = 4 * y.to;
+    meet_pair(s, &f[i..j], x.from, &t[k..l], y.from)
 }
 
 // What a block pair comes to: 0, it is skipped; 1, it is joined, and no pair of it qualifies; 2, it is to be looked at
@@ -175,49 +174,32 @@ fn effect(full: bool, low: u32, radius: u32, x: &[i32], y: &[i32]) -> u64
     1
 }
 
-// The effect of rows a + 1 to e of one table and rows c + 1 to g of the other; the flag says whether the first are of
-// the field table.
-fn effect_parts(
-    field: bool,
-    full: bool,
-    low: u32,
-    radius: u32,
-    own: &[i32],
-    a: usize,
-    e: usize,
-    other: &[i32],
-    c: usize,
-    g: usize,
-) -> u64
-    requires { ⌜ (a < e) × (e ≤ 65535) × (4 * e ≤ length (now own)) ⌝ }
-    requires { ⌜ (c < g) × (g ≤ 65535) × (4 * g ≤ length (now other)) ⌝ }
-    ensures { λ r. ⌜ EffectParts field full low radius (rowsBetween (now (own .entry)) a e) (rowsBetween (now (other .entry)) c g) r ⌝ }
+// The effect of rows of the field table and rows of the trim table.
+fn effect_parts(full: bool, low: u32, radius: u32, f: &[i32], x: Span, t: &[i32], y: Span) -> u64
+    requires { ⌜ Inside x (now f) × Inside y (now t) ⌝ }
+    ensures { λ r. ⌜ Effect full low radius (rowsOf (now (f .entry)) x .rows) (rowsOf (now (t .entry)) y .rows) r ⌝ }
 {
-    let i = 4 * a;
-    let j = 4 * e;
-    let k = 4 * c;
-    let l = 4 * g;
-    if field {
-        return effect(full, low, radius, &own[i..j], &other[k..l]);
-    }
-    effect(full, low, radius, &other[k..l], &own[i..j])
+    let i = 4 * x.from;
+    let j = 4 * x.to;
+    let k = 4 * y.from;
+    let l = 4 * y.to;
+    effect(full, low, radius, &f[i..j], &t[k..l])
 }
 
-// The new block, rows a + 1 to e of one table, meets the first n blocks of the other table, down to its depth.
+// The new block, of the field table where the flag says so, meets the first n blocks of the other table, down to its depth.
 fn meet_blocks(
     field: bool,
     s: Session,
-    own: &[i32],
-    a: usize,
-    e: usize,
-    other: &[i32],
+    f: &[i32],
+    t: &[i32],
+    new: Span,
     depth: usize,
     n: usize,
 ) -> Session
     requires { ⌜ Ready s × (s .joined + n < 2 ^ 63) ⌝ }
-    requires { ⌜ (a < e) × (e ≤ 65535) × (4 * e ≤ length (now own)) ⌝ }
-    requires { ⌜ (depth ≤ 65535) × (4 * depth ≤ length (now other)) × (n * s .query .block < depth + s .query .block) ⌝ }
-    ensures { λ r. ⌜ r ≡ meetBlocks field s (rowsBetween (now (own .entry)) a e) (now (other .entry)) depth n ⌝ }
+    requires { ⌜ Inside new (cond field (now f) (now t)) ⌝ }
+    requires { ⌜ (depth ≤ 65535) × (4 * depth ≤ length (cond field (now t) (now f))) × (n * s .query .block < depth + s .query .block) ⌝ }
+    ensures { λ r. ⌜ r ≡ meetBlocks field s (rowsOf (cond field (now (f .entry)) (now (t .entry))) new) (cond field (now (t .entry)) (now (f .entry))) depth n ⌝ }
 {
     let block = s.query.block as usize;
     let mut r = s;
@@ -225,12 +207,15 @@ fn meet_blocks(
     let mut i: usize = 0;
     while i < n {
         let g = lesser(c + block, depth);
+        let old = Span { from: c, to: g };
+        let x = either(field, new, old);
+        let y = either(field, old, new);
         let full = r.out + r.held == r.query.k;
         let last = (r.held as usize + 63) % 64;
         let low = r.pairs[last].sum;
-        let w = effect_parts(field, full, low, r.query.radius, own, a, e, other, c, g);
+        let w = effect_parts(full, low, r.query.radius, f, x, t, y);
         if w == 2 {
-            r = meet_parts(field, r, own, a, e, other, c, g);
+            r = meet_parts(r, f, x, t, y);
         } else {
             r.joined = r.joined + w;
         }
@@ -269,10 +254,11 @@ fn next_depth(block: u32, rows: u32, depth: u32) -> u32
     rows
 }
 
-// One block of a table is read and meets the other table's; the table is read down to its end, and marked as read last.
-fn read_on(field: bool, own: &[i32], other: &[i32], s: Session) -> Session
-    requires { ⌜ Due field (now own) (now other) s ⌝ }
-    ensures { λ r. ⌜ r ≡ readSide field (now (own .entry)) (now (other .entry)) s ⌝ }
+// One block of a table, the field table where the flag says so, is read and meets the other table's; the table is read down
+// to its end, and marked as read last.
+fn read_on(field: bool, f: &[i32], t: &[i32], s: Session) -> Session
+    requires { ⌜ Due field (now f) (now t) s ⌝ }
+    ensures { λ r. ⌜ r ≡ readTable field (now (f .entry)) (now (t .entry)) s ⌝ }
 {
     let block = s.query.block;
     let rows = pick(field, s.rows.field.0, s.rows.trim.0);
@@ -280,16 +266,11 @@ fn read_on(field: bool, own: &[i32], other: &[i32], s: Session) -> Session
     let depth = pick(field, s.depth.trim.0, s.depth.field.0);
     let e = next_depth(block, rows, d);
     let n = record::block_count(block, depth);
-    let mut r = meet_blocks(
-        field,
-        s,
-        own,
-        d as usize,
-        e as usize,
-        other,
-        depth as usize,
-        n as usize,
-    );
+    let new = Span {
+        from: d as usize,
+        to: e as usize,
+    };
+    let mut r = meet_blocks(field, s, f, t, new, depth as usize, n as usize);
     let to = down_to(field, e, r.depth);
     let last = pick(field, 1, 2);
     r.depth = to;
@@ -297,26 +278,21 @@ fn read_on(field: bool, own: &[i32], other: &[i32], s: Session) -> Session
     r
 }
 
-// What 6 and 7 say of the new block of one table.
-fn side_code(field: bool, own: &[i32], s: Session) -> u32
-    requires { ⌜ Unread field (now own) s ⌝ }
-    ensures { λ r. ⌜ r ≡ sideCode field (now (own .entry)) s ⌝ }
-{
-    let rows = pick(field, s.rows.field.0, s.rows.trim.0);
-    let d = pick(field, s.depth.field.0, s.depth.trim.0);
-    let e = next_depth(s.query.block, rows, d);
-    tables::rows_code(own, d as usize, (e - d) as usize)
-}
-
 // What 6 and 7 say of the new block, of the table that is read next.
 pub fn new_block_code(f: &[i32], t: &[i32], s: Session) -> u32
     requires { ⌜ Lent (now f) (now t) s × (settled (now f) (now t) s ≡ false) ⌝ }
     ensures { λ r. ⌜ r ≡ newBlockCode (now (f .entry)) (now (t .entry)) s ⌝ }
 {
-    if field_next(f, t, s) {
-        return side_code(true, f, s);
+    let field = field_next(f, t, s);
+    let rows = pick(field, s.rows.field.0, s.rows.trim.0);
+    let d = pick(field, s.depth.field.0, s.depth.trim.0);
+    let e = next_depth(s.query.block, rows, d);
+    let from = d as usize;
+    let n = (e - d) as usize;
+    if field {
+        return tables::rows_code(f, from, n);
     }
-    side_code(false, t, s)
+    tables::rows_code(t, from, n)
 }
 
 // One block of the table that is next is read and meets the other table's.
@@ -324,8 +300,6 @@ pub fn read_block(f: &[i32], t: &[i32], s: Session) -> Session
     requires { ⌜ Lent (now f) (now t) s × (settled (now f) (now t) s ≡ false) ⌝ }
     ensures { λ r. ⌜ r ≡ readBlock (now (f .entry)) (now (t .entry)) s ⌝ }
 {
-    if field_next(f, t, s) {
-        return read_on(true, f, t, s);
-    }
-    read_on(false, t, f, s)
+    let field = field_next(f, t, s);
+    read_on(field, f, t, s)
 }

@@ -3,8 +3,8 @@ use mathlib.Core.Path.{refl}
 use Prim.Native.Nat.{_+_, _*_, _-_, _<_}
 use native.Mathlib.Nat.{div-mul-le-self}
 use native.Mathlib.Omega.{arith}
-use Rattle.rules.specs.Read.{readTo}
-use Rattle.reading.specs.Side.{downTo, readSide}
+use Rattle.rules.specs.Read.{readTo, readTable}
+use Rattle.reading.specs.Side.{downTo}
 use borrow.Author.Needs.{needs}
 use Rattle.reading.proofs.read_on.Statement.{statement}
 use Rattle.reading.proofs.read_on.Tie as tie
@@ -47,7 +47,11 @@ meet-blocks-requires c κs =
     rw (n .ensures .0) (omega (arith, due .ready .query .block .0)) in (
       (due .ready, omega (arith, due .joined, n .ensures .1)),
       (
-        omega (arith, due .unread .left, due .unread .few, due .unread .rows, due .ready .query .block .0),
+        record {
+          some = omega (arith, due .left, due .ready .query .block .0);
+          few = omega (arith, due .few);
+          within = omega (arith, due .rows);
+        },
         (omega (arith, due .other-few), omega (arith, due .other-rows), blocks),
       ),
     )
@@ -59,7 +63,7 @@ pick-requires-4 : tie.Need-pick-requires-4
 pick-requires-4 c κs = search needs
 
 returns : tie.Need-returns
-unfolding readSide readTo downTo
+unfolding readTable readTo downTo
 returns c =
     simp (
       c .pick4 .ensures,
