@@ -81,20 +81,20 @@ int main(void)
     uint32_t place[3];
 
     reads(6, 0);
-    expect("open", open(), FURZELADLE_DONE, 1);
-    expect("read: the first block", read(4 * ROWS), FURZELADLE_DONE, 9);
-    expect("read: a block meets 1, no pair is near", read(4 * ROWS), FURZELADLE_DONE, 9);
+    expect("open", open(), FURZELADLE_DONE, 0);
+    expect("read: the first block", read(4 * ROWS), FURZELADLE_DONE, 7);
+    expect("read: a block meets 1, no pair is near", read(4 * ROWS), FURZELADLE_DONE, 7);
     reads(6, 62);
-    expect("read: a block meets 31, no pair is near", read(4 * ROWS), FURZELADLE_DONE, 9);
-    expect("read: refused by 4", read(4), -FURZELADLE_TABLE_SIZE, 4);
-    expect("take: not yet", take(), FURZELADLE_NOT_YET, 4);
+    expect("read: a block meets 31, no pair is near", read(4 * ROWS), FURZELADLE_DONE, 7);
+    expect("read: refused by 4", read(4), -FURZELADLE_TABLE_SIZE, 3);
+    expect("take: not yet", take(), FURZELADLE_NOT_YET, 3);
     reads(3, 1);
-    expect("read: a block meets 1, 16 pairs are near", read(4 * ROWS), FURZELADLE_DONE, 48);
+    expect("read: a block meets 1, 16 pairs are near", read(4 * ROWS), FURZELADLE_DONE, 44);
     reads(3, ROWS);
-    expect("read: settled", read(4 * ROWS), FURZELADLE_SETTLED, 4);
+    expect("read: settled", read(4 * ROWS), FURZELADLE_SETTLED, 3);
     expect("show", furzeladle_show(field, 4 * ROWS, trim, 4 * ROWS, record, FURZELADLE_RECORD_SIZE, place, 3), FURZELADLE_DONE, 1);
     expect("take: a pair", take(), FURZELADLE_GIVEN, 7);
     record[FURZELADLE_K] = 0;
-    expect("read: refused by 5", read(4 * ROWS), -FURZELADLE_RECORD, 4);
+    expect("read: refused by 5", read(4 * ROWS), -FURZELADLE_RECORD, 3);
     return failures != 0;
 }

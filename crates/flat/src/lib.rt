@@ -8,7 +8,7 @@ use rules::TrimRows;
 ghost use mathlib.Core.Path.{_≡_};
 ghost use mathlib.Core.List.{[], _∷_, _++_};
 ghost use Prim.Native.Nat.{_+_, _*_, _≤_, _<_};
-ghost use lib.ListN.{length, take, drop, replicate};
+ghost use lib.ListN.{length, getD, take, drop, replicate};
 ghost use Rattle.rules.specs.Session.{noPair};
 ghost use Rattle.flat.specs.Flat.{flatSize, word, flatPair, flatHead, flatten, queryIn, pairIn, withPairs, unflatten};
 
@@ -48,7 +48,7 @@ fn wide(n: u32) -> u64
 // The record that the first 12 numbers are, with no pair in its places.
 fn head_in(l: &[u32]) -> Session
     requires { ⌜ flatSize ≤ length (now l) ⌝ }
-    ensures { λ r. ⌜ r ≡ withPairs (now (l .entry)) (replicate 64 noPair) ⌝ }
+    ensures { λ r. ⌜ (r ≡ withPairs (now (l .entry)) (replicate 64 noPair)) × (getD (now (l .entry)) 10 0 < word) ⌝ }
 {
     let query = query_in(l);
     let rows = Counts {
@@ -81,7 +81,7 @@ fn head_in(l: &[u32]) -> Session
 // The record that the first 204 numbers are, whatever they are. Its places are filled where they stand.
 pub fn unpack(l: &[u32]) -> Session
     requires { ⌜ flatSize ≤ length (now l) ⌝ }
-    ensures { λ r. ⌜ r ≡ unflatten (now (l .entry)) ⌝ }
+    ensures { λ r. ⌜ (r ≡ unflatten (now (l .entry))) × (getD (now (l .entry)) 10 0 < word) ⌝ }
 {
     let mut s = head_in(l);
     let mut i: usize = 0;

@@ -102,7 +102,8 @@ pub extern "C" fn furzeladle_open(query: &[u32], f: &[i32], t: &[i32], lent: &mu
     numbered(answer)
 }
 
-// Read: the record that stands in the lent slice goes in, and the record after it comes back there.
+// Read: the record that stands in the lent slice goes in; where a block was read, the record after it comes back there. Else
+// it stands as it was.
 #[no_mangle]
 pub extern "C" fn furzeladle_read(f: &[i32], t: &[i32], lent: &mut [u32]) -> i32
     ensures { λ r. ⌜ r ≡ readNumber (now (f .entry)) (now (t .entry)) (now (lent .entry)) ⌝ }
@@ -113,9 +114,11 @@ pub extern "C" fn furzeladle_read(f: &[i32], t: &[i32], lent: &mut [u32]) -> i32
     }
     let s = flat::unpack(lent);
     let step = session::read(f, t, s);
-    let after = step.session;
-    flat::pack(after, lent);
     let answer = step.answer;
+    if let Answer::Read = answer {
+        let after = step.session;
+        flat::pack(after, lent);
+    }
     numbered(answer)
 }
 
@@ -134,9 +137,11 @@ pub extern "C" fn furzeladle_take(f: &[i32], t: &[i32], lent: &mut [u32], pair: 
     }
     let s = flat::unpack(lent);
     let step = session::take(f, t, s);
-    let r = step.session;
-    flat::pack(r, lent);
     let answer = step.answer;
+    if let Answer::Given(_) = answer {
+        let after = step.session;
+        flat::pack(after, lent);
+    }
     put_given(answer, pair);
     numbered(answer)
 }

@@ -1,3 +1,2 @@
 pub mod Bounds
-pub mod Answers
 pub mod Taking

@@ -1,5 +1,5 @@
 -- A call's answer, of the code that its checks gave, and the record that goes with it. Assumes nothing.
-use mathlib.Core.Path.{_≡_, refl, ap, _∙_}
+use mathlib.Core.Path.{_≡_, refl, sym, ap, _∙_}
 use mathlib.Core.Bool.{Bool, true, false, cond}
 use mathlib.Core.List.{List}
 use Prim.Native.Nat.{ℕ}
@@ -8,6 +8,7 @@ use borrow.Author.Tests.{eqb-true}
 use Rattle.lists.specs.Bools.{clash}
 use lib.IntN.{ℤ}
 use Rattle.rules.specs.declared.Session.{Session}
+use Rattle.rules.specs.declared.Step.{Step}
 use Rattle.rules.specs.declared.Answer.{Answer}
 use Rattle.rules.specs.declared.Answer.the-variants.{Refused, Read, Settled, Given, NotYet, Finished}
 use Rattle.rules.specs.Session.{settled}
@@ -63,6 +64,17 @@ module _ (f t : List ℤ) (s : Session) where
 
   pub take-ends : (code : ℕ) (a : Answer) → code ≡ callCode f t s → a ≡ takeAnswer code f t s → step a (afterTake a) ≡ takeCall f t s
   take-ends code a e h = ap (λ (x : Answer). step x (afterTake x)) (h ∙ ap (λ (n : ℕ). takeAnswer n f t s) e) ∙ take-is
+
+  -- a read that reads no block, and a take that gives no pair, leave the record as it was
+  pub read-keeps : wasRead (readCall f t s .answer) ≡ false → readCall f t s .session ≡ s
+  read-keeps h =
+      sym (ap (λ (x : Step). x .session) read-is)
+      ∙ ap (λ (b : Bool). cond b (readBlock f t s) s) (ap (λ (x : Step). wasRead (x .answer)) read-is ∙ h)
+
+  pub take-keeps : wasGiven (takeCall f t s .answer) ≡ false → takeCall f t s .session ≡ s
+  take-keeps h =
+      sym (ap (λ (x : Step). x .session) take-is)
+      ∙ ap (λ (b : Bool). cond b (movedOut s) s) (ap (λ (x : Step). wasGiven (x .answer)) take-is ∙ h)
 
 -- what an answer of each kind says of the call before it
 module _ (code : ℕ) (f t : List ℤ) (s : Session) where

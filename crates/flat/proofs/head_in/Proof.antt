@@ -55,12 +55,15 @@ add-t24 c = omega arith
 returns : tie.Need-returns
 unfolding withPairs
 returns c =
-    simp (
-      c .before .before .before .wide2 .ensures .0,
-      c .before .before .before .before .before .wide .ensures .0,
-      c .before .before .before .before .before .before .before .before .before .before .before .query-in .ensures,
+    let low = c .before .before .before .before .before .wide in (
+      simp (
+        c .before .before .before .wide2 .ensures .0,
+        low .ensures .0,
+        c .before .before .before .before .before .before .before .before .before .before .before .query-in .ensures,
+      )
+          refl,
+      omega (arith, low .ensures .0, low .ensures .1),
     )
-    refl
 
 pub head-in-spec : {M : Type 1} → statement M
 head-in-spec =

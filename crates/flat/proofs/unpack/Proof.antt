@@ -42,7 +42,7 @@ head-in-requires c κs = search needs
 
 loop-holds : tie.Need-loop-holds Inv-loop μ-loop
 unfolding withPairs pairsIn range
-loop-holds c = (omega arith, ap (λ (s : Session). length (s .pairs)) (c .head-in .ensures), c .head-in .ensures)
+loop-holds c = (omega arith, ap (λ (s : Session). length (s .pairs)) (c .head-in .ensures .0), c .head-in .ensures .0)
 
 pair-in-requires : tie.Need-pair-in-requires Inv-loop μ-loop
 pair-in-requires c κs = search needs
@@ -78,7 +78,7 @@ returns c =
     let l = c .before .before .before .before .args .l .now in
     let v = c .before .loop in
     let e : v .i ≡ 64 = omega (arith, v .inv .0, c .loop-test .left) in
-    v .inv .2 ∙ ap (λ (i : ℕ). withPairs l (pairsIn l i ++ drop i zeros)) e ∙ ap (withPairs l) (append-nil (pairsIn l 64))
+    (v .inv .2 ∙ ap (λ (i : ℕ). withPairs l (pairsIn l i ++ drop i zeros)) e ∙ ap (withPairs l) (append-nil (pairsIn l 64)), c .before .before .head-in .ensures .1)
 
 pub unpack-spec : {M : Type 1} → statement M
 unpack-spec =

@@ -8,7 +8,7 @@ use borrow.Author.Needs.{needs}
 use Rattle.rules.specs.declared.Step.{Step}
 use Rattle.rules.specs.Query.{wasGiven, takeUntilFinished}
 use Rattle.printing.specs.Put.{putAt}
-use Rattle.listing.proofs.Answers.{not-given}
+use Rattle.session.proofs.Answers.{not-given}
 use Rattle.listing.proofs.Taking.{left, none-out, all-out, pair-inside, next-long}
 use Rattle.lent_query.specs.Numbers.{listNumbers}
 use Rattle.lent_query.proofs.Steps.{turn, stopped}

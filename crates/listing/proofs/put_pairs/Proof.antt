@@ -13,7 +13,7 @@ use Rattle.rules.specs.Query.{wasGiven, takeUntilFinished, pairLines}
 use Rattle.printing.specs.Put.{putAt}
 use Rattle.printing.specs.Lines.{lineBytes}
 use Rattle.listing.specs.Inside.{Inside}
-use Rattle.listing.proofs.Answers.{not-given}
+use Rattle.session.proofs.Answers.{not-given}
 use Rattle.listing.proofs.Taking.{left, none-out, all-out, stopped, pair-inside, next-long, turn}
 use Rattle.listing.proofs.put_pairs.Statement.{statement}
 use Rattle.listing.proofs.put_pairs.Tie as tie

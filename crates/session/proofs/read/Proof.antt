@@ -7,7 +7,7 @@ use Rattle.checks.specs.Codes.{within}
 use borrow.Author.Needs.{needs}
 use Rattle.session.specs.Answers.{afterRead, read-asked, read-ends}
 use Rattle.session.proofs.Checked.{code-is, known, last-known}
-use Rattle.session.proofs.Other.{not-read}
+use Rattle.session.proofs.Answers.{not-read}
 use Rattle.session.proofs.read.Statement.{statement}
 use Rattle.session.proofs.read.Tie as tie
 

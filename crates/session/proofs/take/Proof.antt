@@ -13,7 +13,7 @@ use Rattle.checks.specs.Codes.{within}
 use borrow.Author.Needs.{needs}
 use Rattle.session.specs.Answers.{afterTake, take-asked, take-ends}
 use Rattle.session.proofs.Checked.{code-is, known}
-use Rattle.session.proofs.Other.{not-given}
+use Rattle.session.proofs.Answers.{not-given}
 use Rattle.session.proofs.take.Statement.{statement}
 use Rattle.session.proofs.take.Tie as tie
 

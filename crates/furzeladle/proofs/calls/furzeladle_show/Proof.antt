@@ -48,7 +48,7 @@ returns-3 c =
       simp (long, room),
       simp (long, room)
           (c .before .before .put-shown .ensures
-          ∙ ap (λ (r : Session). putIn (s .place .now) (shownNumbers (s .f .now) (s .t .now) r)) (c .before .before .before .before .unpack .ensures)),
+          ∙ ap (λ (r : Session). putIn (s .place .now) (shownNumbers (s .f .now) (s .t .now) r)) (c .before .before .before .before .unpack .ensures .0)),
     )
 
 pub furzeladle-show-spec : {M : Type 1} → statement M
