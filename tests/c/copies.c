@@ -89,7 +89,7 @@ int main(void)
     expect("read: refused by 4", read(4), -FURZELADLE_TABLE_SIZE, 3);
     expect("take: not yet", take(), FURZELADLE_NOT_YET, 3);
     reads(3, 1);
-    expect("read: a block meets 1, 16 pairs are near", read(4 * ROWS), FURZELADLE_DONE, 44);
+    expect("read: a block meets 1, 16 pairs are near", read(4 * ROWS), FURZELADLE_DONE, 42);
     reads(3, ROWS);
     expect("read: settled", read(4 * ROWS), FURZELADLE_SETTLED, 3);
     expect("show", furzeladle_show(field, 4 * ROWS, trim, 4 * ROWS, record, FURZELADLE_RECORD_SIZE, place, 3), FURZELADLE_DONE, 1);

@@ -27,17 +27,24 @@ skips full low x y = full && ltb (firstScore x + firstScore y) low
 pub record Effect (full : Bool) (low radius : ℕ) (x y : List ℤ) (r : ℕ) : Type 0 where
   pub skip : r ≡ 0 → skips full low x y ≡ true
   pub quiet : r ≡ 1 → (skips full low x y ≡ false) × (anyNear radius x y (rowCount x) ≡ false)
+  pub joined : r ≡ 2 → skips full low x y ≡ false
   pub most : r ≤ 2
 
 module _ (full : Bool) (low radius : ℕ) (x y : List ℤ) where
   pub effect-skip : skips full low x y ≡ true → Effect full low radius x y 0
-  effect-skip h = record { skip = λ e. h; quiet = λ e. absurd (omega (arith, e)); most = omega arith }
+  effect-skip h = record { skip = λ e. h; quiet = λ e. absurd (omega (arith, e)); joined = λ e. absurd (omega (arith, e)); most = omega arith }
 
   pub effect-quiet : skips full low x y ≡ false → anyNear radius x y (rowCount x) ≡ false → Effect full low radius x y 1
-  effect-quiet h k = record { skip = λ e. absurd (omega (arith, e)); quiet = λ e. (h, k); most = omega arith }
+  effect-quiet h k =
+      record { skip = λ e. absurd (omega (arith, e)); quiet = λ e. (h, k); joined = λ e. absurd (omega (arith, e)); most = omega arith }
 
-  pub effect-open : Effect full low radius x y 2
-  effect-open = record { skip = λ e. absurd (omega (arith, e)); quiet = λ e. absurd (omega (arith, e)); most = omega arith }
+  pub effect-open : skips full low x y ≡ false → Effect full low radius x y 2
+  effect-open h =
+      record { skip = λ e. absurd (omega (arith, e)); quiet = λ e. absurd (omega (arith, e)); joined = λ e. h; most = omega arith }
+
+-- a block pair is joined and counted
+abbrev pub joinedPair : Session → Block → Block → Session
+joinedPair s x y = holding s (bestHeld s (qualifying (s .query .radius) x y))
 
 -- so many block pairs more are joined
 unfoldable pub counted : Session → ℕ → Session
@@ -117,15 +124,25 @@ module _ (s : Session) (r : Ready s) where
           ap (λ (n : ℕ). ltb (firstScore (x .rows) + firstScore (y .rows)) n)
           (ap (λ (j : ℕ). getD (s .pairs) j noPair .sum) i ∙ sym (lowest-held s r fit some))
 
-  pub effect-counts : (x y : Block) (w : ℕ)
-      → Effect (eqb (s .out + s .held) (s .query .k)) (getD (s .pairs) ((s .held + 63) % 64) noPair .sum) (s .query .radius) (x .rows) (y .rows) w
-      → (w ≡ 2 → ⊥) → counted s w ≡ meet s x y
+  -- the code's numbers: whether k pairs are held or out, and the lowest held sum
+  abbrev pub EffectOn : Block → Block → ℕ → Type 0
+  EffectOn x y w =
+      Effect (eqb (s .out + s .held) (s .query .k)) (getD (s .pairs) ((s .held + 63) % 64) noPair .sum) (s .query .radius) (x .rows) (y .rows) w
+
+  abbrev met : Block → Block → Bool → Session
+  met x y skip = cond skip s (joinedPair s x y)
+
+  pub effect-joins : (x y : Block) (w : ℕ) → EffectOn x y w → w ≡ 2 → joinedPair s x y ≡ meet s x y
   unfolding meet
-  effect-counts x y zero f h = counted-none ∙ sym (ap (λ (b : Bool). cond b s (holding s (bestHeld s (qualifying (s .query .radius) x y)))) (sym (skips-is x y) ∙ f .skip refl))
+  effect-joins x y w f e = sym (ap (met x y) (sym (skips-is x y) ∙ f .joined e))
+
+  pub effect-counts : (x y : Block) (w : ℕ) → EffectOn x y w → (w ≡ 2 → ⊥) → counted s w ≡ meet s x y
+  unfolding meet
+  effect-counts x y zero f h = counted-none ∙ sym (ap (met x y) (sym (skips-is x y) ∙ f .skip refl))
   effect-counts x y (suc zero) f h =
       let q = f .quiet refl in
       sym
-      (ap (λ (b : Bool). cond b s (holding s (bestHeld s (qualifying (s .query .radius) x y)))) (sym (skips-is x y) ∙ q .0)
+      (ap (met x y) (sym (skips-is x y) ∙ q .0)
       ∙ ap (λ (l : List Pair). holding s (bestHeld s l)) (none-qualify (s .query .radius) x y (q .1))
       ∙ ap (holding s) same-held
       ∙ holding-same)

@@ -102,12 +102,6 @@ part-rows t a e h k l =
     length-take-le (4 * e - 4 * a) (drop (4 * a) t) (omega (arith, length-drop (4 * a) t)) in
     record { whole = omega arith; few = omega arith }
 
-pub part-long : (t : List ℤ) (a e : ℕ) → a < e → 4 * e ≤ length t → 4 ≤ length (take (4 * e - 4 * a) (drop (4 * a) t))
-part-long t a e h l =
-    let n : length (take (4 * e - 4 * a) (drop (4 * a) t)) ≡ 4 * e - 4 * a =
-    length-take-le (4 * e - 4 * a) (drop (4 * a) t) (omega (arith, length-drop (4 * a) t)) in
-    omega arith
-
 -- ---- A new block and an old one, as field and trim
 
 module _ (f t : List ℤ) (new old : Span) where

@@ -11,12 +11,12 @@ ghost use mathlib.Core.Bool.{false, cond};
 ghost use Prim.Native.Nat.{_+_, _*_, _-_, _≤_, _<_, _^_, min};
 ghost use lib.ListN.{length, take, drop};
 ghost use Rattle.rules.specs.Session.{settled};
-ghost use Rattle.rules.specs.Read.{scoreDrop, fieldNext, skipped, meet, meetBlocks, nextDepth, readTable, readBlock};
+ghost use Rattle.rules.specs.Read.{scoreDrop, fieldNext, meetBlocks, nextDepth, readTable, readBlock};
 ghost use Rattle.rules.specs.Calls.{newBlockCode};
 ghost use Rattle.laws.specs.Sizes.{Lent};
 ghost use Rattle.block.specs.Block.{at, Rows};
 ghost use Rattle.reading.specs.Ready.{Ready, LastHeld};
-ghost use Rattle.reading.specs.Effect.{Effect};
+ghost use Rattle.reading.specs.Effect.{Effect, joinedPair};
 ghost use Rattle.reading.specs.Side.{Inside, rowsOf, Due, downTo};
 
 // How far a table's score has dropped from its first row to the last row read.
@@ -84,35 +84,15 @@ pub fn is_settled(f: &[i32], t: &[i32], s: Session, last: Pair) -> bool
     ceiling::is_secured(f, t, s, last)
 }
 
-// Whether a block pair cannot change the pairs held: k are held or out, and its first scores add to less than the
-// lowest held sum.
-fn is_skipped(s: Session, x: &[i32], a: usize, y: &[i32], c: usize) -> bool
-    requires { ⌜ Ready s × (4 ≤ length (now x)) × (4 ≤ length (now y)) ⌝ }
-    ensures { λ r. ⌜ r ≡ skipped s (at a (now (x .entry))) (at c (now (y .entry))) ⌝ }
-{
-    if s.out + s.held != s.query.k {
-        return false;
-    }
-    let low = s.pairs[s.held as usize - 1];
-    let first = tables::score(x, 0);
-    let second = tables::score(y, 0);
-    first + second < low.sum
-}
-
-// One block pair, field and trim, a and c rows standing before them: skipped, or joined and counted.
-fn meet_pair(s: Session, x: &[i32], a: usize, y: &[i32], c: usize) -> Session
-    requires { ⌜ Ready s × (4 ≤ length (now x)) × (4 ≤ length (now y)) × (s .joined < 2 ^ 63) ⌝ }
+// One block pair, field and trim, a and c rows standing before them: joined and counted.
+fn join_pair(s: Session, x: &[i32], a: usize, y: &[i32], c: usize) -> Session
+    requires { ⌜ Ready s × (s .joined < 2 ^ 63) ⌝ }
     requires { ⌜ Rows a (now x) × Rows c (now y) ⌝ }
-    ensures { λ r. ⌜ r ≡ meet s (at a (now (x .entry))) (at c (now (y .entry))) ⌝ }
+    ensures { λ r. ⌜ r ≡ joinedPair s (at a (now (x .entry))) (at c (now (y .entry))) ⌝ }
 {
-    if is_skipped(s, x, a, y, c) {
-        return s;
-    }
+    let n = s.held as usize;
     let places = s.pairs;
-    let h = Held {
-        n: s.held as usize,
-        pairs: places,
-    };
+    let h = Held { n, pairs: places };
     let room = (s.query.k - s.out) as usize;
     let g = block::join(s.query.radius, room, x, a, y, c, h);
     let mut r = s;
@@ -141,21 +121,21 @@ fn either(first: bool, a: Span, b: Span) -> Span
     if first { a } else { b }
 }
 
-// Rows of the field table and rows of the trim table meet, each as a part of its table.
-fn meet_parts(s: Session, f: &[i32], x: Span, t: &[i32], y: Span) -> Session
+// Rows of the field table and rows of the trim table, each as a part of its table: joined and counted.
+fn join_parts(s: Session, f: &[i32], x: Span, t: &[i32], y: Span) -> Session
     requires { ⌜ Ready s × (s .joined < 2 ^ 63) ⌝ }
     requires { ⌜ Inside x (now f) × Inside y (now t) ⌝ }
-    ensures { λ r. ⌜ r ≡ meet s (rowsOf (now (f .entry)) x) (rowsOf (now (t .entry)) y) ⌝ }
+    ensures { λ r. ⌜ r ≡ joinedPair s (rowsOf (now (f .entry)) x) (rowsOf (now (t .entry)) y) ⌝ }
 {
     let i = 4 * x.from;
     let j = 4 * x.to;
     let k = 4 * y.from;
     let l = 4 * y.to;
-    meet_pair(s, &f[i..j], x.from, &t[k..l], y.from)
+    join_pair(s, &f[i..j], x.from, &t[k..l], y.from)
 }
 
-// What a block pair comes to: 0, it is skipped; 1, it is joined, and no pair of it qualifies; 2, it is to be looked at
-// pair by pair. Only small blocks are tried for 1. `full` says that k pairs are held or out, `low` is the lowest held sum.
+// What a block pair comes to: 0, it is skipped; 1, it is joined, and no pair of it qualifies; 2, it is joined, pair by
+// pair. Only small blocks are tried for 1. `full` says that k pairs are held or out, `low` is the lowest held sum.
 fn effect(full: bool, low: u32, radius: u32, x: &[i32], y: &[i32]) -> u64
     requires { ⌜ (4 ≤ length (now x)) × (4 ≤ length (now y)) ⌝ }
     ensures { λ r. ⌜ Effect full low radius (now (x .entry)) (now (y .entry)) r ⌝ }
@@ -215,7 +195,7 @@ fn meet_blocks(
         let low = r.pairs[last].sum;
         let w = effect_parts(full, low, r.query.radius, f, x, t, y);
         if w == 2 {
-            r = meet_parts(r, f, x, t, y);
+            r = join_parts(r, f, x, t, y);
         } else {
             r.joined = r.joined + w;
         }

@@ -4,43 +4,33 @@ use Rattle.reading.specs.Effect.{effect-skip, effect-quiet, effect-open}
 use borrow.Author.Needs.{needs}
 use Rattle.reading.proofs.effect.Statement.{statement}
 use Rattle.reading.proofs.effect.Tie as tie
-use Rattle.reading.proofs.effect.Reads as reads
-use Rattle.reading.proofs.effect.Lts as lts
-use Rattle.block.proofs.any_near.Reads as any-near-reads
-use Rattle.tables.proofs.score.Reads as score-reads
 
--- src/lib.rt:167:9
 score-requires : tie.Need-score-requires
 score-requires c κs = search needs
 
--- src/lib.rt:168:9
 score-requires-2 : tie.Need-score-requires-2
 score-requires-2 c κs = search needs
 
--- src/lib.rt:169:16
 add-if1 : tie.Need-add-if1
 add-if1 c = search needs
 
--- src/lib.rt:170:9
 returns : tie.Need-returns
 returns c =
     effect-skip (c .before .before .before .args .full) (c .before .before .before .args .low) (c .before .before .before .args .radius) (c .before .before .before .args .x .now) (c .before .before .before .args .y .now) (simp (c .before .before .score .ensures .0, c .before .score2 .ensures .0) at (c .if1 .taken))
 
--- src/lib.rt:173:9
 returns-2 : tie.Need-returns-2
 returns-2 c =
     effect-open (c .before .before .before .before .args .full) (c .before .before .before .before .args .low) (c .before .before .before .before .args .radius) (c .before .before .before .before .args .x .now) (c .before .before .before .before .args .y .now)
+    (simp (c .before .before .before .score .ensures .0, c .before .before .score2 .ensures .0) at (c .before .if1 .left))
 
--- src/lib.rt:175:8
 any-near-requires : tie.Need-any-near-requires
 any-near-requires c κs = search needs
 
--- src/lib.rt:176:9
 returns-3 : tie.Need-returns-3
 returns-3 c =
     effect-open (c .before .before .before .before .before .before .args .full) (c .before .before .before .before .before .before .args .low) (c .before .before .before .before .before .before .args .radius) (c .before .before .before .before .before .before .args .x .now) (c .before .before .before .before .before .before .args .y .now)
+    (simp (c .before .before .before .before .before .score .ensures .0, c .before .before .before .before .score2 .ensures .0) at (c .before .before .before .if1 .left))
 
--- src/lib.rt:163:1
 returns-4 : tie.Need-returns-4
 returns-4 c =
     effect-quiet (c .before .before .before .before .before .before .args .full) (c .before .before .before .before .before .before .args .low) (c .before .before .before .before .before .before .args .radius) (c .before .before .before .before .before .before .args .x .now) (c .before .before .before .before .before .before .args .y .now)

@@ -14,7 +14,7 @@ use Rattle.laws.specs.Read.{blocks-joined}
 use Rattle.reading.specs.declared.Span.{Span}
 use Rattle.reading.specs.Ready.{Ready}
 use Rattle.reading.specs.Side.{Inside, rowsOf}
-use Rattle.reading.specs.Effect.{counted, effect-counts}
+use Rattle.reading.specs.Effect.{counted, effect-joins, effect-counts}
 use Rattle.reading.specs.Meets.{blocks-ready, block-begins, block-next, blocks-next, inside-field, inside-trim, parts-meet}
 use Rattle.reading.proofs.meet_blocks.Statement.{statement}
 use Rattle.reading.proofs.meet_blocks.Tie as tie
@@ -128,8 +128,8 @@ element-copy-out-low c = omega arith
 effect-parts-requires : tie.Need-effect-parts-requires Inv-loop μ-loop
 effect-parts-requires c κs = inside c
 
-meet-parts-requires : tie.Need-meet-parts-requires Inv-loop μ-loop
-meet-parts-requires c κs =
+join-parts-requires : tie.Need-join-parts-requires Inv-loop μ-loop
+join-parts-requires c κs =
     ((ready (c .before .before .before .before .before .before), omega (arith, room (c .before .before .before .before .before))), inside (c .before .before))
 
 add-r : tie.Need-add-r Inv-loop μ-loop
@@ -159,7 +159,7 @@ loop-again c =
     let new = rowsOf (own start) (s .new) in
     let met : c .if1 .r ≡ meet (v .r) (rowsOf (s .f .now) (x .result)) (rowsOf (s .t .now) (y .result)) =
     ⊎-elim
-    (λ w. w .2 ∙ w .1 .ensures)
+    (λ w. w .2 ∙ w .1 .ensures ∙ effect-joins (v .r) (ready (c .before .before .before .before .before .before)) (rowsOf (s .f .now) (x .result)) (rowsOf (s .t .now) (y .result)) (c .before .effect-parts .result) (c .before .effect-parts .ensures) (w .0 .taken))
     (λ w. w .1 ∙ effect-counts (v .r) (ready (c .before .before .before .before .before .before)) (rowsOf (s .f .now) (x .result)) (rowsOf (s .t .now) (y .result)) (c .before .effect-parts .result) (c .before .effect-parts .ensures) (w .0 .left))
     (c .if1 .came) in
     let as-rule : c .if1 .r ≡ meet (v .r) (cond (s .field) new (rowsOf (other start) (old l))) (cond (s .field) (rowsOf (other start) (old l)) new) =
@@ -198,7 +198,7 @@ meet-blocks-spec =
     mul-low
     element-copy-out-low
     effect-parts-requires
-    meet-parts-requires
+    join-parts-requires
     add-r
     add-c
     add-i
