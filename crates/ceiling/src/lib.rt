@@ -3,8 +3,7 @@ use rules::Pair;
 use rules::Session;
 ghost use mathlib.Core.Path.{_≡_};
 ghost use mathlib.Core.Bool.{cond};
-ghost use Prim.Native.Nat.{_+_, _*_, _≤_, _<_, max};
-ghost use lib.ListN.{length};
+ghost use Prim.Native.Nat.{_+_, _<_, max};
 ghost use Rattle.rules.specs.Session.{ceiling, secured};
 ghost use Rattle.ceiling.specs.Reached.{Reached};
 

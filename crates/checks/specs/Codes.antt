@@ -48,8 +48,3 @@ lent-passed fits rows f t h =
     let a = first-none (unless fits badRecord) (first (sameSizeCode (rows .field .0) f) (sameSizeCode (rows .trim .0) t)) h in
     let b = first-none (sameSizeCode (rows .field .0) f) (sameSizeCode (rows .trim .0) t) (a .1) in
     (unless-passed fits badRecord refl (a .0), (same-size (rows .field .0) f (b .0), same-size (rows .trim .0) t (b .1)))
-
-pub call-passed : (fits : Bool) (rows depth : Counts) (f t : List ℤ) → eqb (callOf fits rows depth f t) 0 ≡ true → fits ≡ true
-unfolding callOf
-call-passed fits rows depth f t h =
-    lent-passed fits rows f t (first-none (lentOf fits rows f t) (first (rowsCode f 0 (depth .field .0)) (rowsCode t 0 (depth .trim .0))) h .0) .0

@@ -2,8 +2,7 @@
 use rules::Counts;
 ghost use mathlib.Core.Path.{_≡_};
 ghost use mathlib.Core.Bool.{true};
-ghost use Prim.Native.Nat.{_+_, _*_, _≤_, _<_, _/_, _%_};
-ghost use lib.ListN.{length};
+ghost use Prim.Native.Nat.{_<_, _/_, _%_};
 ghost use Rattle.rules.specs.Tables.{sizeFits};
 ghost use Rattle.rules.specs.Calls.{sameSizeCode};
 ghost use Rattle.checks.specs.Codes.{Within, lentOf, callOf};

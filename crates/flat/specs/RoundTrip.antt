@@ -1,11 +1,11 @@
 -- Laying out and taking back undo each other, whatever stands behind the record. Assumes nothing.
 use mathlib.Core.Path.{_≡_, refl, sym, ap, _∙_}
-use mathlib.Core.List.{List, [], _∷_, _++_, map, map-append, append-assoc, append-nil}
+use mathlib.Core.List.{List, [], _∷_, _++_, map, map-append}
 use Prim.Native.Nat.{ℕ, zero, suc, _+_, _*_, _/_, _%_, _≤_, _<_}
 use native.Mathlib.Omega.{arith}
 use native.Mathlib.Nat.{div-add-mod', add-mul-mod-self-right, add-mul-div-right, mod-eq-of-lt, div-eq-of-lt}
-use lib.ListN.{length, getD, take, drop, length-append, take-append-drop}
-use lib.Seq.{drop-cons, take-suc, take-all, take-add, take-at, drop-drop, getD-append-add}
+use lib.ListN.{length, getD, take, drop, take-append-drop}
+use lib.Seq.{drop-cons, take-suc, take-all, take-add, drop-drop, getD-append-add}
 use Rattle.lists.specs.Lists.{each, range}
 use Rattle.lists.specs.Appends.{each-append, range-end}
 use Rattle.rules.specs.declared.Pair.{Pair}

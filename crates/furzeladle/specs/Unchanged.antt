@@ -1,78 +1,42 @@
--- A refused read or take changes no lent number, a refused opening leaves zeros, and show's three numbers name the rows
--- that document 01's show returns. Assumes nothing.
-use mathlib.Core.Path.{_≡_, refl, sym, ap, _∙_}
+-- A read that reads nothing and a take that gives nothing change no lent number, a refused opening leaves zeros, and show's
+-- three numbers name the rows that document 01's show returns. Assumes nothing.
+use mathlib.Core.Path.{_≡_, refl, ap, _∙_}
 use mathlib.Core.Bool.{Bool, true, false, cond}
-use mathlib.Core.List.{List, [], _∷_, _++_}
+use mathlib.Core.List.{List, [], _∷_}
 use Prim.Native.Nat.{ℕ, _+_, _-_, _<_, _≤_}
 use native.Mathlib.Omega.{arith}
-use lib.Dec.{eqb, ltb}
+use lib.Dec.{eqb}
 use lib.IntN.{ℤ}
-use lib.ListN.{length, getD, drop, replicate}
-use borrow.Author.Tests.{le-ltb, eqb-true}
-use Rattle.rules.specs.declared.Answer.{Answer}
-use Rattle.rules.specs.declared.Answer.the-variants.{Refused, Opened, Read, Settled, Given, NotYet, Finished}
-use Rattle.rules.specs.declared.Query.{Query}
+use lib.ListN.{length, getD, replicate}
+use borrow.Author.Tests.{le-ltb}
 use Rattle.rules.specs.declared.Session.{Session}
-use Rattle.rules.specs.declared.Step.{Step}
 use Rattle.rules.specs.Tables.{part}
-use Rattle.rules.specs.Session.{zeros, opened, places, settled}
-use Rattle.rules.specs.Read.{readBlock}
-use Rattle.rules.specs.Take.{lastBlock, shownRows, givesPair, firstHeld, movedOut, finished}
-use Rattle.rules.specs.Calls.{step, lentCode, callCode, newBlockCode, openCode, openCall, readCall, takeCall, showCall}
-use Rattle.lists.specs.Bools.{clash}
+use Rattle.rules.specs.Session.{zeros, opened, places}
+use Rattle.rules.specs.Take.{lastBlock, shownRows}
+use Rattle.rules.specs.Query.{wasRead, wasGiven}
+use Rattle.rules.specs.Calls.{lentCode, readCall, takeCall, showCall}
+use Rattle.session.specs.Answers.{read-keeps, take-keeps}
 use Rattle.lists.specs.Lists.{each}
 use Rattle.flat.specs.Flat.{flatSize, word, flatPair, flatHead, flatten, unflatten}
 use Rattle.flat.specs.RoundTrip.{forth}
 use Rattle.furzeladle.specs.Calls.{laidIn, readLeaves, takeShort, takeLeaves, shownNumbers}
 
--- whether an answer is a refusal
-abbrev refused : Answer → Bool
-refused (Refused n) = true
-refused Opened = false
-refused Read = false
-refused Settled = false
-refused (Given p) = false
-refused NotYet = false
-refused Finished = false
-
--- a refused read and a refused take give back the record that they were given
-read-keeps : (f t : List ℤ) (s : Session) → refused (readCall f t s .answer) ≡ true → readCall f t s .session ≡ s
-unfolding readCall
-read-keeps f t s = go (eqb (callCode f t s) 0) (settled f t s) (eqb (newBlockCode f t s) 0)
-  where
-    go : (a b c : Bool)
-        → refused (cond a (cond b (step Settled s) (cond c (step Read (readBlock f t s)) (step (Refused (newBlockCode f t s)) s))) (step (Refused (callCode f t s)) s) .answer) ≡ true
-        → cond a (cond b (step Settled s) (cond c (step Read (readBlock f t s)) (step (Refused (newBlockCode f t s)) s))) (step (Refused (callCode f t s)) s) .session ≡ s
-    go false b c e = refl
-    go true true c e = refl
-    go true false true e = clash e refl
-    go true false false e = refl
-
-take-keeps : (f t : List ℤ) (s : Session) → refused (takeCall f t s .answer) ≡ true → takeCall f t s .session ≡ s
-unfolding takeCall
-take-keeps f t s = go (eqb (callCode f t s) 0) (givesPair f t s) (finished s)
-  where
-    go : (a b c : Bool)
-        → refused (cond a (cond b (step (Given (firstHeld s)) (movedOut s)) (cond c (step Finished s) (step NotYet s))) (step (Refused (callCode f t s)) s) .answer) ≡ true
-        → cond a (cond b (step (Given (firstHeld s)) (movedOut s)) (cond c (step Finished s) (step NotYet s))) (step (Refused (callCode f t s)) s) .session ≡ s
-    go false b c e = refl
-    go true true c e = clash e refl
-    go true false true e = refl
-    go true false false e = refl
-
--- so the lent slice is as it was; its number 10 is one of 32 bits
+-- A read that reads no block, and a take that gives no pair, lay out the record that stood there; the slice's number 10 is
+-- one of 32 bits. Refusals are such calls.
 module _ (f t : List ℤ) (l : List ℕ) (low : getD l 10 0 < word) (long : flatSize ≤ length l) where
-  pub read-changes-nothing : refused (readCall f t (unflatten l) .answer) ≡ true → readLeaves f t l ≡ l
-  unfolding readLeaves
-  read-changes-nothing e =
-      simp (le-ltb (length l) flatSize long)
-      (ap (laidIn l) (read-keeps f t (unflatten l) e) ∙ forth l long low)
+  pub read-same : wasRead (readCall f t (unflatten l) .answer) ≡ false → laidIn l (readCall f t (unflatten l) .session) ≡ l
+  read-same e = ap (laidIn l) (read-keeps f t (unflatten l) e) ∙ forth l long low
 
-  pub take-changes-nothing : (p : List ℕ) → 3 ≤ length p → refused (takeCall f t (unflatten l) .answer) ≡ true → takeLeaves f t l p ≡ l
+  pub take-same : wasGiven (takeCall f t (unflatten l) .answer) ≡ false → laidIn l (takeCall f t (unflatten l) .session) ≡ l
+  take-same e = ap (laidIn l) (take-keeps f t (unflatten l) e) ∙ forth l long low
+
+  pub read-changes-nothing : wasRead (readCall f t (unflatten l) .answer) ≡ false → readLeaves f t l ≡ l
+  unfolding readLeaves
+  read-changes-nothing e = simp (le-ltb (length l) flatSize long) (read-same e)
+
+  pub take-changes-nothing : (p : List ℕ) → 3 ≤ length p → wasGiven (takeCall f t (unflatten l) .answer) ≡ false → takeLeaves f t l p ≡ l
   unfolding takeLeaves takeShort
-  take-changes-nothing p room e =
-      simp (le-ltb (length l) flatSize long, le-ltb (length p) 3 room)
-      (ap (laidIn l) (take-keeps f t (unflatten l) e) ∙ forth l long low)
+  take-changes-nothing p room e = simp (le-ltb (length l) flatSize long, le-ltb (length p) 3 room) (take-same e)
 
 -- the record of a refused opening is 204 zeros
 pub zeros-flat : flatten zeros ≡ replicate flatSize 0

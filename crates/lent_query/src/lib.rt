@@ -1,5 +1,4 @@
 // One whole query over two lent tables, its answer written as numbers.
-use printing::Line;
 use rules::Answer;
 use rules::Pair;
 use rules::Query;

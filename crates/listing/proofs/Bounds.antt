@@ -1,29 +1,29 @@
 -- A pair that a take answers lies inside the tables. Assumes nothing.
-use mathlib.Core.Path.{_≡_, refl, sym, ap, subst, _∙_}
-use mathlib.Core.Bool.{Bool, true, false, cond, _&&_}
-use mathlib.Core.List.{List, [], _∷_, _++_}
+use mathlib.Core.Path.{_≡_, refl, subst}
+use mathlib.Core.Bool.{Bool, true, false, _&&_}
+use mathlib.Core.List.{List, [], _∷_}
 use Prim.Native.Nat.{ℕ, zero, suc, _+_, _*_, _-_, _≤_, _<_, _^_}
-use native.Mathlib.Nat.{not-suc-le-zero, mul-le-mul, zero-add}
+use native.Mathlib.Nat.{not-suc-le-zero, mul-le-mul}
 use native.Mathlib.Omega.{arith}
-use lib.Dec.{T, leb, ltb, eqb}
+use lib.Dec.{leb, ltb, eqb}
 use lib.IntN.{ℤ, pos, negsuc}
-use lib.Signed.{leZ, mag}
-use lib.ListN.{length, getD, take, drop, length-drop, length-append}
+use lib.Signed.{mag}
+use lib.ListN.{length, getD, take, length-drop, length-append}
 use borrow.Author.Tests.{leb-true, ltb-true, ltb-false}
 use Rattle.lists.specs.Lists.{every}
 use Rattle.rules.specs.declared.Pair.{Pair}
 use Rattle.rules.specs.declared.Shade.{Shade}
 use Rattle.rules.specs.declared.Session.{Session}
 use Rattle.rules.specs.Numbers.{first, unless, rowLimit, rowOrder}
-use Rattle.rules.specs.Tables.{num, row, within, inRange, rowInRange, rowInOrder, rowCount, gap, squaredDistance}
-use Rattle.rules.specs.Session.{noPair, heldPairs, secured}
+use Rattle.rules.specs.Tables.{num, row, within, inRange, rowInRange, rowInOrder, gap, squaredDistance}
+use Rattle.rules.specs.Session.{noPair, secured}
 use Rattle.rules.specs.Take.{firstHeld, givesPair, movedOut}
 use Rattle.rules.specs.Calls.{between, pairFits, rowCode, rowsCode, lentCode, callCode, takeCall}
 use Rattle.laws.specs.Bools.{and-left, and-right, first-none, unless-passed}
-use Rattle.laws.specs.Sizes.{Lent, call-lent}
+use Rattle.laws.specs.Sizes.{call-lent}
 use Rattle.laws.specs.Until.{Takes}
 use Rattle.distance.proofs.Gap.{gap-mag}
-use Rattle.listing.specs.Inside.{RowOf, Inside}
+use Rattle.listing.specs.Inside.{Inside}
 
 -- ---- Rows that are not refused
 

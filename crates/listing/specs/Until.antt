@@ -6,13 +6,12 @@ use Prim.Native.Nat.{ℕ, zero, suc, _+_, _-_, _≤_, _<_}
 use native.Mathlib.Omega.{arith}
 use lib.Dec.{ltb}
 use lib.IntN.{ℤ}
-use lib.ListN.{length}
 use borrow.Author.Tests.{ltb-true}
 use Rattle.rules.specs.declared.Pair.{Pair}
 use Rattle.rules.specs.declared.Query.{Query}
 use Rattle.rules.specs.declared.Session.{Session}
 use Rattle.rules.specs.declared.Answer.{Answer}
-use Rattle.rules.specs.declared.Answer.the-variants.{Refused, Opened, Read, Settled, Given, NotYet, Finished}
+use Rattle.rules.specs.declared.Answer.the-variants.{Given}
 use Rattle.rules.specs.Session.{secured}
 use Rattle.rules.specs.Take.{firstHeld, givesPair, movedOut}
 use Rattle.rules.specs.Calls.{openCall, readCall, takeCall}
@@ -20,7 +19,7 @@ use Rattle.rules.specs.Query.{wasRead, given, wasGiven, readUntilSettled, takeU
 use Rattle.laws.specs.Bools.{of-true, and-left}
 use Rattle.laws.specs.Record.{call-fits, record-fits}
 use Rattle.laws.specs.Read.{unreadRows, read-raises}
-use Rattle.laws.specs.Until.{Reads, read-cases, reads-end, Takes, take-cases, wanted, takes-end, list-bound}
+use Rattle.laws.specs.Until.{read-cases, reads-end, take-cases, wanted, takes-end, list-bound}
 
 -- a choice by a test that is known
 module _ {A : Type 0} (x y : A) where

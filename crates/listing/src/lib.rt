@@ -5,7 +5,7 @@ use rules::Pair;
 use rules::Query;
 use rules::Session;
 ghost use mathlib.Core.Path.{_≡_};
-ghost use Prim.Native.Nat.{_+_, _*_, _-_, _≤_, _<_, _^_};
+ghost use Prim.Native.Nat.{_+_, _*_, _-_, _≤_, _<_};
 ghost use lib.ListN.{length};
 ghost use Rattle.rules.specs.Tables.{row, squaredDistance};
 ghost use Rattle.rules.specs.Query.{wasRead, takeUntilFinished, settledSession, pairLines, listing};

@@ -1,5 +1,5 @@
 -- Which elements a ranked list has, which its front leaves out, and how many distinct ones there can be. Assumes a strict order where it says so.
-use mathlib.Core.Path.{_≡_, refl, sym, ap, ap₂, _∙_}
+use mathlib.Core.Path.{_≡_, refl, sym, ap, _∙_}
 use mathlib.Core.Bool.{Bool, true, false, cond}
 use mathlib.Core.List.{List, [], _∷_, List·Memᴰ, List·Memᴰ·head, List·Memᴰ·tail, List·Memᴰ·cases-cons, List·Memᴰ·not-nil, Memᴰ·cast}
 use mathlib.Core.Logic.{_⊎_, inl, inr, ⊎-elim, _↔_}
@@ -113,43 +113,6 @@ module _ {A : Type 0} (ahead : A → A → Bool) (order : Strict ahead) where
   ranked-distinct (x ∷ l) h =
       let not-later : List·Memᴰ x l → ⊥ = λ m. let e : ahead x x ≡ true = all-at (λ y. ahead x y ≡ true) x (ranked-first x l h) m in clash e (order .asym x x e) in
       (not-later, ranked-distinct l (ranked-rest x l h))
-
-  same-first : (x y : A) (l m : List A) → ranked ahead (x ∷ l) ≡ true → ranked ahead (y ∷ m) ≡ true → List·Memᴰ x (y ∷ m) → List·Memᴰ y (x ∷ l) → x ≡ y
-  same-first x y l m r s h k = ⊎-elim (λ e. e) (λ i. ⊎-elim sym (λ j. clash (all-at (λ z. ahead x z ≡ true) y (ranked-first x l r) j) (order .asym y x (all-at (λ z. ahead y z ≡ true) x (ranked-first y m s) i))) (List·Memᴰ·cases-cons k)) (List·Memᴰ·cases-cons h)
-
-  -- an element of l that is in y ∷ m is in m, x being y and not in l
-  later : (z x : A) (l : List A) (y : A) (m : List A) → (List·Memᴰ x l → ⊥) → x ≡ y → List·Memᴰ z l → List·Memᴰ z (y ∷ m) → List·Memᴰ z m
-  later z x l y m n e k h = ⊎-elim (λ f. absurd (n (Memᴰ·cast (e ∙ sym f) k))) (λ j. j) (List·Memᴰ·cases-cons h)
-
-  -- ranked lists are known by their elements
-  pub ranked-ext : (l m : List A) → ranked ahead l ≡ true → ranked ahead m ≡ true → ((x : A) → List·Memᴰ x l ↔ List·Memᴰ x m) → l ≡ m
-  ranked-ext [] [] r s h = refl
-  ranked-ext [] (y ∷ m) r s h = absurd (List·Memᴰ·not-nil (h y .1 (List·Memᴰ·head refl)))
-  ranked-ext (x ∷ l) [] r s h = absurd (List·Memᴰ·not-nil (h x .0 (List·Memᴰ·head refl)))
-  ranked-ext (x ∷ l) (y ∷ m) r s h =
-      let e : x ≡ y = same-first x y l m r s (h x .0 (List·Memᴰ·head refl)) (h y .1 (List·Memᴰ·head refl)) in
-      ap₂ (λ a b. a ∷ b) e (ranked-ext l m (ranked-rest x l r) (ranked-rest y m s) (λ z. (λ k. later z x l y m (ranked-distinct (x ∷ l) r .0) e k (h z .0 (List·Memᴰ·tail k)), λ k. later z y m x l (ranked-distinct (y ∷ m) s .0) (sym e) k (h z .1 (List·Memᴰ·tail k)))))
-
-  -- lists without repeats that have the same elements are ranked alike
-  pub sort-ext : (l m : List A) → Distinct l → Distinct m → ((x : A) → List·Memᴰ x l ↔ List·Memᴰ x m) → sort ahead l ≡ sort ahead m
-  sort-ext l m d e h = ranked-ext (sort ahead l) (sort ahead m) (sort-ranked l d) (sort-ranked m e) (λ x. (λ k. mem-sort ahead x m .1 (h x .0 (mem-sort ahead x l .0 k)), λ k. mem-sort ahead x l .1 (h x .1 (mem-sort ahead x m .0 k))))
-
-  ordered-out : (n : ℕ) (x : A) (l : List A) → Ordered ahead l → List·Memᴰ x l → (List·Memᴰ x (take n l) → ⊥) → (length (take n l) ≡ n) × ((y : A) → List·Memᴰ y (take n l) → ahead y x ≡ true)
-  ordered-out zero x l o m out = (refl, λ y k. absurd (List·Memᴰ·not-nil k))
-  ordered-out (suc n) x [] o m out = absurd (List·Memᴰ·not-nil m)
-  ordered-out (suc n) x (z ∷ l) o m out =
-      let r = ordered-out n x l (o .1) within (λ k. out (List·Memᴰ·tail k)) in
-      (ap suc (r .0), λ y k. ⊎-elim (λ e. rw e ahead-of) (r .1 y) (List·Memᴰ·cases-cons k))
-    where
-      within : List·Memᴰ x l
-      within = ⊎-elim (λ e. absurd (out (List·Memᴰ·head e))) (λ k. k) (List·Memᴰ·cases-cons m)
-
-      ahead-of : ahead z x ≡ true
-      ahead-of = apart z x (all-at (λ y. ahead y z ≡ false) x (o .0) within) (λ e. out (List·Memᴰ·head (sym e)))
-
-  -- what the best n leave out: they are n, and each stands ahead of it
-  pub left-out : (n : ℕ) (x : A) (l : List A) → List·Memᴰ x l → (List·Memᴰ x (take n (sort ahead l)) → ⊥) → (length (take n (sort ahead l)) ≡ n) × ((y : A) → List·Memᴰ y (take n (sort ahead l)) → ahead y x ≡ true)
-  left-out n x l m out = ordered-out n x (sort ahead l) (sort-ordered ahead order l) (mem-sort ahead x l .1 m) out
 
 -- Fronts
 

@@ -1,6 +1,6 @@
 -- The steps of the program and the whole. Assumes nothing.
 use mathlib.Core.Path.{_≡_, refl, sym, ap, subst, _∙_}
-use mathlib.Core.Bool.{Bool, true, false, cond, _&&_, not}
+use mathlib.Core.Bool.{true, false, _&&_}
 use mathlib.Core.List.{List, [], _∷_, _++_}
 use mathlib.Core.Logic.{⊎-elim}
 use Prim.Native.Nat.{ℕ, _+_, _*_, _≤_}
@@ -11,26 +11,25 @@ use lib.Dec.{leb, ltb, eqb}
 use lib.IntN.{ℤ, pos}
 use lib.ListN.{length, take, drop}
 use lib.Seq.{take-at}
-use borrow.Author.Tests.{le-ltb, eqb-true}
+use borrow.Author.Tests.{le-ltb}
 use Rattle.rules.proofs.Answer as Answers
 use Rattle.rules.proofs.Loaded as Loads
 use Rattle.rules.specs.declared.Loaded.{Loaded}
 use Rattle.rules.specs.declared.Loaded.the-variants.{Rows, Unfit}
-use Rattle.rules.specs.declared.Query.{Query}
 use Rattle.rules.specs.declared.Answer.{Answer}
 use Rattle.rules.specs.declared.Answer.the-variants.{Refused, Opened, Read, Settled, Given, NotYet, Finished}
 use Rattle.rules.specs.Tables.{natOf}
 use Rattle.rules.specs.Numbers.{number}
-use Rattle.rules.specs.File.{columns, columnFits, columnNumber, endsLine, fileCount, fileTable, checkFile, andSlice, loadedInto, loadAnswer, loadNumbers, loadedCode}
+use Rattle.rules.specs.File.{columns, columnFits, columnNumber, endsLine, fileTable, checkFile, andSlice, loadedInto, loadAnswer, loadNumbers, loadedCode}
 use Rattle.rules.specs.Query.{programFileCode, inputQuery, tableOf, refusalLine, wholeQuery}
 use Rattle.laws.specs.Bools.{and-left, and-right}
 use Rattle.file.specs.declared.Column.{Column}
 use Rattle.file.specs.Column.{columnHeld}
 use Rattle.file.proofs.Head.{number-held}
 use Rattle.file_laws.specs.Table.{table-length}
-use Rattle.printing.specs.Put.{putAt, put-front}
+use Rattle.printing.specs.Put.{put-front}
 use Rattle.query.specs.declared.Input.{Input}
-use Rattle.query.specs.Program.{Written, orRefusal, refusal-none, refusal-some, programFile, program-code, Small, program-rows, Numbered, program-numbered, inputFits, inputHeld, inputBytes, whole-is}
+use Rattle.query.specs.Program.{Written, orRefusal, refusal-none, refusal-some, programFile, program-code, program-rows, Numbered, program-numbered, inputFits, inputHeld, inputBytes, whole-is}
 
 -- ---- A file
 

@@ -1,7 +1,7 @@
 -- What the pairing program prints on accepted input: the best pairs of the two files' tables. Assumes nothing.
 use mathlib.Core.Path.{_≡_, refl, sym, ap, subst, _∙_}
-use mathlib.Core.Bool.{Bool, true, false, cond}
-use mathlib.Core.List.{List, [], _∷_, _++_, map, List·Memᴰ}
+use mathlib.Core.Bool.{true}
+use mathlib.Core.List.{List, map, List·Memᴰ}
 use Prim.Native.Nat.{ℕ, _+_, _-_, _≤_, max}
 use lib.Dec.{eqb}
 use lib.IntN.{ℤ, pos}
@@ -17,10 +17,10 @@ use Rattle.rules.specs.declared.Query.{Query}
 use Rattle.rules.specs.Tables.{legal}
 use Rattle.rules.specs.Numbers.{first}
 use Rattle.rules.specs.Calls.{queryCode, sizeCode, openCode}
-use Rattle.rules.specs.File.{fileCount, fileTable, loadedCode}
+use Rattle.rules.specs.File.{fileTable, loadedCode}
 use Rattle.rules.specs.Query.{list, listing, settledSession, programFileCode, inputCode, inputQuery, tableOf, refusalLine, wholeQueryCode, wholeQuery}
 use Rattle.rules.specs.Sure.{Sure, qualifyingSums}
-use Rattle.laws.specs.Bools.{of-true, first-none}
+use Rattle.laws.specs.Bools.{first-none}
 use Rattle.file_laws.specs.Legal.{accepted-legal}
 use Rattle.instance.specs.Pairs.{Fits}
 use Rattle.instance.specs.WholeList.{list-best, list-listed}

@@ -9,7 +9,7 @@ use rules::TrimRows;
 ghost use mathlib.Core.Path.{_≡_};
 ghost use mathlib.Core.Bool.{false, cond};
 ghost use Prim.Native.Nat.{_+_, _*_, _-_, _≤_, _<_, _^_, min};
-ghost use lib.ListN.{length, take, drop};
+ghost use lib.ListN.{length};
 ghost use Rattle.rules.specs.Session.{settled};
 ghost use Rattle.rules.specs.Read.{scoreDrop, fieldNext, meetBlocks, nextDepth, readTable, readBlock};
 ghost use Rattle.rules.specs.Calls.{newBlockCode};

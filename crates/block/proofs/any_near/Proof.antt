@@ -1,6 +1,6 @@
 -- `any_near` meets its contract: after i turns the first i rows are looked at. Assumes nothing.
 use mathlib.Core.Path.{_≡_, refl, ap, _∙_}
-use Prim.Native.Nat.{ℕ, _+_, _*_, _-_, _≤_, _<_, _/_}
+use Prim.Native.Nat.{_-_, _≤_, _/_}
 use native.Mathlib.Numerals.{add-one}
 use native.Mathlib.Omega.{arith}
 use lib.ListN.{length}
@@ -8,9 +8,6 @@ use borrow.Author.Needs.{needs}
 use Rattle.block.specs.Near.{anyNear}
 use Rattle.block.proofs.any_near.Statement.{statement}
 use Rattle.block.proofs.any_near.Tie as tie
-use Rattle.block.proofs.any_near.Reads as reads
-use Rattle.block.proofs.any_near.Lts as lts
-use Rattle.block.proofs.row_near.Reads as row-near-reads
 
 abbrev Inv-loop : tie.InvT-loop
 Inv-loop radius x y m seen₀ i₀ seen i = (i ≤ m) × (m ≡ length x / 4) × (seen ≡ anyNear radius x y i)
@@ -18,29 +15,23 @@ Inv-loop radius x y m seen₀ i₀ seen i = (i ≤ m) × (m ≡ length x / 4) ×
 abbrev μ-loop : tie.MeasureT-loop
 μ-loop radius x y m seen₀ i₀ seen i = m - i
 
--- src/lib.rt:49:5
 loop-holds : tie.Need-loop-holds Inv-loop μ-loop
 unfolding anyNear
 loop-holds c = (search needs, refl, refl)
 
--- src/lib.rt:50:13
 row-near-requires : tie.Need-row-near-requires Inv-loop μ-loop
 row-near-requires c κs = omega arith
 
--- src/lib.rt:52:9
 add-i : tie.Need-add-i Inv-loop μ-loop
 add-i c = omega arith
 
--- src/lib.rt:49:5
 loop-less : tie.Need-loop-less Inv-loop μ-loop
 loop-less c = omega arith
 
--- src/lib.rt:49:5
 loop-again : tie.Need-loop-again Inv-loop μ-loop
 unfolding anyNear
 loop-again c = (search needs, refl, rw add-one (cc))
 
--- src/lib.rt:43:1
 returns : tie.Need-returns Inv-loop μ-loop
 returns c =
     let s = c .before .before in

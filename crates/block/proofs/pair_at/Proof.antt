@@ -4,47 +4,34 @@ use Rattle.rules.specs.Tables.{pairAt, pairSum}
 use borrow.Author.Needs.{needs}
 use Rattle.block.proofs.pair_at.Statement.{statement}
 use Rattle.block.proofs.pair_at.Tie as tie
-use Rattle.block.proofs.pair_at.Reads as reads
-use Rattle.block.proofs.pair_at.Lts as lts
-use Rattle.tables.proofs.score.Reads as score-reads
 
--- src/lib.rt:27:9
 score-requires : tie.Need-score-requires
 score-requires c κs = search needs
 
--- src/lib.rt:28:9
 score-requires-2 : tie.Need-score-requires-2
 score-requires-2 c κs = search needs
 
--- src/lib.rt:30:14
 add-t9 : tie.Need-add-t9
 add-t9 c = search needs
 
--- src/lib.rt:31:17
 add-t10 : tie.Need-add-t10
 add-t10 c = search needs
 
--- src/lib.rt:31:17
 add-t11 : tie.Need-add-t11
 add-t11 c = search needs
 
--- src/lib.rt:31:16
 cast-t12 : tie.Need-cast-t12
 cast-t12 c = search needs
 
--- src/lib.rt:32:16
 add-t13 : tie.Need-add-t13
 add-t13 c = search needs
 
--- src/lib.rt:32:16
 add-t14 : tie.Need-add-t14
 add-t14 c = search needs
 
--- src/lib.rt:32:15
 cast-t15 : tie.Need-cast-t15
 cast-t15 c = search needs
 
--- src/lib.rt:23:1
 returns : tie.Need-returns
 unfolding pairAt pairSum
 returns c = simp (c .before .score .ensures .0, c .score2 .ensures .0) refl

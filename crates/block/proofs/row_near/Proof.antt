@@ -1,6 +1,6 @@
 -- `row_near` meets its contract: after j turns the first j rows are looked at. Assumes nothing.
 use mathlib.Core.Path.{_≡_, refl, ap, _∙_}
-use Prim.Native.Nat.{ℕ, _+_, _*_, _-_, _≤_, _<_, _/_}
+use Prim.Native.Nat.{_-_, _≤_, _/_}
 use native.Mathlib.Numerals.{add-one}
 use native.Mathlib.Omega.{arith}
 use lib.ListN.{length}
@@ -8,9 +8,6 @@ use borrow.Author.Needs.{needs}
 use Rattle.block.specs.Near.{rowNear}
 use Rattle.block.proofs.row_near.Statement.{statement}
 use Rattle.block.proofs.row_near.Tie as tie
-use Rattle.block.proofs.row_near.Reads as reads
-use Rattle.block.proofs.row_near.Lts as lts
-use Rattle.block.proofs.near.Reads as near-reads
 
 abbrev Inv-loop : tie.InvT-loop
 Inv-loop radius x i y n seen₀ j₀ seen j = (j ≤ n) × (n ≡ length y / 4) × (seen ≡ rowNear radius x y i j)
@@ -18,29 +15,23 @@ Inv-loop radius x i y n seen₀ j₀ seen j = (j ≤ n) × (n ≡ length y / 4) 
 abbrev μ-loop : tie.MeasureT-loop
 μ-loop radius x i y n seen₀ j₀ seen j = n - j
 
--- src/lib.rt:34:5
 loop-holds : tie.Need-loop-holds Inv-loop μ-loop
 unfolding rowNear
 loop-holds c = (search needs, refl, refl)
 
--- src/lib.rt:35:13
 near-requires : tie.Need-near-requires Inv-loop μ-loop
 near-requires c κs = omega arith
 
--- src/lib.rt:37:9
 add-j : tie.Need-add-j Inv-loop μ-loop
 add-j c = omega arith
 
--- src/lib.rt:34:5
 loop-less : tie.Need-loop-less Inv-loop μ-loop
 loop-less c = omega arith
 
--- src/lib.rt:34:5
 loop-again : tie.Need-loop-again Inv-loop μ-loop
 unfolding rowNear
 loop-again c = (search needs, refl, rw add-one (cc))
 
--- src/lib.rt:27:1
 returns : tie.Need-returns Inv-loop μ-loop
 returns c =
     let s = c .before .before in

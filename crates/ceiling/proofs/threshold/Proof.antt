@@ -3,11 +3,6 @@ use Rattle.rules.specs.Session.{ceiling}
 use borrow.Author.Needs.{needs}
 use Rattle.ceiling.proofs.threshold.Statement.{statement}
 use Rattle.ceiling.proofs.threshold.Tie as tie
-use Rattle.ceiling.proofs.threshold.Reads as reads
-use Rattle.ceiling.proofs.threshold.Lts as lts
-use Rattle.ceiling.proofs.higher.Reads as higher-reads
-use Rattle.ceiling.proofs.pick.Reads as pick-reads
-use Rattle.tables.proofs.score.Reads as score-reads
 
 score-requires : tie.Need-score-requires
 score-requires c κs = search needs

@@ -4,9 +4,6 @@ use Rattle.rules.specs.Calls.{sameSizeCode}
 use borrow.Author.Needs.{needs}
 use Rattle.checks.proofs.same_size_code.Statement.{statement}
 use Rattle.checks.proofs.same_size_code.Tie as tie
-use Rattle.checks.proofs.same_size_code.Reads as reads
-use Rattle.checks.proofs.same_size_code.Lts as lts
-use Rattle.checks.proofs.size_fits.Reads as size-fits-reads
 
 size-fits-requires : tie.Need-size-fits-requires
 size-fits-requires c κs = search needs

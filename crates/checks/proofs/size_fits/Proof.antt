@@ -3,8 +3,6 @@ use mathlib.Core.Path.{refl}
 use Rattle.rules.specs.Tables.{sizeFits}
 use Rattle.checks.proofs.size_fits.Statement.{statement}
 use Rattle.checks.proofs.size_fits.Tie as tie
-use Rattle.checks.proofs.size_fits.Reads as reads
-use Rattle.checks.proofs.size_fits.Lts as lts
 
 returns : tie.Need-returns
 unfolding sizeFits

@@ -5,44 +5,34 @@ use lib.Signed.{leZ}
 use Rattle.distance.proofs.Gap as G
 use Rattle.distance.proofs.apart.Statement.{statement}
 use Rattle.distance.proofs.apart.Tie as tie
-use Rattle.distance.proofs.apart.Reads as reads
-use Rattle.distance.proofs.apart.Lts as lts
 
 other : (c : tie.Else1) → leZ (G.wide (c .before .args .x)) (G.wide (c .before .args .y)) ≡ true
 other c = G.total (G.wide (c .before .args .x)) (G.wide (c .before .args .y)) (c .if1 .left)
 
--- src/lib.rt:11:13
 cast-a : tie.Need-cast-a
 cast-a c = G.fits-wide (c .args .x) (c .fits .x)
 
--- src/lib.rt:12:13
 cast-b : tie.Need-cast-b
 cast-b c = G.fits-wide (c .args .y) (c .fits .y)
 
--- src/lib.rt:14:17
 sub-result : tie.Need-sub-result
 sub-result c = G.sub-fits (c .before .args .x) (c .before .args .y) (c .before .fits .x) (c .before .fits .y) (c .if1 .taken)
 
--- src/lib.rt:14:16
 cast-result : tie.Need-cast-result
 cast-result c = G.cast-fits (c .before .args .x) (c .before .args .y) (c .before .fits .x) (c .before .fits .y) (c .if1 .taken)
 
--- src/lib.rt:14:9
 returns : tie.Need-returns
 returns c =
     let s = c .before in
     rw (G.cast-is (s .args .x) (s .args .y) (s .fits .x) (s .fits .y) (c .if1 .taken))
     (refl, G.gap-below (s .args .x) (s .args .y) (s .fits .x) (s .fits .y))
 
--- src/lib.rt:16:6
 sub-result-2 : tie.Need-sub-result-2
 sub-result-2 c = G.sub-fits (c .before .args .y) (c .before .args .x) (c .before .fits .y) (c .before .fits .x) (other c)
 
--- src/lib.rt:16:5
 cast-result-2 : tie.Need-cast-result-2
 cast-result-2 c = G.cast-fits (c .before .args .y) (c .before .args .x) (c .before .fits .y) (c .before .fits .x) (other c)
 
--- src/lib.rt:8:1
 returns-2 : tie.Need-returns-2
 returns-2 c =
     let s = c .before in

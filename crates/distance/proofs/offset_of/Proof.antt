@@ -3,19 +3,13 @@ use Rattle.distance.proofs.Gap as G
 use borrow.Author.Needs.{needs}
 use Rattle.distance.proofs.offset_of.Statement.{statement}
 use Rattle.distance.proofs.offset_of.Tie as tie
-use Rattle.distance.proofs.offset_of.Reads as reads
-use Rattle.distance.proofs.offset_of.Lts as lts
-use Rattle.distance.proofs.apart.Reads as apart-reads
 
--- src/lib.rt:28:9
 apart-requires : tie.Need-apart-requires
 apart-requires c κs = search needs
 
--- src/lib.rt:29:9
 apart-requires-2 : tie.Need-apart-requires-2
 apart-requires-2 c κs = search needs
 
--- src/lib.rt:25:1
 returns : tie.Need-returns
 returns c = (
   G.gap-of-passed _ _ _ (c .before .before .before .before .before .struct-told .given .0 .1) (c .before .before .before .before .struct-told2 .given .0 .1) (c .before .before .before .apart .ensures .0),

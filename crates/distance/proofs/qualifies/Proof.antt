@@ -5,40 +5,30 @@ use Rattle.distance.proofs.Square as S
 use borrow.Author.Needs.{needs}
 use Rattle.distance.proofs.qualifies.Statement.{statement}
 use Rattle.distance.proofs.qualifies.Tie as tie
-use Rattle.distance.proofs.qualifies.Reads as reads
-use Rattle.distance.proofs.qualifies.Lts as lts
-use Rattle.distance.proofs.offset_of.Reads as offset-of-reads
 
--- src/lib.rt:51:9
 offset-of-requires : tie.Need-offset-of-requires
 offset-of-requires c κs = search needs
 
--- src/lib.rt:53:9
 returns : tie.Need-returns
 returns c =
     let s = c .before .before .before .args in
     let d = c .before .before .offset-of in
     S.too-far (s .x) (s .y) (d .result .a) (d .result .b) (d .ensures .0) (d .ensures .1) (s .radius) (c .if1 .taken)
 
--- src/lib.rt:55:5
 mul-result : tie.Need-mul-result
 mul-result c = let d = c .before .before .before .offset-of in S.square-fits (d .result .b) (d .ensures .3)
 
--- src/lib.rt:55:18
 mul-result-2 : tie.Need-mul-result-2
 mul-result-2 c =
     let s = c .before .before .before .before in
     S.square-fits (s .args .radius) (omega (arith, s .fits .radius))
 
--- src/lib.rt:55:26
 mul-result-3 : tie.Need-mul-result-3
 mul-result-3 c = let d = c .before .before .before .before .offset-of in S.square-fits (d .result .a) (d .ensures .2)
 
--- src/lib.rt:55:18
 sub-result : tie.Need-sub-result
 sub-result c = S.square-le (c .before .before .if1 .left)
 
--- src/lib.rt:47:1
 returns-2 : tie.Need-returns-2
 returns-2 c =
     let s = c .before .before .before .before .before .args in

@@ -4,42 +4,32 @@ use Rattle.distance.proofs.Square as S
 use borrow.Author.Needs.{needs}
 use Rattle.distance.proofs.squared_distance.Statement.{statement}
 use Rattle.distance.proofs.squared_distance.Tie as tie
-use Rattle.distance.proofs.squared_distance.Reads as reads
-use Rattle.distance.proofs.squared_distance.Lts as lts
-use Rattle.distance.proofs.offset_of.Reads as offset-of-reads
 
--- src/lib.rt:37:9
 offset-of-requires : tie.Need-offset-of-requires
 offset-of-requires c κs = search needs
 
--- src/lib.rt:38:14
 mul-aa : tie.Need-mul-aa
 mul-aa c = let d = c .before .offset-of in S.square-fits (d .result .a) (d .ensures .2)
 
--- src/lib.rt:39:14
 mul-bb : tie.Need-mul-bb
 mul-bb c = let d = c .before .before .offset-of in S.square-fits (d .result .b) (d .ensures .3)
 
--- src/lib.rt:40:14
 sub-if1 : tie.Need-sub-if1
 sub-if1 c =
     let d = c .before .before .offset-of in
     omega (arith, S.square-fits (d .result .a) (d .ensures .2))
 
--- src/lib.rt:41:16
 add-result : tie.Need-add-result
 add-result c =
     let d = c .before .before .before .offset-of in
     record { fits = omega (arith, S.square-fits (d .result .a) (d .ensures .2)) }
 
--- src/lib.rt:41:9
 returns : tie.Need-returns
 returns c =
     let s = c .before .before .before .before .args in
     let d = c .before .before .before .offset-of in
     S.sum-is (s .x) (s .y) (d .result .a) (d .result .b) (d .ensures .0) (d .ensures .1) (d .ensures .2) (c .if1 .taken)
 
--- src/lib.rt:34:1
 returns-2 : tie.Need-returns-2
 returns-2 c =
     let s = c .before .before .before .before .args in

@@ -1,7 +1,6 @@
 -- `and_room` meets its contract: 11 is asked last. Assumes nothing.
 use mathlib.Core.Path.{_≡_, sym, ap, _∙_}
 use mathlib.Core.Bool.{Bool, true, false, _&&_}
-use borrow.Author.Tests.{not-true}
 use Rattle.file.specs.Held.{passes}
 use Rattle.file.proofs.Ends.{short-room, other-room}
 use borrow.Author.Needs.{needs}

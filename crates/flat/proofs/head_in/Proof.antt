@@ -5,10 +5,6 @@ use Rattle.flat.specs.Flat.{withPairs}
 use borrow.Author.Needs.{needs}
 use Rattle.flat.proofs.head_in.Statement.{statement}
 use Rattle.flat.proofs.head_in.Tie as tie
-use Rattle.flat.proofs.head_in.Reads as reads
-use Rattle.flat.proofs.head_in.Lts as lts
-use Rattle.flat.proofs.query_in.Reads as query-in-reads
-use Rattle.flat.proofs.wide.Reads as wide-reads
 
 query-in-requires : tie.Need-query-in-requires
 query-in-requires c κs = search needs

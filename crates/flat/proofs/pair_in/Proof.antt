@@ -4,58 +4,43 @@ use Rattle.flat.specs.Flat.{pairIn}
 use borrow.Author.Needs.{needs}
 use Rattle.flat.proofs.pair_in.Statement.{statement}
 use Rattle.flat.proofs.pair_in.Tie as tie
-use Rattle.flat.proofs.pair_in.Reads as reads
-use Rattle.flat.proofs.pair_in.Lts as lts
 
--- src/lib.rt:36:21
 mul-t3 : tie.Need-mul-t3
 mul-t3 c = search needs
 
--- src/lib.rt:36:16
 add-t4 : tie.Need-add-t4
 add-t4 c = search needs
 
--- src/lib.rt:36:14
 mul-t5 : tie.Need-mul-t5
 mul-t5 c = search needs
 
--- src/lib.rt:36:14
 shared-slice-read-t7 : tie.Need-shared-slice-read-t7
 shared-slice-read-t7 c = search needs
 
--- src/lib.rt:37:23
 mul-t8 : tie.Need-mul-t8
 mul-t8 c = search needs
 
--- src/lib.rt:37:18
 add-t9 : tie.Need-add-t9
 add-t9 c = search needs
 
--- src/lib.rt:37:16
 mul-t10 : tie.Need-mul-t10
 mul-t10 c = search needs
 
--- src/lib.rt:37:16
 shared-slice-read-t12 : tie.Need-shared-slice-read-t12
 shared-slice-read-t12 c = search needs
 
--- src/lib.rt:38:22
 mul-t13 : tie.Need-mul-t13
 mul-t13 c = search needs
 
--- src/lib.rt:38:17
 add-t14 : tie.Need-add-t14
 add-t14 c = search needs
 
--- src/lib.rt:38:15
 mul-t15 : tie.Need-mul-t15
 mul-t15 c = search needs
 
--- src/lib.rt:38:15
 shared-slice-read-t17 : tie.Need-shared-slice-read-t17
 shared-slice-read-t17 c = search needs
 
--- src/lib.rt:31:1
 returns : tie.Need-returns
 unfolding pairIn
 returns c = refl

@@ -8,58 +8,43 @@ use Rattle.flat.proofs.Places.{plus-1, plus-2, plus-3}
 use borrow.Author.Needs.{needs}
 use Rattle.flat.proofs.put_four.Statement.{statement}
 use Rattle.flat.proofs.put_four.Tie as tie
-use Rattle.flat.proofs.put_four.Reads as reads
-use Rattle.flat.proofs.put_four.Lts as lts
 
--- src/lib.rt:102:5
 mul-out : tie.Need-mul-out
 mul-out c = search needs
 
--- src/lib.rt:102:5
 slice-write-out : tie.Need-slice-write-out
 slice-write-out c = search needs
 
--- src/lib.rt:103:9
 add-out : tie.Need-add-out
 add-out c = search needs
 
--- src/lib.rt:103:5
 mul-out-2 : tie.Need-mul-out-2
 mul-out-2 c = search needs
 
--- src/lib.rt:103:5
 slice-write-out-2 : tie.Need-slice-write-out-2
 slice-write-out-2 c = simp length-set (omega arith)
 
--- src/lib.rt:104:9
 add-out-2 : tie.Need-add-out-2
 add-out-2 c = search needs
 
--- src/lib.rt:104:5
 mul-out-3 : tie.Need-mul-out-3
 mul-out-3 c = search needs
 
--- src/lib.rt:104:5
 slice-write-out-3 : tie.Need-slice-write-out-3
 slice-write-out-3 c = simp length-set (omega arith)
 
--- src/lib.rt:105:9
 add-out-3 : tie.Need-add-out-3
 add-out-3 c = search needs
 
--- src/lib.rt:105:5
 mul-out-4 : tie.Need-mul-out-4
 mul-out-4 c = search needs
 
--- src/lib.rt:105:5
 slice-write-out-4 : tie.Need-slice-write-out-4
 slice-write-out-4 c = simp length-set (omega arith)
 
--- src/lib.rt:98:1
 same-length : tie.Need-same-length
 same-length c = search needs
 
--- src/lib.rt:98:1
 returns : tie.Need-returns
 returns c =
     let s = c .args in

@@ -8,35 +8,25 @@ use Rattle.flat.proofs.Places.{onto}
 use borrow.Author.Needs.{needs}
 use Rattle.flat.proofs.put_head.Statement.{statement}
 use Rattle.flat.proofs.put_head.Tie as tie
-use Rattle.flat.proofs.put_head.Reads as reads
-use Rattle.flat.proofs.put_head.Lts as lts
-use Rattle.flat.proofs.put_four.Reads as put-four-reads
 
--- src/lib.rt:123:15
 cast-low : tie.Need-cast-low
 cast-low c = search needs
 
--- src/lib.rt:124:16
 cast-high : tie.Need-cast-high
 cast-high c = search needs
 
--- src/lib.rt:125:5
 put-four-requires : tie.Need-put-four-requires
 put-four-requires c κs = search needs
 
--- src/lib.rt:126:5
 put-four-requires-2 : tie.Need-put-four-requires-2
 put-four-requires-2 c κs = search needs
 
--- src/lib.rt:127:5
 put-four-requires-3 : tie.Need-put-four-requires-3
 put-four-requires-3 c κs = search needs
 
--- src/lib.rt:119:1
 same-length : tie.Need-same-length
 same-length c = search needs
 
--- src/lib.rt:119:1
 returns : tie.Need-returns
 unfolding flatHead
 returns c =

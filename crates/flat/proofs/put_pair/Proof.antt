@@ -9,46 +9,34 @@ use Rattle.flat.proofs.Places.{plus-1, plus-2}
 use borrow.Author.Needs.{needs}
 use Rattle.flat.proofs.put_pair.Statement.{statement}
 use Rattle.flat.proofs.put_pair.Tie as tie
-use Rattle.flat.proofs.put_pair.Reads as reads
-use Rattle.flat.proofs.put_pair.Lts as lts
 
--- src/lib.rt:113:5
 mul-out : tie.Need-mul-out
 mul-out c = search needs
 
--- src/lib.rt:113:5
 slice-write-out : tie.Need-slice-write-out
 slice-write-out c = search needs
 
--- src/lib.rt:114:9
 add-out : tie.Need-add-out
 add-out c = search needs
 
--- src/lib.rt:114:5
 mul-out-2 : tie.Need-mul-out-2
 mul-out-2 c = search needs
 
--- src/lib.rt:114:5
 slice-write-out-2 : tie.Need-slice-write-out-2
 slice-write-out-2 c = simp length-set (omega arith)
 
--- src/lib.rt:115:9
 add-out-2 : tie.Need-add-out-2
 add-out-2 c = search needs
 
--- src/lib.rt:115:5
 mul-out-3 : tie.Need-mul-out-3
 mul-out-3 c = search needs
 
--- src/lib.rt:115:5
 slice-write-out-3 : tie.Need-slice-write-out-3
 slice-write-out-3 c = simp length-set (omega arith)
 
--- src/lib.rt:109:1
 same-length : tie.Need-same-length
 same-length c = search needs
 
--- src/lib.rt:109:1
 returns : tie.Need-returns
 unfolding flatPair
 returns c =

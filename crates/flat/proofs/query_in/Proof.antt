@@ -4,22 +4,16 @@ use Rattle.flat.specs.Flat.{queryIn}
 use borrow.Author.Needs.{needs}
 use Rattle.flat.proofs.query_in.Statement.{statement}
 use Rattle.flat.proofs.query_in.Tie as tie
-use Rattle.flat.proofs.query_in.Reads as reads
-use Rattle.flat.proofs.query_in.Lts as lts
 
--- src/lib.rt:24:12
 shared-slice-read-t3 : tie.Need-shared-slice-read-t3
 shared-slice-read-t3 c = search needs
 
--- src/lib.rt:25:16
 shared-slice-read-t5 : tie.Need-shared-slice-read-t5
 shared-slice-read-t5 c = search needs
 
--- src/lib.rt:26:17
 shared-slice-read-t7 : tie.Need-shared-slice-read-t7
 shared-slice-read-t7 c = search needs
 
--- src/lib.rt:19:1
 returns : tie.Need-returns
 unfolding queryIn
 returns c = refl

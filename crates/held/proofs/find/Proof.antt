@@ -10,9 +10,6 @@ use Rattle.rules.specs.Tables.{ahead}
 use Rattle.held.specs.Held.{place}
 use Rattle.held.proofs.find.Statement.{statement}
 use Rattle.held.proofs.find.Tie as tie
-use Rattle.held.proofs.find.Reads as reads
-use Rattle.held.proofs.find.Lts as lts
-use Rattle.held.proofs.is_ahead.Reads as is-ahead-reads
 
 abbrev zero-pair : Pair
 zero-pair = record { sum = 0; field = 0; trim = 0 }

@@ -3,10 +3,7 @@ use mathlib.Core.Path.{refl}
 use Rattle.rules.specs.Tables.{ahead}
 use Rattle.held.proofs.is_ahead.Statement.{statement}
 use Rattle.held.proofs.is_ahead.Tie as tie
-use Rattle.held.proofs.is_ahead.Reads as reads
-use Rattle.held.proofs.is_ahead.Lts as lts
 
--- src/lib.rt:16:1
 returns : tie.Need-returns
 unfolding ahead
 returns c = refl

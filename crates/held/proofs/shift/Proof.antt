@@ -10,8 +10,6 @@ use lib.ListN.{length, take, drop, length-set}
 use Rattle.held.specs.Held.{putAt}
 use Rattle.held.proofs.shift.Statement.{statement}
 use Rattle.held.proofs.shift.Tie as tie
-use Rattle.held.proofs.shift.Reads as reads
-use Rattle.held.proofs.shift.Lts as lts
 
 abbrev zero-pair : Pair
 zero-pair = record { sum = 0; field = 0; trim = 0 }

@@ -1,5 +1,5 @@
 -- `code_of` meets its contract. Assumes nothing.
-use mathlib.Core.Path.{_≡_, sym, ap, _∙_}
+use mathlib.Core.Path.{_≡_, ap, _∙_}
 use borrow.Author.Tests.{eq-eqb, ne-eqb}
 use Rattle.rules.specs.declared.Step.{Step}
 use Rattle.rules.specs.declared.Session.{Session}
@@ -10,11 +10,6 @@ use Rattle.lent_query.specs.Numbers.{lentCode}
 use borrow.Author.Needs.{needs}
 use Rattle.lent_query.proofs.code_of.Statement.{statement}
 use Rattle.lent_query.proofs.code_of.Tie as tie
-use Rattle.lent_query.proofs.code_of.Reads as reads
-use Rattle.lent_query.proofs.code_of.Lts as lts
-use Rattle.query.proofs.number_of.Reads as number-of-reads
-use Rattle.session.proofs.read.Reads as read-reads
-use Rattle.session.proofs.start.Reads as start-reads
 
 start-requires : tie.Need-start-requires
 start-requires c κs = search needs

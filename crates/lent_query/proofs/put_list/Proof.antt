@@ -3,10 +3,6 @@ use Rattle.lent_query.proofs.Steps.{list-put}
 use borrow.Author.Needs.{needs}
 use Rattle.lent_query.proofs.put_list.Statement.{statement}
 use Rattle.lent_query.proofs.put_list.Tie as tie
-use Rattle.lent_query.proofs.put_list.Reads as reads
-use Rattle.lent_query.proofs.put_list.Lts as lts
-use Rattle.lent_query.proofs.put_pairs.Reads as put-pairs-reads
-use Rattle.lent_query.proofs.put_three.Reads as put-three-reads
 
 cast-put-three : tie.Need-cast-put-three
 cast-put-three c = search needs

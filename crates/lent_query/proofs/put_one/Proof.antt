@@ -4,8 +4,6 @@ use Rattle.printing.specs.Put.{put-one}
 use borrow.Author.Needs.{needs}
 use Rattle.lent_query.proofs.put_one.Statement.{statement}
 use Rattle.lent_query.proofs.put_one.Tie as tie
-use Rattle.lent_query.proofs.put_one.Reads as reads
-use Rattle.lent_query.proofs.put_one.Lts as lts
 
 mul-out : tie.Need-mul-out
 mul-out c = search needs

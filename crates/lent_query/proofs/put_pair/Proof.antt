@@ -3,10 +3,6 @@ use Rattle.lent_query.proofs.Steps.{pair-put}
 use borrow.Author.Needs.{needs}
 use Rattle.lent_query.proofs.put_pair.Statement.{statement}
 use Rattle.lent_query.proofs.put_pair.Tie as tie
-use Rattle.lent_query.proofs.put_pair.Reads as reads
-use Rattle.lent_query.proofs.put_pair.Lts as lts
-use Rattle.lent_query.proofs.put_three.Reads as put-three-reads
-use Rattle.listing.proofs.line_of.Reads as line-of-reads
 
 add-b : tie.Need-add-b
 add-b c = search needs

@@ -1,7 +1,6 @@
 -- `put_pairs` meets its contract: the numbers written and those of the pairs still to come are the list's. Assumes nothing.
 use mathlib.Core.Path.{_≡_, refl, sym, ap, _∙_}
-use mathlib.Core.List.{List, [], _∷_}
-use Prim.Native.Nat.{ℕ, _+_, _*_, _-_, _≤_, _<_}
+use Prim.Native.Nat.{_+_, _*_, _-_, _≤_, _<_}
 use native.Mathlib.Omega.{arith}
 use lib.ListN.{length, length-map}
 use borrow.Author.Needs.{needs}
@@ -14,10 +13,6 @@ use Rattle.lent_query.specs.Numbers.{listNumbers}
 use Rattle.lent_query.proofs.Steps.{turn, stopped}
 use Rattle.lent_query.proofs.put_pairs.Statement.{statement}
 use Rattle.lent_query.proofs.put_pairs.Tie as tie
-use Rattle.lent_query.proofs.put_pairs.Reads as reads
-use Rattle.lent_query.proofs.put_pairs.Lts as lts
-use Rattle.lent_query.proofs.put_pair.Reads as put-pair-reads
-use Rattle.session.proofs.take.Reads as take-reads
 
 abbrev Inv-loop : tie.InvT-loop
 Inv-loop out₀ f t left₀ n₀ out s n =

@@ -3,9 +3,6 @@ use Rattle.lent_query.proofs.Steps.{then-one}
 use borrow.Author.Needs.{needs}
 use Rattle.lent_query.proofs.put_three.Statement.{statement}
 use Rattle.lent_query.proofs.put_three.Tie as tie
-use Rattle.lent_query.proofs.put_three.Reads as reads
-use Rattle.lent_query.proofs.put_three.Lts as lts
-use Rattle.lent_query.proofs.put_one.Reads as put-one-reads
 
 add-b : tie.Need-add-b
 add-b c = search needs

@@ -3,9 +3,6 @@ use Rattle.lent_query.specs.Numbers.{queryOf}
 use borrow.Author.Needs.{needs}
 use Rattle.lent_query.proofs.read_query.Statement.{statement}
 use Rattle.lent_query.proofs.read_query.Tie as tie
-use Rattle.lent_query.proofs.read_query.Reads as reads
-use Rattle.lent_query.proofs.read_query.Lts as lts
-use Rattle.lent_query.proofs.number_at.Reads as number-at-reads
 
 number-at-requires : tie.Need-number-at-requires
 number-at-requires c κs = search needs

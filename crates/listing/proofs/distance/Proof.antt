@@ -1,15 +1,11 @@
 -- `distance` meets its contract: the squared distance of rows inside their ranges is no more than 64 bits hold. Assumes nothing.
-use mathlib.Core.Path.{_≡_, sym, ap, _∙_}
+use mathlib.Core.Path.{_≡_}
 use Prim.Native.Nat.{_-_, _<_, _^_, min}
 use native.Mathlib.Omega.{arith}
 use Rattle.rules.specs.Tables.{row, squaredDistance}
 use borrow.Author.Needs.{needs}
 use Rattle.listing.proofs.distance.Statement.{statement}
 use Rattle.listing.proofs.distance.Tie as tie
-use Rattle.listing.proofs.distance.Reads as reads
-use Rattle.listing.proofs.distance.Lts as lts
-use Rattle.distance.proofs.squared_distance.Reads as squared-distance-reads
-use Rattle.tables.proofs.shade.Reads as shade-reads
 
 sub-shade : tie.Need-sub-shade
 sub-shade c = search needs

@@ -3,10 +3,6 @@ use Rattle.listing.specs.Inside.{lineOf}
 use borrow.Author.Needs.{needs}
 use Rattle.listing.proofs.line_of.Statement.{statement}
 use Rattle.listing.proofs.line_of.Tie as tie
-use Rattle.listing.proofs.line_of.Reads as reads
-use Rattle.listing.proofs.line_of.Lts as lts
-use Rattle.listing.proofs.distance.Reads as distance-reads
-use Rattle.listing.proofs.pattern.Reads as pattern-reads
 
 pattern-requires : tie.Need-pattern-requires
 pattern-requires c κs = search needs

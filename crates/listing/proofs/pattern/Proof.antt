@@ -1,5 +1,5 @@
 -- `pattern` meets its contract: the number itself, or 0 where it is below. Assumes nothing.
-use mathlib.Core.Path.{_≡_, sym, ap, _∙_}
+use mathlib.Core.Path.{_≡_, ap, _∙_}
 use Prim.Native.Nat.{ℕ, _+_, _-_, _*_}
 use native.Mathlib.Omega.{arith}
 use lib.IntN.{pos}
@@ -12,8 +12,6 @@ use Rattle.tables.proofs.Nat as N
 use borrow.Author.Needs.{needs}
 use Rattle.listing.proofs.pattern.Statement.{statement}
 use Rattle.listing.proofs.pattern.Tie as tie
-use Rattle.listing.proofs.pattern.Reads as reads
-use Rattle.listing.proofs.pattern.Lts as lts
 
 sub-o : tie.Need-sub-o
 sub-o c = search needs

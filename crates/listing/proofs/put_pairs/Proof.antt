@@ -1,27 +1,16 @@
 -- `put_pairs` meets its contract: the lines written and those of the pairs still to come are the list's. Assumes nothing.
 use mathlib.Core.Path.{_≡_, refl, sym, ap, _∙_}
-use mathlib.Core.List.{List, [], _∷_}
 use Prim.Native.Nat.{ℕ, _+_, _*_, _-_, _≤_, _<_}
 use native.Mathlib.Omega.{arith}
 use lib.ListN.{length, length-map}
 use borrow.Author.Needs.{needs}
-use Rattle.rules.specs.declared.Pair.{Pair}
 use Rattle.rules.specs.declared.Step.{Step}
-use Rattle.rules.specs.declared.Answer.the-variants.{Given}
-use Rattle.rules.specs.Calls.{takeCall}
 use Rattle.rules.specs.Query.{wasGiven, takeUntilFinished, pairLines}
 use Rattle.printing.specs.Put.{putAt}
-use Rattle.printing.specs.Lines.{lineBytes}
-use Rattle.listing.specs.Inside.{Inside}
 use Rattle.session.proofs.Answers.{not-given}
 use Rattle.listing.proofs.Taking.{left, none-out, all-out, stopped, pair-inside, next-long, turn}
 use Rattle.listing.proofs.put_pairs.Statement.{statement}
 use Rattle.listing.proofs.put_pairs.Tie as tie
-use Rattle.listing.proofs.put_pairs.Reads as reads
-use Rattle.listing.proofs.put_pairs.Lts as lts
-use Rattle.listing.proofs.line_of.Reads as line-of-reads
-use Rattle.printing.proofs.put_line.Reads as put-line-reads
-use Rattle.session.proofs.take.Reads as take-reads
 
 abbrev Inv-loop : tie.InvT-loop
 Inv-loop out₀ at f t left₀ n₀ out s n =

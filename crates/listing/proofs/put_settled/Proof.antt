@@ -4,11 +4,6 @@ use Rattle.listing.proofs.Taking.{listing-put}
 use borrow.Author.Needs.{needs}
 use Rattle.listing.proofs.put_settled.Statement.{statement}
 use Rattle.listing.proofs.put_settled.Tie as tie
-use Rattle.listing.proofs.put_settled.Reads as reads
-use Rattle.listing.proofs.put_settled.Lts as lts
-use Rattle.listing.proofs.put_pairs.Reads as put-pairs-reads
-use Rattle.printing.proofs.put_last.Reads as put-last-reads
-use Rattle.printing.proofs.put_query.Reads as put-query-reads
 
 put-query-requires : tie.Need-put-query-requires
 put-query-requires c κs = search needs

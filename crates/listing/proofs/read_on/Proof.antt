@@ -1,6 +1,6 @@
 -- `read_on` meets its contract: the rows that are not read yet become fewer. Assumes nothing.
 use mathlib.Core.Path.{_≡_, refl, sym, ap, _∙_}
-use mathlib.Core.Bool.{true, false, not}
+use mathlib.Core.Bool.{true, not}
 use borrow.Author.Needs.{needs}
 use borrow.Author.Tests.{not-true, not-false}
 use Rattle.rules.specs.declared.Step.{Step}
@@ -10,10 +10,6 @@ use Rattle.laws.specs.Read.{unreadRows}
 use Rattle.listing.specs.Until.{readOn, fewer, read-more, read-ends}
 use Rattle.listing.proofs.read_on.Statement.{statement}
 use Rattle.listing.proofs.read_on.Tie as tie
-use Rattle.listing.proofs.read_on.Reads as reads
-use Rattle.listing.proofs.read_on.Lts as lts
-use Rattle.listing.proofs.was_read.Reads as was-read-reads
-use Rattle.session.proofs.read.Reads as read-reads
 
 abbrev Inv-loop : tie.InvT-loop
 Inv-loop f t at₀ at = readOn f t at ≡ readOn f t at₀

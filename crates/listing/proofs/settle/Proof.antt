@@ -1,14 +1,10 @@
 -- `settle` meets its contract. Assumes nothing.
-use mathlib.Core.Path.{_≡_, ap, _∙_}
+use mathlib.Core.Path.{ap, _∙_}
 use Rattle.rules.specs.declared.Step.{Step}
 use Rattle.listing.specs.Until.{readOn, settled-on}
 use borrow.Author.Needs.{needs}
 use Rattle.listing.proofs.settle.Statement.{statement}
 use Rattle.listing.proofs.settle.Tie as tie
-use Rattle.listing.proofs.settle.Reads as reads
-use Rattle.listing.proofs.settle.Lts as lts
-use Rattle.listing.proofs.read_on.Reads as read-on-reads
-use Rattle.session.proofs.start.Reads as start-reads
 
 start-requires : tie.Need-start-requires
 start-requires c κs = search needs

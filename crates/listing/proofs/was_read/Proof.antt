@@ -4,8 +4,6 @@ use Rattle.session.proofs.Answers.{not-read}
 use borrow.Author.Needs.{needs}
 use Rattle.listing.proofs.was_read.Statement.{statement}
 use Rattle.listing.proofs.was_read.Tie as tie
-use Rattle.listing.proofs.was_read.Reads as reads
-use Rattle.listing.proofs.was_read.Lts as lts
 
 enum-told : tie.Need-enum-told
 enum-told c = search needs

@@ -4,8 +4,6 @@ use Rattle.printing.specs.Lines.{lastColumn}
 use borrow.Author.Needs.{needs}
 use Rattle.printing.proofs.last_column.Statement.{statement}
 use Rattle.printing.proofs.last_column.Tie as tie
-use Rattle.printing.proofs.last_column.Reads as reads
-use Rattle.printing.proofs.last_column.Lts as lts
 
 add-result : tie.Need-add-result
 add-result c = search needs

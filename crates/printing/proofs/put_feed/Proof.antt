@@ -4,8 +4,6 @@ use Rattle.printing.specs.Put.{put-one}
 use borrow.Author.Needs.{needs}
 use Rattle.printing.proofs.put_feed.Statement.{statement}
 use Rattle.printing.proofs.put_feed.Tie as tie
-use Rattle.printing.proofs.put_feed.Reads as reads
-use Rattle.printing.proofs.put_feed.Lts as lts
 
 slice-write-out : tie.Need-slice-write-out
 slice-write-out c = search needs

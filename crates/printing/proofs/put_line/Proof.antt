@@ -1,14 +1,8 @@
 -- `put_line` meets its contract: its numbers one behind the other. Assumes nothing.
-use mathlib.Core.Path.{_≡_, _∙_}
-use native.Mathlib.Omega.{arith}
 use Rattle.printing.specs.Lines.{lineBytes, then}
 use borrow.Author.Needs.{needs}
 use Rattle.printing.proofs.put_line.Statement.{statement}
 use Rattle.printing.proofs.put_line.Tie as tie
-use Rattle.printing.proofs.put_line.Reads as reads
-use Rattle.printing.proofs.put_line.Lts as lts
-use Rattle.printing.proofs.put_feed.Reads as put-feed-reads
-use Rattle.printing.proofs.put_number.Reads as put-number-reads
 
 add-b : tie.Need-add-b
 add-b c = search needs

@@ -1,20 +1,15 @@
 -- `put_number` meets its contract: the columns written so far stand behind what is left of the number. Assumes nothing.
 use mathlib.Core.Path.{_≡_, refl, sym, ap, _∙_}
-use mathlib.Core.Bool.{Bool, true, false, cond, _&&_, not}
-use mathlib.Core.List.{List, [], _∷_, _++_}
-use Prim.Native.Nat.{ℕ, zero, suc, _+_, _-_, _≤_, _<_, _/_}
+use mathlib.Core.List.{List}
+use Prim.Native.Nat.{ℕ, suc, _-_, _≤_}
 use native.Mathlib.Omega.{arith}
-use lib.Dec.{ltb}
-use lib.ListN.{length, length-set, set}
+use lib.ListN.{length, length-set}
 use borrow.Author.Needs.{needs}
 use Rattle.rules.specs.Query.{decimal}
 use Rattle.printing.specs.Put.{putAt, put-none}
 use Rattle.printing.specs.Lines.{left, none-left, one-column}
 use Rattle.printing.proofs.put_number.Statement.{statement}
 use Rattle.printing.proofs.put_number.Tie as tie
-use Rattle.printing.proofs.put_number.Reads as reads
-use Rattle.printing.proofs.put_number.Lts as lts
-use Rattle.printing.proofs.last_column.Reads as last-column-reads
 
 abbrev Inv-loop : tie.InvT-loop
 Inv-loop out₀ at width n more₀ rest₀ w₀ out more rest w =

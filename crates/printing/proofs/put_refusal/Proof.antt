@@ -1,15 +1,9 @@
 -- `put_refusal` meets its contract: its numbers one behind the other. Assumes nothing.
-use mathlib.Core.Path.{_≡_, _∙_}
-use native.Mathlib.Omega.{arith}
 use Rattle.rules.specs.Query.{refusalLine}
 use Rattle.printing.specs.Lines.{then}
 use borrow.Author.Needs.{needs}
 use Rattle.printing.proofs.put_refusal.Statement.{statement}
 use Rattle.printing.proofs.put_refusal.Tie as tie
-use Rattle.printing.proofs.put_refusal.Reads as reads
-use Rattle.printing.proofs.put_refusal.Lts as lts
-use Rattle.printing.proofs.put_feed.Reads as put-feed-reads
-use Rattle.printing.proofs.put_number.Reads as put-number-reads
 
 put-number-requires : tie.Need-put-number-requires
 put-number-requires c κs = search needs

@@ -1,6 +1,5 @@
 -- `load_table` meets its contract. Assumes nothing.
 use mathlib.Core.Path.{_≡_}
-use mathlib.Core.Bool.{true, false}
 use lib.Dec.{leb}
 use lib.ListN.{length}
 use mir.Facts.{toZ-ofZ}
@@ -10,9 +9,6 @@ use Rattle.query.proofs.Steps.{too-long, load-small}
 use borrow.Author.Needs.{needs}
 use Rattle.query.proofs.load_table.Statement.{statement}
 use Rattle.query.proofs.load_table.Tie as tie
-use Rattle.query.proofs.load_table.Reads as reads
-use Rattle.query.proofs.load_table.Lts as lts
-use Rattle.file.proofs.load.Reads as load-reads
 
 returns : tie.Need-returns
 returns c =

@@ -3,8 +3,6 @@ use Rattle.query.proofs.Steps.{not-refused}
 use borrow.Author.Needs.{needs}
 use Rattle.query.proofs.number_of.Statement.{statement}
 use Rattle.query.proofs.number_of.Tie as tie
-use Rattle.query.proofs.number_of.Reads as reads
-use Rattle.query.proofs.number_of.Lts as lts
 
 enum-known-a : tie.Need-enum-known-a
 enum-known-a c = search needs

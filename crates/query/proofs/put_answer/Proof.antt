@@ -9,12 +9,6 @@ use Rattle.query.proofs.Steps.{written-as, refused-as, passed-as}
 use borrow.Author.Needs.{needs}
 use Rattle.query.proofs.put_answer.Statement.{statement}
 use Rattle.query.proofs.put_answer.Tie as tie
-use Rattle.query.proofs.put_answer.Reads as reads
-use Rattle.query.proofs.put_answer.Lts as lts
-use Rattle.listing.proofs.put_listing.Reads as put-listing-reads
-use Rattle.query.proofs.number_of.Reads as number-of-reads
-use Rattle.query.proofs.refuse.Reads as refuse-reads
-use Rattle.session.proofs.start.Reads as start-reads
 
 start-requires : tie.Need-start-requires
 start-requires c κs = search needs

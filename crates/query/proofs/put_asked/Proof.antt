@@ -8,11 +8,6 @@ use Rattle.query.proofs.Steps.{written-as, refused-as, passed-as}
 use borrow.Author.Needs.{needs}
 use Rattle.query.proofs.put_asked.Statement.{statement}
 use Rattle.query.proofs.put_asked.Tie as tie
-use Rattle.query.proofs.put_asked.Reads as reads
-use Rattle.query.proofs.put_asked.Lts as lts
-use Rattle.query.proofs.put_answer.Reads as put-answer-reads
-use Rattle.query.proofs.read_input.Reads as read-input-reads
-use Rattle.query.proofs.refuse.Reads as refuse-reads
 
 read-input-requires : tie.Need-read-input-requires
 read-input-requires c κs = search needs

@@ -1,6 +1,6 @@
 -- `put_whole` meets its contract: the checks in document 01's order, then the listing. Assumes nothing.
 use mathlib.Core.Path.{_≡_, sym, ap, _∙_}
-use Prim.Native.Nat.{_*_, _≤_}
+use Prim.Native.Nat.{_*_}
 use native.Mathlib.Omega.{arith}
 use lib.ListN.{length, take, length-replicate}
 use lib.IntN.{pos}
@@ -11,12 +11,6 @@ use Rattle.query.proofs.Steps.{table-front, field-unfit, trim-unfit, fi
 use borrow.Author.Needs.{needs}
 use Rattle.query.proofs.put_whole.Statement.{statement}
 use Rattle.query.proofs.put_whole.Tie as tie
-use Rattle.query.proofs.put_whole.Reads as reads
-use Rattle.query.proofs.put_whole.Lts as lts
-use Rattle.query.proofs.code_of.Reads as code-of-reads
-use Rattle.query.proofs.load_table.Reads as load-table-reads
-use Rattle.query.proofs.put_asked.Reads as put-asked-reads
-use Rattle.query.proofs.refuse.Reads as refuse-reads
 
 slice-aggregate-load-table : tie.Need-slice-aggregate-load-table
 slice-aggregate-load-table c = search needs

@@ -1,6 +1,5 @@
 -- `read_input` meets its contract. Assumes nothing.
-use mathlib.Core.Path.{_≡_}
-use mathlib.Core.Bool.{true, false, _&&_}
+use mathlib.Core.Bool.{_&&_}
 use mir.Syntax.{w32}
 use mir.Facts.{toZ-ofZ}
 use borrow.Author.Tests.{eq-eqb, ne-eqb, not-true, not-false}
@@ -10,10 +9,6 @@ use Rattle.query.proofs.Steps.{input-bad, input-good}
 use borrow.Author.Needs.{needs}
 use Rattle.query.proofs.read_input.Statement.{statement}
 use Rattle.query.proofs.read_input.Tie as tie
-use Rattle.query.proofs.read_input.Reads as reads
-use Rattle.query.proofs.read_input.Lts as lts
-use Rattle.file.proofs.column_at.Reads as column-at-reads
-use Rattle.file.proofs.natural.Reads as natural-reads
 
 returns : tie.Need-returns
 unfolding inputHeld

@@ -5,9 +5,6 @@ use Rattle.printing.specs.Lines.{refusal-length}
 use borrow.Author.Needs.{needs}
 use Rattle.query.proofs.refuse.Statement.{statement}
 use Rattle.query.proofs.refuse.Tie as tie
-use Rattle.query.proofs.refuse.Reads as reads
-use Rattle.query.proofs.refuse.Lts as lts
-use Rattle.printing.proofs.put_refusal.Reads as put-refusal-reads
 
 put-refusal-requires : tie.Need-put-refusal-requires
 put-refusal-requires c κs = search needs

@@ -6,9 +6,6 @@ use Rattle.rules.specs.Read.{scoreDrop, fieldNext}
 use borrow.Author.Needs.{needs}
 use Rattle.reading.proofs.field_next.Statement.{statement}
 use Rattle.reading.proofs.field_next.Tie as tie
-use Rattle.reading.proofs.field_next.Reads as reads
-use Rattle.reading.proofs.field_next.Lts as lts
-use Rattle.reading.proofs.drop_of.Reads as drop-of-reads
 
 returns : tie.Need-returns
 unfolding fieldNext

@@ -6,8 +6,6 @@ use native.Mathlib.Omega.{arith}
 use borrow.Author.Needs.{needs}
 use Rattle.record.proofs.block_count.Statement.{statement}
 use Rattle.record.proofs.block_count.Tie as tie
-use Rattle.record.proofs.block_count.Reads as reads
-use Rattle.record.proofs.block_count.Lts as lts
 
 blocks-few : (block depth : ℕ) → 0 < block → depth ≤ 65535 → (depth + block - 1) / block ≤ 65535
 blocks-few block depth h k =

@@ -4,8 +4,6 @@ use Rattle.rules.specs.Calls.{countsFit}
 use borrow.Author.Needs.{needs}
 use Rattle.record.proofs.counts_fit.Statement.{statement}
 use Rattle.record.proofs.counts_fit.Tie as tie
-use Rattle.record.proofs.counts_fit.Reads as reads
-use Rattle.record.proofs.counts_fit.Lts as lts
 
 rem-result : tie.Need-rem-result
 rem-result c = search needs

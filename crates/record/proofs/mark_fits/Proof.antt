@@ -4,8 +4,6 @@ use borrow.Author.Tests.{eq-eqb, ne-eqb}
 use Rattle.record.specs.Grounds.{markOf}
 use Rattle.record.proofs.mark_fits.Statement.{statement}
 use Rattle.record.proofs.mark_fits.Tie as tie
-use Rattle.record.proofs.mark_fits.Reads as reads
-use Rattle.record.proofs.mark_fits.Lts as lts
 
 returns : tie.Need-returns
 unfolding markOf

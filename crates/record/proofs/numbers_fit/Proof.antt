@@ -6,7 +6,7 @@ use native.Mathlib.Nat.{mul-le-mul}
 use lib.Dec.{eqb}
 use borrow.Author.Tests.{eq-eqb, ne-eqb, not-true, not-false}
 use Rattle.rules.specs.Calls.{queryCode, countsFit}
-use Rattle.laws.specs.Record.{QueryFits, query-fits, CountsFit, counts-fit}
+use Rattle.laws.specs.Record.{QueryFits, query-fits, counts-fit}
 use Rattle.record.specs.Grounds.{numbersFit}
 use borrow.Author.Needs.{needs}
 use Rattle.record.proofs.numbers_fit.Statement.{statement}

@@ -3,8 +3,6 @@ use mathlib.Core.Path.{refl}
 use Rattle.record.specs.Grounds.{pairWithin}
 use Rattle.record.proofs.pair_fits.Statement.{statement}
 use Rattle.record.proofs.pair_fits.Tie as tie
-use Rattle.record.proofs.pair_fits.Reads as reads
-use Rattle.record.proofs.pair_fits.Lts as lts
 
 returns : tie.Need-returns
 unfolding pairWithin

@@ -4,8 +4,6 @@ use borrow.Author.Tests.{not-true, not-false}
 use Rattle.rules.specs.Calls.{between, queryCode}
 use Rattle.record.proofs.query_code.Statement.{statement}
 use Rattle.record.proofs.query_code.Tie as tie
-use Rattle.record.proofs.query_code.Reads as reads
-use Rattle.record.proofs.query_code.Lts as lts
 
 returns : tie.Need-returns
 unfolding queryCode

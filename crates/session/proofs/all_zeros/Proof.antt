@@ -3,9 +3,6 @@ use Rattle.rules.specs.Session.{zeros}
 use borrow.Author.Needs.{needs}
 use Rattle.session.proofs.all_zeros.Statement.{statement}
 use Rattle.session.proofs.all_zeros.Tie as tie
-use Rattle.session.proofs.all_zeros.Reads as reads
-use Rattle.session.proofs.all_zeros.Lts as lts
-use Rattle.session.proofs.fresh.Reads as fresh-reads
 
 fresh-requires : tie.Need-fresh-requires
 fresh-requires c κs = search needs

@@ -3,8 +3,6 @@ use mathlib.Core.Path.{refl}
 use Rattle.rules.specs.Session.{opened, places}
 use Rattle.session.proofs.fresh.Statement.{statement}
 use Rattle.session.proofs.fresh.Tie as tie
-use Rattle.session.proofs.fresh.Reads as reads
-use Rattle.session.proofs.fresh.Lts as lts
 
 returns : tie.Need-returns
 unfolding opened places

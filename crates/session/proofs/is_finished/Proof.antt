@@ -3,8 +3,6 @@ use mathlib.Core.Path.{refl}
 use Rattle.rules.specs.Take.{finished}
 use Rattle.session.proofs.is_finished.Statement.{statement}
 use Rattle.session.proofs.is_finished.Tie as tie
-use Rattle.session.proofs.is_finished.Reads as reads
-use Rattle.session.proofs.is_finished.Lts as lts
 
 returns : tie.Need-returns
 unfolding finished

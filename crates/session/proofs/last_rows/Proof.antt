@@ -7,8 +7,6 @@ use lib.ListN.{take, drop}
 use borrow.Author.Needs.{needs}
 use Rattle.session.proofs.last_rows.Statement.{statement}
 use Rattle.session.proofs.last_rows.Tie as tie
-use Rattle.session.proofs.last_rows.Reads as reads
-use Rattle.session.proofs.last_rows.Lts as lts
 
 -- the last block begins above the depth
 start-low : (c : tie.Start) → (c .args .depth - 1) / c .args .block * c .args .block ≤ c .args .depth - 1

@@ -5,10 +5,6 @@ use Rattle.rules.specs.Calls.{openCode, sizeCode}
 use borrow.Author.Needs.{needs}
 use Rattle.session.proofs.open_code.Statement.{statement}
 use Rattle.session.proofs.open_code.Tie as tie
-use Rattle.session.proofs.open_code.Reads as reads
-use Rattle.session.proofs.open_code.Lts as lts
-use Rattle.record.proofs.query_code.Reads as query-code-reads
-use Rattle.checks.proofs.size_fits.Reads as size-fits-reads
 
 query-code-requires : tie.Need-query-code-requires
 query-code-requires c κs = search needs

@@ -9,13 +9,7 @@ use Rattle.laws.specs.Sizes.{Sized, open-sized}
 use borrow.Author.Needs.{needs}
 use Rattle.session.proofs.start.Statement.{statement}
 use Rattle.session.proofs.start.Tie as tie
-use Rattle.session.proofs.start.Reads as reads
-use Rattle.session.proofs.start.Lts as lts
-use Rattle.session.proofs.all_zeros.Reads as all-zeros-reads
-use Rattle.session.proofs.fresh.Reads as fresh-reads
-use Rattle.session.proofs.open_code.Reads as open-code-reads
 
--- src/lib.rt:85:9
 passed : (c : tie.Else1) → eqb (openCode (c .before .before .args .q) (c .before .before .args .f .now) (c .before .before .args .t .now)) 0 ≡ true
 passed c = eq-eqb _ _ (sym (c .before .open-code .ensures) ∙ c .if1 .left)
 
@@ -25,28 +19,22 @@ sizes c = open-sized (c .before .before .args .q) (c .before .before .args .f .n
 open-code-requires : tie.Need-open-code-requires
 open-code-requires c κs = search needs
 
--- src/lib.rt:87:13
 all-zeros-requires : tie.Need-all-zeros-requires
 all-zeros-requires c κs = search needs
 
--- src/lib.rt:88:9
 returns : tie.Need-returns
 unfolding openCall
 returns c = simp (← c .before .before .open-code .ensures, ne-eqb _ _ (c .before .if1 .taken), c .all-zeros .ensures)
 
--- src/lib.rt:93:23
 cast-t13 : tie.Need-cast-t13
 cast-t13 c = record { fits = omega (arith, sizes c .0 .few) }
 
--- src/lib.rt:94:22
 cast-t13-2 : tie.Need-cast-t13-2
 cast-t13-2 c = record { fits = omega (arith, sizes c .1 .few) }
 
--- src/lib.rt:95:9
 fresh-requires : tie.Need-fresh-requires
 fresh-requires c κs = search needs
 
--- src/lib.rt:82:1
 returns-2 : tie.Need-returns-2
 unfolding openCall
 returns-2 c = simp (passed (c .before), c .fresh .ensures)

@@ -10,51 +10,38 @@ use Rattle.rules.specs.Tables.{rowInOrder}
 use borrow.Author.Needs.{needs, sfits-of}
 use Rattle.tables.proofs.in_order.Statement.{statement}
 use Rattle.tables.proofs.in_order.Tie as tie
-use Rattle.tables.proofs.in_order.Reads as reads
-use Rattle.tables.proofs.in_order.Lts as lts
 
--- src/lib.rt:23:9
 returns : tie.Need-returns
 unfolding rowInOrder
 returns c = simp (eq-eqb _ _ (c .if1 .taken))
 
--- src/lib.rt:25:18
 sub-before : tie.Need-sub-before
 sub-before c = search needs
 
--- src/lib.rt:26:7
 mul-result : tie.Need-mul-result
 mul-result c = search needs
 
--- src/lib.rt:26:7
 add-result : tie.Need-add-result
 add-result c = search needs
 
--- src/lib.rt:26:5
 mul-result-2 : tie.Need-mul-result-2
 mul-result-2 c = search needs
 
--- src/lib.rt:26:5
 shared-slice-copy-out-result : tie.Need-shared-slice-copy-out-result
 shared-slice-copy-out-result c = search needs
 
--- src/lib.rt:26:23
 mul-result-3 : tie.Need-mul-result-3
 mul-result-3 c = search needs
 
--- src/lib.rt:26:23
 add-result-2 : tie.Need-add-result-2
 add-result-2 c = search needs
 
--- src/lib.rt:26:21
 mul-result-4 : tie.Need-mul-result-4
 mul-result-4 c = search needs
 
--- src/lib.rt:26:21
 shared-slice-copy-out-result-2 : tie.Need-shared-slice-copy-out-result-2
 shared-slice-copy-out-result-2 c = search needs
 
--- src/lib.rt:18:1
 returns-2 : tie.Need-returns-2
 unfolding rowInOrder
 returns-2 c =

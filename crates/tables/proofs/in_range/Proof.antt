@@ -2,10 +2,7 @@ use borrow.Author.Needs.{needs}
 use Rattle.rules.specs.Tables.{inRange, within}
 use Rattle.tables.proofs.in_range.Statement.{statement}
 use Rattle.tables.proofs.in_range.Tie as tie
-use Rattle.tables.proofs.in_range.Reads as reads
-use Rattle.tables.proofs.in_range.Lts as lts
 
--- src/lib.rt:9:1
 returns : tie.Need-returns
 unfolding inRange within
 returns c = search needs

@@ -11,62 +11,46 @@ use borrow.Author.Needs.{needs, sfits-of}
 use Rattle.tables.proofs.row_in_range.Statement.{statement}
 use Rattle.tables.proofs.row_in_range.Tie as tie
 use Rattle.tables.proofs.row_in_range.Reads as reads
-use Rattle.tables.proofs.row_in_range.Lts as lts
-use Rattle.tables.proofs.in_range.Reads as in-range-reads
 
--- src/lib.rt:21:13
 mul-o : tie.Need-mul-o
 mul-o c = search needs
 
--- src/lib.rt:22:14
 mul-in-range : tie.Need-mul-in-range
 mul-in-range c = search needs
 
--- src/lib.rt:22:14
 shared-slice-copy-out-in-range : tie.Need-shared-slice-copy-out-in-range
 shared-slice-copy-out-in-range c = search needs
 
--- src/lib.rt:22:22
 add-in-range : tie.Need-add-in-range
 add-in-range c = search needs
 
--- src/lib.rt:22:20
 mul-in-range-2 : tie.Need-mul-in-range-2
 mul-in-range-2 c = search needs
 
--- src/lib.rt:22:20
 shared-slice-copy-out-in-range-2 : tie.Need-shared-slice-copy-out-in-range-2
 shared-slice-copy-out-in-range-2 c = search needs
 
--- src/lib.rt:22:32
 add-in-range-2 : tie.Need-add-in-range-2
 add-in-range-2 c = search needs
 
--- src/lib.rt:22:30
 mul-in-range-3 : tie.Need-mul-in-range-3
 mul-in-range-3 c = search needs
 
--- src/lib.rt:22:30
 shared-slice-copy-out-in-range-3 : tie.Need-shared-slice-copy-out-in-range-3
 shared-slice-copy-out-in-range-3 c = search needs
 
--- src/lib.rt:22:42
 add-in-range-3 : tie.Need-add-in-range-3
 add-in-range-3 c = search needs
 
--- src/lib.rt:22:40
 mul-in-range-4 : tie.Need-mul-in-range-4
 mul-in-range-4 c = search needs
 
--- src/lib.rt:22:40
 shared-slice-copy-out-in-range-4 : tie.Need-shared-slice-copy-out-in-range-4
 shared-slice-copy-out-in-range-4 c = search needs
 
--- src/lib.rt:22:5
 in-range-requires : tie.Need-in-range-requires
 in-range-requires c κs = search needs
 
--- src/lib.rt:17:1
 returns : tie.Need-returns
 unfolding rowInRange
 returns c =

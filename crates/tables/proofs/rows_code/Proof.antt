@@ -11,9 +11,6 @@ use borrow.Author.Needs.{needs}
 use Rattle.rules.specs.Calls.{rowCode, rowsCode}
 use Rattle.tables.proofs.rows_code.Statement.{statement}
 use Rattle.tables.proofs.rows_code.Tie as tie
-use Rattle.tables.proofs.rows_code.Reads as reads
-use Rattle.tables.proofs.rows_code.Lts as lts
-use Rattle.tables.proofs.row_code.Reads as row-code-reads
 
 -- the first refused row decides where none before it is refused
 here : (t : List ℤ) (a i : ℕ) → rowsCode t a i ≡ 0 → rowsCode t a (i + 1) ≡ rowCode t (a + i)
@@ -32,20 +29,16 @@ Inv-loop t a n i₀ i = (i ≤ n) × (rowsCode t a i ≡ 0)
 abbrev μ-loop : tie.MeasureT-loop
 μ-loop t a n i₀ i = n - i
 
--- src/lib.rt:50:5
 loop-holds : tie.Need-loop-holds Inv-loop μ-loop
 unfolding rowsCode
 loop-holds c = (search needs, refl)
 
--- src/lib.rt:51:32
 add-row-code : tie.Need-add-row-code Inv-loop μ-loop
 add-row-code c = search needs
 
--- src/lib.rt:51:13
 row-code-requires : tie.Need-row-code-requires Inv-loop μ-loop
 row-code-requires c κs = search needs
 
--- src/lib.rt:53:13
 returns : tie.Need-returns Inv-loop μ-loop
 returns c =
     let l = c .before .before .before .loop in
@@ -54,22 +47,18 @@ returns c =
     here (s .t .now) (s .a) (l .i) (l .inv .1) ∙ sym (c .before .row-code .ensures) in
     sym (stays (s .t .now) (s .a) (l .i + 1) (s .n) (omega arith) (λ z. c .if1 .taken (sym e ∙ z)) ∙ e)
 
--- src/lib.rt:55:9
 add-i : tie.Need-add-i Inv-loop μ-loop
 add-i c = search needs
 
--- src/lib.rt:50:5
 loop-less : tie.Need-loop-less Inv-loop μ-loop
 loop-less c = search needs
 
--- src/lib.rt:50:5
 loop-again : tie.Need-loop-again Inv-loop μ-loop
 loop-again c =
     let l = c .before .before .before .loop in
     let s = c .before .before .before .before .args in
     (search needs, here (s .t .now) (s .a) (l .i) (l .inv .1) ∙ sym (c .before .row-code .ensures) ∙ c .if1 .left)
 
--- src/lib.rt:45:1
 returns-2 : tie.Need-returns-2 Inv-loop μ-loop
 returns-2 c = let e : c .before .loop .i ≡ c .before .before .args .n = omega arith in cc
 

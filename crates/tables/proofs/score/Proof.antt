@@ -10,26 +10,19 @@ use Rattle.tables.proofs.Nat as N
 use borrow.Author.Needs.{needs, sfits-of}
 use Rattle.tables.proofs.score.Statement.{statement}
 use Rattle.tables.proofs.score.Tie as tie
-use Rattle.tables.proofs.score.Reads as reads
-use Rattle.tables.proofs.score.Lts as lts
 
--- src/lib.rt:43:15
 mul-x : tie.Need-mul-x
 mul-x c = search needs
 
--- src/lib.rt:43:15
 add-x : tie.Need-add-x
 add-x c = search needs
 
--- src/lib.rt:43:13
 mul-x-2 : tie.Need-mul-x-2
 mul-x-2 c = search needs
 
--- src/lib.rt:43:13
 shared-slice-copy-out-x : tie.Need-shared-slice-copy-out-x
 shared-slice-copy-out-x c = search needs
 
--- src/lib.rt:45:16
 cast-result : tie.Need-cast-result
 cast-result c =
     let s = c .before .before .args in
@@ -37,7 +30,6 @@ cast-result c =
     let e = toZ-ofZ {w = w32} {z = z} (sfits-of (c .before .x .given)) in
     rw e (N.cast-fits z (simp e at (c .if1 .taken)) (c .before .x .given))
 
--- src/lib.rt:45:9
 returns : tie.Need-returns
 unfolding row
 returns c =
@@ -46,7 +38,6 @@ returns c =
     let e = toZ-ofZ {w = w32} {z = z} (sfits-of (c .before .x .given)) in
     rw e (N.cast-is z (simp e at (c .if1 .taken)) (c .before .x .given))
 
--- src/lib.rt:39:1
 returns-2 : tie.Need-returns-2
 unfolding row
 returns-2 c =

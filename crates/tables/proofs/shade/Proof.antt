@@ -8,42 +8,31 @@ use Rattle.rules.specs.Tables.{row}
 use borrow.Author.Needs.{needs, sfits-of}
 use Rattle.tables.proofs.shade.Statement.{statement}
 use Rattle.tables.proofs.shade.Tie as tie
-use Rattle.tables.proofs.shade.Reads as reads
-use Rattle.tables.proofs.shade.Lts as lts
 
--- src/lib.rt:56:14
 mul-t3 : tie.Need-mul-t3
 mul-t3 c = search needs
 
--- src/lib.rt:56:14
 add-t4 : tie.Need-add-t4
 add-t4 c = search needs
 
--- src/lib.rt:56:12
 mul-t5 : tie.Need-mul-t5
 mul-t5 c = search needs
 
--- src/lib.rt:56:12
 shared-slice-copy-out-t7 : tie.Need-shared-slice-copy-out-t7
 shared-slice-copy-out-t7 c = search needs
 
--- src/lib.rt:57:14
 mul-t8 : tie.Need-mul-t8
 mul-t8 c = search needs
 
--- src/lib.rt:57:14
 add-t9 : tie.Need-add-t9
 add-t9 c = search needs
 
--- src/lib.rt:57:12
 mul-t10 : tie.Need-mul-t10
 mul-t10 c = search needs
 
--- src/lib.rt:57:12
 shared-slice-copy-out-t12 : tie.Need-shared-slice-copy-out-t12
 shared-slice-copy-out-t12 c = search needs
 
--- src/lib.rt:51:1
 returns : tie.Need-returns
 unfolding row
 returns c =

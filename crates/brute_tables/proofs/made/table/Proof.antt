@@ -1,5 +1,5 @@
 -- `table` is safe and ends: 12 rows. Assumes nothing.
-use Prim.Native.Nat.{_≤_, _-_, _<_}
+use Prim.Native.Nat.{_≤_, _-_}
 use borrow.Author.Needs.{needs}
 use Rattle.brute_tables.proofs.made.table.Statement.{statement}
 use Rattle.brute_tables.proofs.made.table.Tie as tie

@@ -1,5 +1,5 @@
 -- `insert` is safe and ends: one turn for each sum that is there. Assumes nothing.
-use Prim.Native.Nat.{_≤_, _-_, _<_}
+use Prim.Native.Nat.{_≤_, _-_}
 use borrow.Author.Needs.{needs}
 use Rattle.brute_tables.proofs.plain.insert.Statement.{statement}
 use Rattle.brute_tables.proofs.plain.insert.Tie as tie

@@ -1,5 +1,5 @@
 -- `reaching` is safe and ends: one turn for each field row of the reading. Assumes nothing.
-use Prim.Native.Nat.{_≤_, _-_, _<_}
+use Prim.Native.Nat.{_≤_, _-_}
 use borrow.Author.Needs.{needs}
 use Rattle.brute_tables.proofs.plain.reaching.Statement.{statement}
 use Rattle.brute_tables.proofs.plain.reaching.Tie as tie

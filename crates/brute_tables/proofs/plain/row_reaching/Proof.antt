@@ -1,5 +1,5 @@
 -- `row_reaching` is safe and ends: one turn for each trim row of the reading. Assumes nothing.
-use Prim.Native.Nat.{_≤_, _-_, _<_}
+use Prim.Native.Nat.{_≤_, _-_}
 use borrow.Author.Needs.{needs}
 use Rattle.brute_tables.proofs.plain.row_reaching.Statement.{statement}
 use Rattle.brute_tables.proofs.plain.row_reaching.Tie as tie

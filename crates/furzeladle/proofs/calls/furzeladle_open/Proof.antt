@@ -1,8 +1,6 @@
 -- `furzeladle_open` meets its contract. Assumes nothing.
 use mathlib.Core.Path.{_≡_, sym, ap, subst, _∙_}
-use Prim.Native.Nat.{ℕ, _≤_}
-use native.Mathlib.Omega.{arith}
-use mathlib.Core.List.{List}
+use Prim.Native.Nat.{_≤_}
 use mir.Syntax.{w32}
 use mir.Facts.{toZ-ofZ}
 use borrow.Author.Tests.{lt-ltb, le-ltb}
@@ -16,12 +14,6 @@ use Rattle.furzeladle.specs.Small.{open-small}
 use borrow.Author.Needs.{needs, sfits-of}
 use Rattle.furzeladle.proofs.calls.furzeladle_open.Statement.{statement}
 use Rattle.furzeladle.proofs.calls.furzeladle_open.Tie as tie
-use Rattle.furzeladle.proofs.calls.furzeladle_open.Reads as reads
-use Rattle.furzeladle.proofs.calls.furzeladle_open.Lts as lts
-use Rattle.flat.proofs.pack.Reads as pack-reads
-use Rattle.flat.proofs.query_in.Reads as query-in-reads
-use Rattle.furzeladle.proofs.calls.numbered.Reads as numbered-reads
-use Rattle.session.proofs.start.Reads as start-reads
 
 stepped : (c : tie.After-start) →
     c .start .result ≡ openCall (queryIn (c .before .before .before .before .before .before .args .query .now)) (c .before .before .before .before .before .before .args .f .now) (c .before .before .before .before .before .before .args .t .now)
@@ -29,14 +21,12 @@ stepped c =
     c .start .ensures
     ∙ ap (λ (q : Query). openCall q (c .before .before .before .before .before .before .args .f .now) (c .before .before .before .before .before .before .args .t .now)) (c .before .query-in .ensures)
 
--- src/calls.rt:35:9
 returns : tie.Need-returns
 unfolding openNumber openLeaves openShort
 returns c =
     let short = lt-ltb _ _ (c .if1 .taken) in
     (simp short, simp short)
 
--- src/calls.rt:38:9
 returns-2 : tie.Need-returns-2
 unfolding openNumber openLeaves openShort
 returns-2 c =
@@ -44,29 +34,23 @@ returns-2 c =
     let short = lt-ltb _ _ (c .if2 .taken) in
     (simp (long, short), simp (long, short))
 
--- src/calls.rt:40:9
 query-in-requires : tie.Need-query-in-requires
 query-in-requires c κs = search needs
 
--- src/calls.rt:41:9
 start-requires : tie.Need-start-requires
 start-requires c κs = search needs
 
--- src/calls.rt:43:5
 pack-requires : tie.Need-pack-requires
 pack-requires c κs = search needs
 
--- src/calls.rt:45:5
 numbered-requires : tie.Need-numbered-requires
 numbered-requires c κs =
     let e = stepped (c .before .before .before .before .before) in
     subst (λ (r : Step). number (r .answer) ≤ 7) (sym e) (open-small _ _ _)
 
--- src/calls.rt:29:1
 same-length : tie.Need-same-length
 same-length c = search needs
 
--- src/calls.rt:29:1
 returns-3 : tie.Need-returns-3
 unfolding openNumber openLeaves openShort
 returns-3 c =

@@ -11,11 +11,10 @@ use Rattle.rules.specs.declared.Step.{Step}
 use Rattle.rules.specs.Query.{wasRead}
 use Rattle.rules.specs.Numbers.{number}
 use Rattle.rules.specs.Calls.{readCall}
-use Rattle.session.specs.Answers.{read-keeps}
 use Rattle.session.proofs.Answers.{not-read}
 use Rattle.flat.specs.Flat.{unflatten}
-use Rattle.flat.specs.RoundTrip.{forth}
 use Rattle.furzeladle.specs.Calls.{answerNumber, laidIn, readNumber, readLeaves}
+use Rattle.furzeladle.specs.Unchanged.{read-same}
 use Rattle.furzeladle.specs.Small.{read-small}
 use borrow.Author.Needs.{needs, sfits-of}
 use Rattle.furzeladle.proofs.calls.furzeladle_read.Statement.{statement}
@@ -37,8 +36,8 @@ written c =
     (λ w. w .7 ∙ w .4 .ensures)
     (λ w.
     let quiet = sym (ap (λ (r : Step). wasRead (r .answer)) e) ∙ not-read (c .before .read .result .answer) (w .0 .keys2) in
-    let kept = ap (λ (r : Step). r .session) e ∙ read-keeps (s .f .now) (s .t .now) (unflatten l) quiet in
-    w .1 ∙ sym (ap (laidIn l) kept ∙ forth l (omega (arith, c .before .before .before .before .if1 .left)) (c .before .before .unpack .ensures .1)))
+    let same = read-same (s .f .now) (s .t .now) l (c .before .before .unpack .ensures .1) (omega (arith, c .before .before .before .before .if1 .left)) quiet in
+    w .1 ∙ sym (ap (λ (r : Step). laidIn l (r .session)) e ∙ same))
     (c .match .came)
 
 returns : tie.Need-returns

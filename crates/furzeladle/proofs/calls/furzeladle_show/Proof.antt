@@ -6,19 +6,13 @@ use Rattle.furzeladle.specs.Calls.{putIn, takeShort, shownNumbers, showN
 use borrow.Author.Needs.{needs}
 use Rattle.furzeladle.proofs.calls.furzeladle_show.Statement.{statement}
 use Rattle.furzeladle.proofs.calls.furzeladle_show.Tie as tie
-use Rattle.furzeladle.proofs.calls.furzeladle_show.Reads as reads
-use Rattle.furzeladle.proofs.calls.furzeladle_show.Lts as lts
-use Rattle.flat.proofs.unpack.Reads as unpack-reads
-use Rattle.furzeladle.proofs.calls.put_shown.Reads as put-shown-reads
 
--- src/calls.rt:141:9
 returns : tie.Need-returns
 unfolding showNumber showWrites takeShort
 returns c =
     let short = lt-ltb _ _ (c .if1 .taken) in
     (simp short, simp short)
 
--- src/calls.rt:144:9
 returns-2 : tie.Need-returns-2
 unfolding showNumber showWrites takeShort
 returns-2 c =
@@ -26,19 +20,15 @@ returns-2 c =
     let short = lt-ltb _ _ (c .if2 .taken) in
     (simp (long, short), simp (long, short))
 
--- src/calls.rt:146:9
 unpack-requires : tie.Need-unpack-requires
 unpack-requires c κs = search needs
 
--- src/calls.rt:147:5
 put-shown-requires : tie.Need-put-shown-requires
 put-shown-requires c κs = search needs
 
--- src/calls.rt:135:1
 same-length : tie.Need-same-length
 same-length c = search needs
 
--- src/calls.rt:135:1
 returns-3 : tie.Need-returns-3
 unfolding showNumber showWrites takeShort
 returns-3 c =

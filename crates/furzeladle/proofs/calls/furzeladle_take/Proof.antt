@@ -11,11 +11,10 @@ use Rattle.rules.specs.declared.Step.{Step}
 use Rattle.rules.specs.Query.{wasGiven}
 use Rattle.rules.specs.Numbers.{number}
 use Rattle.rules.specs.Calls.{takeCall}
-use Rattle.session.specs.Answers.{take-keeps}
 use Rattle.session.proofs.Answers.{not-given}
 use Rattle.flat.specs.Flat.{unflatten}
-use Rattle.flat.specs.RoundTrip.{forth}
 use Rattle.furzeladle.specs.Calls.{answerNumber, laidIn, pairLeft, takeShort, takeNumber, takeLeaves, takeWrites}
+use Rattle.furzeladle.specs.Unchanged.{take-same}
 use Rattle.furzeladle.specs.Small.{take-small}
 use borrow.Author.Needs.{needs, sfits-of}
 use Rattle.furzeladle.proofs.calls.furzeladle_take.Statement.{statement}
@@ -37,8 +36,8 @@ written c =
     (λ w. w .7 ∙ w .4 .ensures)
     (λ w.
     let quiet = sym (ap (λ (r : Step). wasGiven (r .answer)) e) ∙ not-given (c .before .take .result .answer) (w .0 .keys2) in
-    let kept = ap (λ (r : Step). r .session) e ∙ take-keeps (s .f .now) (s .t .now) (unflatten l) quiet in
-    w .1 ∙ sym (ap (laidIn l) kept ∙ forth l (omega (arith, c .before .before .before .before .before .if1 .left)) (c .before .before .unpack .ensures .1)))
+    let same = take-same (s .f .now) (s .t .now) l (c .before .before .unpack .ensures .1) (omega (arith, c .before .before .before .before .before .if1 .left)) quiet in
+    w .1 ∙ sym (ap (λ (r : Step). laidIn l (r .session)) e ∙ same))
     (c .match .came)
 
 returns : tie.Need-returns

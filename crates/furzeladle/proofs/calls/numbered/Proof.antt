@@ -11,78 +11,60 @@ use Rattle.furzeladle.specs.Calls.{answerNumber}
 use borrow.Author.Needs.{needs, sfits-of}
 use Rattle.furzeladle.proofs.calls.numbered.Statement.{statement}
 use Rattle.furzeladle.proofs.calls.numbered.Tie as tie
-use Rattle.furzeladle.proofs.calls.numbered.Reads as reads
-use Rattle.furzeladle.proofs.calls.numbered.Lts as lts
-use Rattle.furzeladle.proofs.minus.Reads as minus-reads
 
--- src/calls.rt:18:25
 enum-known-answer : tie.Need-enum-known-answer
 enum-known-answer c = search needs
 
--- src/calls.rt:18:34
 minus-requires : tie.Need-minus-requires
 minus-requires c κs =
     let h : number (Refused (c .before .answer .given .0 .0)) ≤ 7 =
     subst (λ (a : Answer). number a ≤ 7) (c .before .answer .given .1) (c .before .before .before .pre) in
     omega arith
 
--- src/calls.rt:19:27
 enum-told : tie.Need-enum-told
 enum-told c = search needs
 
--- src/calls.rt:20:25
 enum-told-2 : tie.Need-enum-told-2
 enum-told-2 c = search needs
 
--- src/calls.rt:21:28
 enum-told-3 : tie.Need-enum-told-3
 enum-told-3 c = search needs
 
--- src/calls.rt:22:29
 enum-told-4 : tie.Need-enum-told-4
 enum-told-4 c = search needs
 
--- src/calls.rt:23:27
 enum-told-5 : tie.Need-enum-told-5
 enum-told-5 c = search needs
 
--- src/calls.rt:24:29
 enum-told-6 : tie.Need-enum-told-6
 enum-told-6 c = search needs
 
--- src/calls.rt:13:1
 returns : tie.Need-returns
 unfolding answerNumber
 returns c =
     toZ-ofZ {w = w32} {z = c .minus .result} (sfits-of (c .minus .ok))
     ∙ c .minus .ensures ∙ ap answerNumber (sym (c .before .before .answer .given .1))
 
--- src/calls.rt:13:1
 returns-2 : tie.Need-returns-2
 unfolding answerNumber
 returns-2 c = sym (ap answerNumber (c .enum-told .given .1))
 
--- src/calls.rt:13:1
 returns-3 : tie.Need-returns-3
 unfolding answerNumber
 returns-3 c = sym (ap answerNumber (c .enum-told2 .given .1))
 
--- src/calls.rt:13:1
 returns-4 : tie.Need-returns-4
 unfolding answerNumber
 returns-4 c = sym (ap answerNumber (c .enum-told3 .given .1))
 
--- src/calls.rt:13:1
 returns-5 : tie.Need-returns-5
 unfolding answerNumber
 returns-5 c = sym (ap answerNumber (c .enum-told4 .given .1))
 
--- src/calls.rt:13:1
 returns-6 : tie.Need-returns-6
 unfolding answerNumber
 returns-6 c = sym (ap answerNumber (c .enum-told5 .given .1))
 
--- src/calls.rt:13:1
 returns-7 : tie.Need-returns-7
 unfolding answerNumber
 returns-7 c = sym (ap answerNumber (c .enum-told6 .given .1))

@@ -9,50 +9,38 @@ use denote.Ref.{now}
 use borrow.Author.Needs.{needs}
 use Rattle.furzeladle.proofs.calls.put_block.Statement.{statement}
 use Rattle.furzeladle.proofs.calls.put_block.Tie as tie
-use Rattle.furzeladle.proofs.calls.put_block.Reads as reads
-use Rattle.furzeladle.proofs.calls.put_block.Lts as lts
 
--- src/calls.rt:44:14
 sub-a : tie.Need-sub-a
 sub-a c = search needs
 
--- src/calls.rt:44:13
 div-a : tie.Need-div-a
 div-a c = search needs
 
--- src/calls.rt:44:13
 mul-a : tie.Need-mul-a
 mul-a c =
     record { fits = omega (arith, div-mul-le-self (c .args .depth - 1) (c .args .block)) }
 
--- src/calls.rt:45:5
 slice-write-place : tie.Need-slice-write-place
 slice-write-place c = search needs
 
--- src/calls.rt:46:16
 add-place : tie.Need-add-place
 add-place c =
     record { fits = omega (arith, div-mul-le-self (c .args .depth - 1) (c .args .block)) }
 
--- src/calls.rt:46:5
 slice-write-place-2 : tie.Need-slice-write-place-2
 slice-write-place-2 c =
     simp length-set (omega arith)
 
--- src/calls.rt:47:16
 sub-place : tie.Need-sub-place
 sub-place c =
     omega (arith, div-mul-le-self (c .args .depth - 1) (c .args .block))
 
--- src/calls.rt:47:5
 slice-write-place-3 : tie.Need-slice-write-place-3
 slice-write-place-3 c = search needs
 
--- src/calls.rt:40:1
 same-length : tie.Need-same-length
 same-length c = search needs
 
--- src/calls.rt:40:1
 returns : tie.Need-returns
 returns c =
     let s = c .args in

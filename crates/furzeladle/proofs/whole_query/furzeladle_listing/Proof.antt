@@ -1,10 +1,8 @@
 -- `furzeladle_listing` meets its contract. Assumes nothing.
 use mathlib.Core.Path.{_≡_, sym, ap, _∙_}
-use mathlib.Core.Bool.{true, false}
 use mathlib.Core.List.{List}
 use Prim.Native.Nat.{ℕ}
 use native.Mathlib.Omega.{arith}
-use lib.Dec.{eqb}
 use lib.IntN.{ℤ, pos, negℤ}
 use lib.ListN.{length}
 use mir.Syntax.{w32}
@@ -16,10 +14,6 @@ use Rattle.lent_query.specs.Numbers.{queryOf, lentListingCode, lentListingAnswe
 use borrow.Author.Needs.{needs}
 use Rattle.furzeladle.proofs.whole_query.furzeladle_listing.Statement.{statement}
 use Rattle.furzeladle.proofs.whole_query.furzeladle_listing.Tie as tie
-use Rattle.furzeladle.proofs.whole_query.furzeladle_listing.Reads as reads
-use Rattle.furzeladle.proofs.whole_query.furzeladle_listing.Lts as lts
-use Rattle.furzeladle.proofs.minus.Reads as minus-reads
-use Rattle.lent_query.proofs.listed.Reads as listed-reads
 
 listed-requires : tie.Need-listed-requires
 listed-requires c κs = search needs
