@@ -1,5 +1,5 @@
 -- `start` meets its contract: document 01's opening. Assumes nothing.
-use mathlib.Core.Path.{_≡_, sym, _∙_}
+use mathlib.Core.Path.{_≡_, refl, sym, _∙_}
 use mathlib.Core.Bool.{true}
 use native.Mathlib.Omega.{arith}
 use lib.Dec.{eqb}
@@ -24,20 +24,20 @@ all-zeros-requires c κs = search needs
 
 returns : tie.Need-returns
 unfolding openCall
-returns c = simp (← c .before .before .open-code .ensures, ne-eqb _ _ (c .before .if1 .taken), c .all-zeros .ensures)
+returns c = simp (← c .before .before .open-code .ensures, ne-eqb _ _ (c .before .if1 .taken), c .all-zeros .ensures) refl
 
 cast-t13 : tie.Need-cast-t13
-cast-t13 c = record { fits = omega (arith, sizes c .0 .few) }
+cast-t13 c = record { fits = omega (arith, sizes c .0 .few, sizes c .1 .few) }
 
 cast-t13-2 : tie.Need-cast-t13-2
-cast-t13-2 c = record { fits = omega (arith, sizes c .1 .few) }
+cast-t13-2 c = record { fits = omega (arith, sizes c .0 .few, sizes c .1 .few) }
 
 fresh-requires : tie.Need-fresh-requires
 fresh-requires c κs = search needs
 
 returns-2 : tie.Need-returns-2
 unfolding openCall
-returns-2 c = simp (passed (c .before), c .fresh .ensures)
+returns-2 c = simp (passed (c .before), c .fresh .ensures) refl
 
 pub start-spec : {M : Type 1} → statement M
 start-spec =
