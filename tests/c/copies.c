@@ -1,12 +1,14 @@
 /* How often a call copies the session's record: the linker hands every memcpy and memmove of the library to the counters
- * below (--wrap). A record is 816 bytes, its pair places 768; nothing else that is copied is as long. It prints the counts;
- * exit status 0: some were counted, and none is above what is written here. */
+ * below (--wrap). A record is 816 bytes, its pair places 768, their keys 512; nothing else that is copied is as long. It
+ * prints the counts; exit status 0: some were counted, and none is above what is written here. A call copies the record
+ * once as it comes in and once as it goes back, whatever it does between; laying it out flat for C, where it changed, is
+ * a third copy. */
 #include <stdio.h>
 #include <string.h>
 
 #include "furzeladle.h"
 
-enum { ROWS = 256, BLOCK = 4, AS_LONG = 700 };
+enum { ROWS = 256, BLOCK = 4, AS_LONG = 500 };
 
 static int copies, all;
 
@@ -83,20 +85,20 @@ int main(void)
 
     reads(6, 0);
     expect("open", open(), FURZELADLE_DONE, 0);
-    expect("read: the first block", read(4 * ROWS), FURZELADLE_DONE, 7);
-    expect("read: a block meets 1, no pair is near", read(4 * ROWS), FURZELADLE_DONE, 7);
+    expect("read: the first block", read(4 * ROWS), FURZELADLE_DONE, 3);
+    expect("read: a block meets 1, no pair is near", read(4 * ROWS), FURZELADLE_DONE, 3);
     reads(6, 62);
-    expect("read: a block meets 31, no pair is near", read(4 * ROWS), FURZELADLE_DONE, 7);
-    expect("read: refused by 4", read(4), -FURZELADLE_TABLE_SIZE, 3);
-    expect("take: not yet", take(), FURZELADLE_NOT_YET, 3);
+    expect("read: a block meets 31, no pair is near", read(4 * ROWS), FURZELADLE_DONE, 3);
+    expect("read: refused by 4", read(4), -FURZELADLE_TABLE_SIZE, 2);
+    expect("take: not yet", take(), FURZELADLE_NOT_YET, 2);
     reads(3, 1);
-    expect("read: a block meets 1, 16 pairs are near", read(4 * ROWS), FURZELADLE_DONE, 42);
+    expect("read: a block meets 1, 16 pairs are near", read(4 * ROWS), FURZELADLE_DONE, 3);
     reads(3, ROWS);
-    expect("read: settled", read(4 * ROWS), FURZELADLE_SETTLED, 3);
+    expect("read: settled", read(4 * ROWS), FURZELADLE_SETTLED, 2);
     expect("show", furzeladle_show(field, 4 * ROWS, trim, 4 * ROWS, record, FURZELADLE_RECORD_SIZE, place, 3), FURZELADLE_DONE, 1);
-    expect("take: a pair", take(), FURZELADLE_GIVEN, 7);
+    expect("take: a pair", take(), FURZELADLE_GIVEN, 3);
     record[FURZELADLE_K] = 0;
-    expect("read: refused by 5", read(4 * ROWS), -FURZELADLE_RECORD, 3);
+    expect("read: refused by 5", read(4 * ROWS), -FURZELADLE_RECORD, 2);
     if (all == 0) {
         printf("no copy was counted\n");
         failures++;

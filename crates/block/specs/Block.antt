@@ -1,13 +1,15 @@
--- The block join in the code's own shape: pair by pair. Definitions only. Assumes nothing.
+-- The block join: what it makes of the pairs held, and the same in the code's own shape, pair by pair. Definitions only. Assumes nothing.
 use Prim.Native.Nat.{ℕ, zero, suc, _+_, _*_, _≤_}
 use mathlib.Core.Path.{_≡_}
 use mathlib.Core.Bool.{Bool, cond}
-use mathlib.Core.List.{List}
+use mathlib.Core.List.{List, _++_}
 use lib.IntN.{ℤ}
 use lib.ListN.{length, take}
-use Rattle.lists.specs.Lists.{ins}
+use Rattle.lists.specs.Lists.{ins, sort}
+use Rattle.lists.specs.Words.{Ordered}
 use Rattle.rules.specs.declared.Pair.{Pair}
-use Rattle.rules.specs.Tables.{Block, row, qualifies, pairAt, ahead, rowCount}
+use Rattle.rules.specs.Tables.{Block, row, qualifies, pairAt, qualifying, ahead, rowCount}
+use Rattle.held.specs.Held.{Keyed}
 
 -- a part of a table, a rows standing before it
 abbrev pub at : ℕ → List ℤ → Block
@@ -17,6 +19,13 @@ at a rows = record { start = a; rows = rows }
 pub record Rows (a : ℕ) (rows : List ℤ) : Type 0 where
   pub whole : 4 * rowCount rows ≡ length rows
   pub few : a + rowCount rows ≤ 65535
+
+-- the pairs of x and y that qualify among the n pairs that a holds, of which at most `room` are kept: r of them, which
+-- a′ holds
+pub record Joined (radius room : ℕ) (x y : Block) (n : ℕ) (a : List ℕ) (r : ℕ) (a′ : List ℕ) : Type 0 where
+  pub few : r ≤ room
+  pub long : length a′ ≡ 64
+  pub held : (l : List Pair) → Keyed l (take n a) → Ordered ahead l → Keyed (take room (sort ahead (l ++ qualifying radius x y))) (take r a′)
 
 -- p among the pairs held, of which at most `room` are kept, if it qualifies
 abbrev pub putIf : Bool → ℕ → Pair → List Pair → List Pair

@@ -1,25 +1,22 @@
 -- A pair that the last of a full list stands ahead of changes nothing. Assumes nothing.
 use mathlib.Core.Path.{_≡_, refl, sym, ap, _∙_}
 use mathlib.Core.Bool.{Bool, true, false, cond}
-use mathlib.Core.List.{List, [], _∷_, _++_}
+use mathlib.Core.List.{List, [], _∷_}
 use Prim.Native.Nat.{ℕ, zero, suc, _+_, _-_, _%_, _≤_, _<_}
 use native.Mathlib.Omega.{arith}
-use lib.ListN.{length, getD, take, replicate, List·getD-append}
+use lib.Dec.{ltb}
+use lib.ListN.{length, getD, take}
+use lib.Seq.{getD-take, length-take-le}
 use Rattle.lists.specs.Lists.{ins}
-use Rattle.lists.specs.Words.{All, Ordered}
+use Rattle.lists.specs.Words.{Ordered}
 use Rattle.lists.specs.Sorts as Sorts
 use Rattle.rules.specs.declared.Pair.{Pair}
 use Rattle.rules.specs.Tables.{Block, row, rowCount, qualifies, pairAt, ahead}
 use Rattle.rules.specs.Ranking.{ahead-strict}
-use Rattle.rules.specs.Session.{noPair, places}
-use Rattle.held.specs.declared.Held.{Held}
-use Rattle.held.specs.Held.{heldOf}
+use Rattle.rules.specs.Session.{noPair}
+use Rattle.held.specs.Held.{keyOf, Narrow, Keyed}
+use Rattle.held.specs.Keys.{all-getD, key-order, key-at, keyed-length}
 use Rattle.block.specs.Block.{putIf, metRow, metRows}
-
-all-getD : (P : Pair → Type 0) (l : List Pair) (i : ℕ) → All P l → i < length l → P (getD l i noPair)
-all-getD P [] i a h = absurd (omega arith)
-all-getD P (x ∷ l) zero a h = a .0
-all-getD P (x ∷ l) (suc i) a h = all-getD P l i (a .1) (omega arith)
 
 -- p falls off behind a list whose last pair stands ahead of it
 falls-off : (p : Pair) (l : List Pair) → Ordered ahead l → ahead (getD l (length l - 1) noPair) p ≡ true → take (length l) (ins ahead p l) ≡ l
@@ -37,22 +34,27 @@ falls-off p (q ∷ r ∷ m) o h =
     let rest = falls-off p (r ∷ m) (o .1) (ap (λ (e : ℕ). ahead (getD (r ∷ m) e noPair) p) j ∙ k) in
     ap (λ (b : Bool). take (suc (suc n)) (cond b (q ∷ ins ahead p (r ∷ m)) (p ∷ q ∷ r ∷ m))) first ∙ ap (λ (l : List Pair). q ∷ l) rest
 
--- the same of pairs held in 64 places, of which the last that there is room for is looked at
-pub off : (g : Held) (l : List Pair) (room : ℕ) (p : Pair) → g ≡ heldOf l → Ordered ahead l → room ≤ 64 → g .n ≡ room
-    → ahead (getD (g .pairs) ((room + 63) % 64) noPair) p ≡ true → take room (ins ahead p l) ≡ l
-unfolding places
-off g [] room p e o h k t =
-    let z : room ≡ 0 = sym k ∙ ap (λ (x : Held). x .n) e in
-    ap (λ (n : ℕ). take n (ins ahead p [])) z
-off g (q ∷ m) room p e o h k t =
-    let l = q ∷ m in
-    let z : room ≡ length l = sym k ∙ ap (λ (x : Held). x .n) e in
-    let i : (room + 63) % 64 ≡ length l - 1 = omega arith in
-    let at : getD (g .pairs) ((room + 63) % 64) noPair ≡ getD l (length l - 1) noPair =
-    ap (λ (x : Held). getD (x .pairs) ((room + 63) % 64) noPair) e
-    ∙ (ap (λ (n : ℕ). getD (l ++ replicate (64 - length l) noPair) n noPair) i
-    ∙ List·getD-append l (replicate (64 - length l) noPair) noPair (length l - 1) (omega arith)) in
-    ap (λ (n : ℕ). take n (ins ahead p l)) z ∙ falls-off p l o (ap (λ (x : Pair). ahead x p) (sym at) ∙ t)
+empty : (l : List Pair) → length l ≡ 0 → [] ≡ l
+empty [] h = refl
+empty (q ∷ l) h = absurd (omega arith)
+
+-- the same of keys in 64 places, of which the last that there is room for is looked at
+pub off : (ks : List ℕ) (l : List Pair) (g room : ℕ) (p : Pair) → length ks ≡ 64 → Keyed l (take g ks) → Narrow p → Ordered ahead l → room ≤ 64 → g ≡ room
+    → ltb (getD ks ((room + 63) % 64) 0) (keyOf p) ≡ true → take room (ins ahead p l) ≡ l
+off ks l g zero p long k narrow o h e t = empty l (sym (keyed-length l (take g ks) k) ∙ length-take-le g ks (omega arith) ∙ e)
+off ks l g (suc n) p long k narrow o h e t =
+    let few : g ≤ length ks = omega arith in
+    let full : length l ≡ suc n = sym (keyed-length l (take g ks) k) ∙ length-take-le g ks few ∙ e in
+    let last : (suc n + 63) % 64 ≡ length l - 1 = omega arith in
+    let in-front : length l - 1 < g = omega arith in
+    let q = getD l (length l - 1) noPair in
+    let at : getD ks ((suc n + 63) % 64) 0 ≡ keyOf q =
+    ap (λ (i : ℕ). getD ks i 0) last
+    ∙ sym (getD-take g ks (length l - 1) 0 in-front)
+    ∙ key-at l (take g ks) (length l - 1) k (omega arith) in
+    let behind : ahead q p ≡ true =
+    sym (key-order q p (all-getD Narrow l (length l - 1) (k .narrow) (omega arith)) narrow) ∙ ap (λ (i : ℕ). ltb i (keyOf p)) (sym at) ∙ t in
+    ap (λ (i : ℕ). take i (ins ahead p l)) (sym full) ∙ falls-off p l o behind
 
 -- the pairs held stay in order
 put-ordered : (b : Bool) (room : ℕ) (p : Pair) (l : List Pair) → Ordered ahead l → Ordered ahead (putIf b room p l)

@@ -18,9 +18,6 @@ use Rattle.lists.specs.Sorts as Sorts
 use Rattle.rules.specs.declared.Pair.{Pair}
 use Rattle.rules.specs.Tables.{Block, row, rowCount, qualifies, pairAt, qualifying, ahead}
 use Rattle.rules.specs.Ranking.{ahead-strict}
-use Rattle.held.specs.declared.Held.{Held}
-use Rattle.held.specs.Held.{listOf, heldOf}
-use Rattle.held.specs.Tidy.{list-of-held}
 use Rattle.block.specs.Block.{putIf, metRow, metRows}
 
 -- pairs put one after the other
@@ -115,34 +112,13 @@ module _ (radius room : ℕ) (x y : Block) where
       ∙ ap (putAll room l) all-is
       ∙ putAll-sort room l (qualifying radius x y) r h
 
-  pub row-few : (i : ℕ) (l : List Pair) (j : ℕ) → length l ≤ room → length (metRow radius room x y i l j) ≤ room
-  unfolding metRow test
-  row-few i l zero h = h
-  row-few i l (suc j) h = go (test i j) (row-few i l j h)
-    where
-      go : (b : Bool) → length (metRow radius room x y i l j) ≤ room → length (putIf b room (pairAt x y i j) (metRow radius room x y i l j)) ≤ room
-      go true k = omega (arith, length-take room (ins ahead (pairAt x y i j) (metRow radius room x y i l j)))
-      go false k = k
-
-  pub rows-few : (l : List Pair) (i : ℕ) → length l ≤ room → length (metRows radius room x y l i) ≤ room
-  unfolding metRows
-  rows-few l zero h = h
-  rows-few l (suc i) h = row-few i (metRows radius room x y l i) (rowCount (y .rows)) (rows-few l i h)
-
-  -- one near pair more, the pairs held being those of the turns before
-  pub row-joins : (i j : ℕ) (l : List Pair) (g g′ : Held) (p : Pair) →
-      g ≡ heldOf (metRow radius room x y i l j) →
+  -- one near pair more
+  pub row-joins : (i j : ℕ) (l : List Pair) (p : Pair) →
       qualifies radius (row (x .rows) i .shade) (row (y .rows) j .shade) ≡ true →
       p ≡ pairAt x y i j →
-      g′ ≡ heldOf (take room (ins ahead p (listOf g))) →
-      g′ ≡ heldOf (metRow radius room x y i l (j + 1))
+      take room (ins ahead p (metRow radius room x y i l j)) ≡ metRow radius room x y i l (j + 1)
   unfolding metRow
-  row-joins i j l g g′ p e q f h =
-      h
-      ∙ ap (λ (r : Held). heldOf (take room (ins ahead p (listOf r)))) e
-      ∙ ap (λ (r : List Pair). heldOf (take room (ins ahead p r))) (list-of-held (metRow radius room x y i l j))
-      ∙ ap (λ (r : Pair). heldOf (take room (ins ahead r (metRow radius room x y i l j)))) f
-      ∙ sym (rw (add-one, q))
+  row-joins i j l p q e = ap (λ (r : Pair). take room (ins ahead r (metRow radius room x y i l j))) e ∙ sym (rw (add-one, q))
 
   -- rows of y that do not lie near row i + 1 of x leave the pairs held
   pub row-skips : (i : ℕ) (l : List Pair) (j r : ℕ) → j ≤ r
@@ -165,9 +141,6 @@ module _ (radius room : ℕ) (x y : Block) where
   -- the pairs held when the first i rows of x have met all of y, and row i + 1 its first j rows
   abbrev pub metTo : List Pair → ℕ → ℕ → List Pair
   metTo l i j = metRow radius room x y i (metRows radius room x y l i) j
-
-  pub to-few : (l : List Pair) (i j : ℕ) → length l ≤ room → length (metTo l i j) ≤ room
-  to-few l i j h = row-few i (metRows radius room x y l i) j (rows-few l i h)
 
   -- row i + 1 has met all of y
   pub to-next : (l : List Pair) (i : ℕ) → metTo l i (rowCount (y .rows)) ≡ metTo l (i + 1) 0

@@ -1,16 +1,12 @@
 // The block join: the qualifying pairs of a field block and a trim block, each a part of its table, are put among the
 // pairs held.
-use held::Held;
 use rules::Pair;
 ghost use mathlib.Core.Path.{_≡_};
 ghost use Prim.Native.Nat.{_+_, _*_, _≤_, _<_, _/_, _%_};
-ghost use mathlib.Core.List.{_++_};
-ghost use lib.ListN.{length, take};
-ghost use Rattle.lists.specs.Lists.{sort};
-ghost use Rattle.lists.specs.Words.{Ordered};
-ghost use Rattle.rules.specs.Tables.{row, qualifies, pairAt, qualifying, ahead};
-ghost use Rattle.held.specs.Held.{Tidy, listOf, heldOf};
-ghost use Rattle.block.specs.Block.{at, Rows};
+ghost use lib.ListN.{length};
+ghost use Rattle.rules.specs.Tables.{row, qualifies, pairAt};
+ghost use Rattle.held.specs.Held.{Narrow};
+ghost use Rattle.block.specs.Block.{at, Rows, Joined};
 ghost use Rattle.block.specs.Near.{rowNear, anyNear, NextNear};
 
 // Whether row i + 1 of x and row j + 1 of y lie within the radius.
@@ -57,7 +53,7 @@ pub fn any_near(radius: u32, x: &[i32], y: &[i32]) -> bool
 // The pair of row i + 1 of x and row j + 1 of y; a and c rows stand before x and y in their tables.
 fn pair_at(x: &[i32], a: usize, i: usize, y: &[i32], c: usize, j: usize) -> Pair
     requires { ⌜ (4 * i + 4 ≤ length (now x)) × (4 * j + 4 ≤ length (now y)) × (a + i < 65535) × (c + j < 65535) ⌝ }
-    ensures { λ r. ⌜ r ≡ pairAt (at a (now (x .entry))) (at c (now (y .entry))) i j ⌝ }
+    ensures { λ r. ⌜ (r ≡ pairAt (at a (now (x .entry))) (at c (now (y .entry))) i j) × Narrow r ⌝ }
 {
     let s = tables::score(x, i);
     let t = tables::score(y, j);
@@ -84,26 +80,35 @@ fn next_near(radius: u32, x: &[i32], i: usize, y: &[i32], j: usize) -> usize
     n
 }
 
-// The block join: of the pairs held and the qualifying pairs of x and y the best-ranked, at most room. It goes from
-// one near pair to the next; where the room is used up, a pair that would fall off is not put.
-pub fn join(radius: u32, room: usize, x: &[i32], a: usize, y: &[i32], c: usize, h: Held) -> Held
-    requires { ⌜ Tidy h room × Ordered ahead (listOf h) ⌝ }
+// The block join: of the pairs held and the qualifying pairs of x and y the best-ranked, at most room: how many are
+// held then. It goes from one near pair to the next; where the room is used up, a pair that would fall off is not put.
+pub fn join(
+    radius: u32,
+    room: usize,
+    x: &[i32],
+    a: usize,
+    y: &[i32],
+    c: usize,
+    keys: &mut [u64; 64],
+    held: usize,
+) -> usize
+    requires { ⌜ (held ≤ room) × (room ≤ 64) × (length (now keys) ≡ 64) ⌝ }
     requires { ⌜ Rows a (now x) × Rows c (now y) ⌝ }
-    ensures { λ r. ⌜ r ≡ heldOf (take room (sort ahead (listOf h ++ qualifying radius (at a (now (x .entry))) (at c (now (y .entry)))))) ⌝ }
+    ensures { λ r. ⌜ Joined radius room (at a (now (x .entry))) (at c (now (y .entry))) held (now (keys .entry)) r (now (keys .exit)) ⌝ }
 {
     let m = x.len() / 4;
     let n = y.len() / 4;
     let last = (room + 63) % 64;
-    let mut g = h;
+    let mut g = held;
     let mut i: usize = 0;
     let mut j: usize = 0;
     while i < m {
         let k = next_near(radius, x, i, y, j);
         if k < n {
             let p = pair_at(x, a, i, y, c, k);
-            let q = g.pairs[last];
-            if !((g.n == room) & held::is_ahead(q, p)) {
-                g = held::put(g, room, p);
+            let key = held::key(p);
+            if !((g == room) & (keys[last] < key)) {
+                g = held::put(keys, g, room, p);
             }
             j = k + 1;
         } else {

@@ -66,8 +66,8 @@ fn put_shown(f: &[i32], t: &[i32], s: Session, place: &mut [u32])
         field: 0,
         trim: 0,
     };
-    let seen = record::look(s);
-    if checks::lent_code(seen.fits, s.rows, f, t) != 0 {
+    let fits = record::fits(s);
+    if checks::lent_code(fits, s.rows, f, t) != 0 {
         flat::put_pair(place, 0, none);
         return;
     }

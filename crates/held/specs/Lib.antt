@@ -1,2 +1,3 @@
 pub mod Held
-pub mod Tidy
+pub mod Keys
+pub mod Places

@@ -1,34 +1,59 @@
-// The pairs held, ranked, in 64 places: a pair is put at its place, and what passes the room there is falls off.
+// The pairs held, ranked, each as one number, its key, in 64 places that the caller lends: a pair is put at its place, and
+// what passes the room there is falls off.
 use rules::Pair;
 ghost use mathlib.Core.Path.{_≡_};
 ghost use Prim.Native.Nat.{_+_, _<_, _≤_};
-ghost use lib.ListN.{take, drop};
-ghost use Rattle.lists.specs.Lists.{ins};
-ghost use Rattle.rules.specs.Tables.{ahead};
-ghost use Rattle.held.specs.Held.{Tidy, listOf, heldOf, place, putAt};
+ghost use lib.ListN.{length, take};
+ghost use Rattle.held.specs.Held.{Narrow, Put, keyOf, pairOf, placeAt, placeOf, putAt};
 
-pub struct Held {
-    pub n: usize,
-    pub pairs: [Pair; 64],
-}
-
-// Whether p stands ahead of q.
-pub fn is_ahead(p: Pair, q: Pair) -> bool
-    ensures { λ r. ⌜ r ≡ ahead p q ⌝ }
+fn wide(n: u32) -> u64
+    ensures { λ r. ⌜ r ≡ n ⌝ }
 {
-    (q.sum < p.sum)
-        | ((p.sum == q.sum) & ((p.field < q.field) | ((p.field == q.field) & (p.trim < q.trim))))
+    n as u64
 }
 
-// The place of p among the first n pairs.
-fn find(a: [Pair; 64], n: usize, p: Pair) -> usize
-    requires { ⌜ n ≤ 64 ⌝ }
-    ensures { λ r. ⌜ (r ≡ place p (take n a)) × (r ≤ n) ⌝ }
+// The key of a pair: of two pairs the one ahead has the lower key.
+pub fn key(p: Pair) -> u64
+    requires { ⌜ Narrow p ⌝ }
+    ensures { λ r. ⌜ r ≡ keyOf p ⌝ }
+{
+    wide(4294967295 - p.sum) * 4294967296 + wide(p.field) * 65536 + wide(p.trim)
+}
+
+// The pair of a key.
+pub fn pair(k: u64) -> Pair
+    ensures { λ r. ⌜ r ≡ pairOf k ⌝ }
+{
+    Pair {
+        sum: (4294967295 - k / 4294967296) as u32,
+        field: (k / 65536 % 65536) as u32,
+        trim: (k % 65536) as u32,
+    }
+}
+
+// Place i of n held: the pair of its key, zeros beyond.
+pub fn place(a: &[u64; 64], i: usize, n: usize) -> Pair
+    requires { ⌜ i < 64 ⌝ }
+    ensures { λ r. ⌜ r ≡ placeAt (now (a .entry)) i n ⌝ }
+{
+    if i < n {
+        return pair(a[i]);
+    }
+    Pair {
+        sum: 0,
+        field: 0,
+        trim: 0,
+    }
+}
+
+// The place of the key p among the first n.
+fn find(a: &[u64], n: usize, p: u64) -> usize
+    requires { ⌜ n ≤ length (now a) ⌝ }
+    ensures { λ r. ⌜ (r ≡ placeOf p (take n (now (a .entry)))) × (r ≤ n) ⌝ }
 {
     let mut i = 0;
     while i < n {
-        let q = a[i];
-        if is_ahead(q, p) {
+        if a[i] < p {
             i += 1;
         } else {
             return i;
@@ -37,39 +62,36 @@ fn find(a: [Pair; 64], n: usize, p: Pair) -> usize
     i
 }
 
-// The pairs from i on move up by one, and p stands at i.
-fn shift(a: [Pair; 64], n: usize, i: usize, p: Pair) -> [Pair; 64]
-    requires { ⌜ (i ≤ n) × (n < 64) ⌝ }
-    ensures { λ r. ⌜ (take (n + 1) r ≡ putAt i p (take n a)) × (drop (n + 1) r ≡ drop (n + 1) a) ⌝ }
+// The keys from i on move up by one, and p stands at i.
+fn shift(a: &mut [u64], n: usize, i: usize, p: u64)
+    requires { ⌜ (i ≤ n) × (n < length (now a)) ⌝ }
+    ensures { λ _. ⌜ take (n + 1) (now (a .exit)) ≡ putAt i p (take n (now (a .entry))) ⌝ }
 {
-    let mut b = a;
     let mut c = p;
     let mut j = i;
     while j < n {
-        let q = b[j];
-        b[j] = c;
+        let q = a[j];
+        a[j] = c;
         c = q;
         j += 1;
     }
-    b[n] = c;
-    b
+    a[n] = c;
 }
 
-// p among the pairs held, of which at most room are kept.
-pub fn put(h: Held, room: usize, p: Pair) -> Held
-    requires { ⌜ Tidy h room ⌝ }
-    ensures { λ r. ⌜ r ≡ heldOf (take room (ins ahead p (listOf h))) ⌝ }
+// p among the n pairs held, of which at most room are kept: how many are held then.
+pub fn put(a: &mut [u64; 64], n: usize, room: usize, p: Pair) -> usize
+    requires { ⌜ Narrow p × (n ≤ room) × (room ≤ 64) ⌝ }
+    ensures { λ r. ⌜ Put n room p (now (a .entry)) r (now (a .exit)) ⌝ }
 {
-    let n = h.n;
-    let a = h.pairs;
-    let i = find(a, n, p);
+    let k = key(p);
+    let i = find(a, n, k);
     if room <= i {
-        return h;
+        return n;
     }
     if n < room {
-        let b = shift(a, n, i, p);
-        return Held { n: n + 1, pairs: b };
+        shift(a, n, i, k);
+        return n + 1;
     }
-    let b = shift(a, n - 1, i, p);
-    Held { n, pairs: b }
+    shift(a, n - 1, i, k);
+    n
 }

@@ -3,23 +3,21 @@
 use mathlib.Core.Path.{_≡_, refl, sym, ap, _∙_}
 use mathlib.Core.Bool.{Bool, true, false, cond, _&&_}
 use mathlib.Core.List.{List, [], append-nil}
-use Prim.Native.Nat.{ℕ, zero, suc, _+_, _-_, _%_, _≤_, _<_}
+use Prim.Native.Nat.{ℕ, zero, suc, _+_, _-_, _≤_}
 use native.Mathlib.Omega.{arith}
-use lib.Dec.{ltb, eqb}
+use lib.Dec.{ltb}
 use lib.IntN.{ℤ}
-use lib.ListN.{length, getD, take, replicate, length-append, length-replicate}
+use lib.ListN.{take}
 use lib.Seq.{take-all}
-use borrow.Author.Tests.{eqb-true}
 use Rattle.lists.specs.Lists.{sort}
 use Rattle.lists.specs.Sorts.{ordered-sort}
 use Rattle.rules.specs.declared.Pair.{Pair}
 use Rattle.rules.specs.declared.Session.{Session}
 use Rattle.rules.specs.Tables.{Block, rowCount, qualifying, ahead}
-use Rattle.rules.specs.Session.{noPair, places, heldPairs, firstScore}
-use Rattle.rules.specs.Read.{lowest, skipped, bestHeld, holding, meet}
+use Rattle.rules.specs.Session.{heldPairs, firstScore}
+use Rattle.rules.specs.Read.{skipped, bestHeld, holding, meet}
 use Rattle.block.specs.Near.{anyNear, none-qualify}
 use Rattle.reading.specs.Ready.{Ready}
-use Rattle.reading.specs.Meets.{lowest-held}
 
 abbrev pub skips : Bool → ℕ → List ℤ → List ℤ → Bool
 skips full low x y = full && ltb (firstScore x + firstScore y) low
@@ -61,15 +59,6 @@ counted s w =
     }
 
 module _ (s : Session) (r : Ready s) where
-  -- a record that is ready has 64 places
-  pub ready-places : length (s .pairs) ≡ 64
-  unfolding places
-  ready-places =
-      let l = heldPairs s in
-      ap length (r .zeros)
-      ∙ (length-append l (replicate (64 - length l) noPair)
-      ∙ omega (arith, length-replicate (64 - length l) noPair, r .count, r .room, r .query .k .1))
-
   -- no qualifying pair: the same pairs are held
   same-held : bestHeld s [] ≡ heldPairs s
   unfolding bestHeld
@@ -108,42 +97,26 @@ module _ (s : Session) (r : Ready s) where
         joined = e i;
       }
 
-  -- the code's test of a skipped block pair: the lowest held sum stands in the place before the first that is free
-  pub skips-is : (x y : Block) → skips (eqb (s .out + s .held) (s .query .k)) (getD (s .pairs) ((s .held + 63) % 64) noPair .sum) (x .rows) (y .rows) ≡ skipped s x y
-  unfolding skipped
-  skips-is x y = go (eqb (s .out + s .held) (s .query .k)) refl
-    where
-      go : (b : Bool) → eqb (s .out + s .held) (s .query .k) ≡ b
-          → (b && ltb (firstScore (x .rows) + firstScore (y .rows)) (getD (s .pairs) ((s .held + 63) % 64) noPair .sum)) ≡ (b && ltb (firstScore (x .rows) + firstScore (y .rows)) (lowest (heldPairs s)))
-      go false e = refl
-      go true e =
-          let full : s .out + s .held ≡ s .query .k = eqb-true (s .out + s .held) (s .query .k) e in
-          let some : 0 < s .held = omega (arith, r .wanted) in
-          let fit : s .held ≤ length (s .pairs) = omega (arith, ready-places, r .room, r .query .k .1) in
-          let i : (s .held + 63) % 64 ≡ s .held - 1 = omega (arith, r .room, r .query .k .1) in
-          ap (λ (n : ℕ). ltb (firstScore (x .rows) + firstScore (y .rows)) n)
-          (ap (λ (j : ℕ). getD (s .pairs) j noPair .sum) i ∙ sym (lowest-held s r fit some))
+  -- `full` and `low` are the code's numbers: whether k pairs are held or out, and the lowest held sum
+  module _ (full : Bool) (low : ℕ) (x y : Block) (test : skips full low (x .rows) (y .rows) ≡ skipped s x y) (w : ℕ) (f : Effect full low (s .query .radius) (x .rows) (y .rows) w) where
+    abbrev met : Bool → Session
+    met skip = cond skip s (joinedPair s x y)
 
-  -- the code's numbers: whether k pairs are held or out, and the lowest held sum
-  abbrev pub EffectOn : Block → Block → ℕ → Type 0
-  EffectOn x y w =
-      Effect (eqb (s .out + s .held) (s .query .k)) (getD (s .pairs) ((s .held + 63) % 64) noPair .sum) (s .query .radius) (x .rows) (y .rows) w
+    pub effect-joins : w ≡ 2 → joinedPair s x y ≡ meet s x y
+    unfolding meet
+    effect-joins e = sym (ap met (sym test ∙ f .joined e))
 
-  abbrev met : Block → Block → Bool → Session
-  met x y skip = cond skip s (joinedPair s x y)
-
-  pub effect-joins : (x y : Block) (w : ℕ) → EffectOn x y w → w ≡ 2 → joinedPair s x y ≡ meet s x y
-  unfolding meet
-  effect-joins x y w f e = sym (ap (met x y) (sym (skips-is x y) ∙ f .joined e))
-
-  pub effect-counts : (x y : Block) (w : ℕ) → EffectOn x y w → (w ≡ 2 → ⊥) → counted s w ≡ meet s x y
-  unfolding meet
-  effect-counts x y zero f h = counted-none ∙ sym (ap (met x y) (sym (skips-is x y) ∙ f .skip refl))
-  effect-counts x y (suc zero) f h =
-      let q = f .quiet refl in
-      sym
-      (ap (met x y) (sym (skips-is x y) ∙ q .0)
-      ∙ ap (λ (l : List Pair). holding s (bestHeld s l)) (none-qualify (s .query .radius) x y (q .1))
-      ∙ ap (holding s) same-held
-      ∙ holding-same)
-  effect-counts x y (suc (suc w)) f h = absurd (h (omega (arith, f .most)))
+    pub effect-counts : (w ≡ 2 → ⊥) → counted s w ≡ meet s x y
+    unfolding meet
+    effect-counts h = go w f h
+      where
+        go : (w : ℕ) → Effect full low (s .query .radius) (x .rows) (y .rows) w → (w ≡ 2 → ⊥) → counted s w ≡ meet s x y
+        go zero f h = counted-none ∙ sym (ap met (sym test ∙ f .skip refl))
+        go (suc zero) f h =
+            let q = f .quiet refl in
+            sym
+            (ap met (sym test ∙ q .0)
+            ∙ ap (λ (l : List Pair). holding s (bestHeld s l)) (none-qualify (s .query .radius) x y (q .1))
+            ∙ ap (holding s) same-held
+            ∙ holding-same)
+        go (suc (suc w)) f h = absurd (h (omega (arith, f .most)))

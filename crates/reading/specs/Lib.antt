@@ -3,3 +3,4 @@ pub mod Side
 pub mod Meets
 pub mod Due
 pub mod Effect
+pub mod Stands

@@ -7,7 +7,7 @@ use native.Mathlib.Nat.{mul-le-mul-right, suc-mul}
 use native.Mathlib.Numerals.{add-one}
 use native.Mathlib.Omega.{arith}
 use lib.IntN.{ℤ}
-use lib.ListN.{length, getD, take, drop, length-take, length-drop}
+use lib.ListN.{length, take, drop, length-take, length-drop}
 use lib.Seq.{length-take-le}
 use Rattle.lists.specs.Lists.{sort}
 use Rattle.lists.specs.Words.{Ordered}
@@ -16,36 +16,13 @@ use Rattle.rules.specs.declared.Pair.{Pair}
 use Rattle.rules.specs.declared.Session.{Session}
 use Rattle.rules.specs.Tables.{Block, qualifying, ahead}
 use Rattle.rules.specs.Ranking.{ahead-strict}
-use Rattle.rules.specs.Session.{noPair, places, heldPairs}
-use Rattle.rules.specs.Read.{lowest, skipped, bestHeld, holding, meet, rowsBetween, meetBlocks}
-use Rattle.held.specs.declared.Held.{Held}
-use Rattle.held.specs.Held.{heldOf, Tidy}
-use Rattle.held.specs.Tidy.{list-of-held}
+use Rattle.rules.specs.Session.{places, heldPairs}
+use Rattle.rules.specs.Read.{skipped, bestHeld, holding, meet, rowsBetween, meetBlocks}
+use Rattle.held.specs.Places.{list-of-places}
 use Rattle.block.specs.Block.{at, Rows}
-use Rattle.ceiling.specs.Last.{lowest-is-last, last-taken}
 use Rattle.reading.specs.declared.Span.{Span}
 use Rattle.reading.specs.Ready.{Ready}
 use Rattle.reading.specs.Side.{Inside, rowsOf}
-
--- the pairs held, as the block join takes them
-abbrev pub heldIn : Session → Held
-heldIn s = record { n = s .held; pairs = s .pairs }
-
-pub ready-tidy : (s : Session) → Ready s → Tidy (heldIn s) (s .query .k - s .out)
-ready-tidy s r =
-    let e = r .count in
-    let z = r .zeros in
-    record {
-      few = omega (arith, r .room);
-      room-fits = omega (arith, r .query .k .1);
-      zeros = λ i. record { n = sym e i; pairs = z i };
-    }
-
--- the lowest held sum stands in the last held place
-pub lowest-held : (s : Session) → Ready s → s .held ≤ length (s .pairs) → 0 < s .held → lowest (heldPairs s) ≡ getD (s .pairs) (s .held - 1) noPair .sum
-lowest-held s r k h =
-    lowest-is-last (heldPairs s) (omega (arith, r .count)) (r .order)
-    ∙ ap (λ (p : Pair). p .sum) (last-taken (s .pairs) (s .held) h k)
 
 -- the best of the pairs held and met are in order, and not too many
 best-ordered : (s : Session) (met : List Pair) → Ordered ahead (bestHeld s met)
@@ -59,7 +36,7 @@ best-few s met = omega (arith, length-take (s .query .k - s .out) (sort ahead (h
 holding-ready : (s : Session) (l : List Pair) → Ready s → Ordered ahead l → length l ≤ s .query .k - s .out → Ready (holding s l)
 unfolding holding
 holding-ready s l r o h =
-    let e : take (length l) (places l) ≡ l = list-of-held l in
+    let e : take (length l) (places l) ≡ l = list-of-places l in
     record {
       query = r .query;
       room = omega (arith, r .room);
@@ -81,11 +58,6 @@ pub blocks-ready : (field : Bool) (s : Session) (new : Block) (t : List ℤ) (de
 unfolding meetBlocks
 blocks-ready field s new t depth zero r = r
 blocks-ready field s new t depth (suc n) r = meet-ready _ _ _ (blocks-ready field s new t depth n r)
-
-pub taken-few : (g : Held) (room : ℕ) (m : List Pair) → g ≡ heldOf (take room m) → g .n ≤ room
-taken-few g room m e =
-    let n : g .n ≡ length (take room m) = ap (λ (h : Held). h .n) e in
-    omega (arith, length-take room m)
 
 -- ---- Parts of a table as blocks
 

@@ -1,6 +1,5 @@
 // Read: which table is next, whether anything unread can matter, and a new block that meets the blocks already read of
 // the other table in their order.
-use held::Held;
 use rules::Counts;
 use rules::FieldRows;
 use rules::Pair;
@@ -14,9 +13,10 @@ ghost use Rattle.rules.specs.Session.{settled};
 ghost use Rattle.rules.specs.Read.{scoreDrop, fieldNext, meetBlocks, nextDepth, readTable, readBlock};
 ghost use Rattle.rules.specs.Calls.{newBlockCode};
 ghost use Rattle.laws.specs.Sizes.{Lent};
-ghost use Rattle.block.specs.Block.{at, Rows};
+ghost use Rattle.block.specs.Block.{Joined};
 ghost use Rattle.reading.specs.Ready.{Ready, LastHeld};
-ghost use Rattle.reading.specs.Effect.{Effect, joinedPair};
+ghost use Rattle.reading.specs.Effect.{Effect};
+ghost use Rattle.reading.specs.Stands.{Keys, Stands, Meets, withKeys};
 ghost use Rattle.reading.specs.Side.{Inside, rowsOf, Due, downTo};
 
 // How far a table's score has dropped from its first row to the last row read.
@@ -84,25 +84,6 @@ pub fn is_settled(f: &[i32], t: &[i32], s: Session, last: Pair) -> bool
     ceiling::is_secured(f, t, s, last)
 }
 
-// One block pair, field and trim, a and c rows standing before them: joined and counted.
-fn join_pair(s: Session, x: &[i32], a: usize, y: &[i32], c: usize) -> Session
-    requires { ⌜ Ready s × (s .joined < 2 ^ 63) ⌝ }
-    requires { ⌜ Rows a (now x) × Rows c (now y) ⌝ }
-    ensures { λ r. ⌜ r ≡ joinedPair s (at a (now (x .entry))) (at c (now (y .entry))) ⌝ }
-{
-    let n = s.held as usize;
-    let places = s.pairs;
-    let h = Held { n, pairs: places };
-    let room = (s.query.k - s.out) as usize;
-    let g = block::join(s.query.radius, room, x, a, y, c, h);
-    let mut r = s;
-    let best = g.pairs;
-    r.held = g.n as u32;
-    r.pairs = best;
-    r.joined = s.joined + 1;
-    r
-}
-
 fn lesser(a: usize, b: usize) -> usize
     ensures { λ r. ⌜ r ≡ min a b ⌝ }
 {
@@ -121,17 +102,27 @@ fn either(first: bool, a: Span, b: Span) -> Span
     if first { a } else { b }
 }
 
-// Rows of the field table and rows of the trim table, each as a part of its table: joined and counted.
-fn join_parts(s: Session, f: &[i32], x: Span, t: &[i32], y: Span) -> Session
-    requires { ⌜ Ready s × (s .joined < 2 ^ 63) ⌝ }
+// Rows of the field table and rows of the trim table, each as a part of its table, are joined: of the pairs held, which
+// `keys` stands for, and the qualifying ones the best, at most room. How many are held then.
+fn join_parts(
+    radius: u32,
+    room: usize,
+    f: &[i32],
+    x: Span,
+    t: &[i32],
+    y: Span,
+    keys: &mut [u64; 64],
+    held: usize,
+) -> usize
+    requires { ⌜ (held ≤ room) × (room ≤ 64) × (length (now keys) ≡ 64) ⌝ }
     requires { ⌜ Inside x (now f) × Inside y (now t) ⌝ }
-    ensures { λ r. ⌜ r ≡ joinedPair s (rowsOf (now (f .entry)) x) (rowsOf (now (t .entry)) y) ⌝ }
+    ensures { λ r. ⌜ Joined radius room (rowsOf (now (f .entry)) x) (rowsOf (now (t .entry)) y) held (now (keys .entry)) r (now (keys .exit)) ⌝ }
 {
     let i = 4 * x.from;
     let j = 4 * x.to;
     let k = 4 * y.from;
     let l = 4 * y.to;
-    join_pair(s, &f[i..j], x.from, &t[k..l], y.from)
+    block::join(radius, room, &f[i..j], x.from, &t[k..l], y.from, keys, held)
 }
 
 // What a block pair comes to: 0, it is skipped; 1, it is joined, and no pair of it qualifies; 2, it is joined, pair by
@@ -166,6 +157,44 @@ fn effect_parts(full: bool, low: u32, radius: u32, f: &[i32], x: Span, t: &[i32]
     effect(full, low, radius, &f[i..j], &t[k..l])
 }
 
+// How many pairs are held and how many block pairs are joined.
+pub struct Met {
+    pub held: usize,
+    pub joined: u64,
+}
+
+// One block pair is met: skipped, or joined and counted.
+fn meet_parts(
+    radius: u32,
+    room: usize,
+    f: &[i32],
+    x: Span,
+    t: &[i32],
+    y: Span,
+    keys: &mut [u64; 64],
+    m: Met,
+) -> Met
+    requires { ⌜ (m .held ≤ room) × (room ≤ 64) × (m .joined < 2 ^ 63) × (length (now keys) ≡ 64) ⌝ }
+    requires { ⌜ Inside x (now f) × Inside y (now t) ⌝ }
+    ensures { λ r. ⌜ Meets radius room (rowsOf (now (f .entry)) x) (rowsOf (now (t .entry)) y) m (now (keys .entry)) r (now (keys .exit)) ⌝ }
+{
+    let full = m.held == room;
+    let last = (m.held + 63) % 64;
+    let p = held::pair(keys[last]);
+    let w = effect_parts(full, p.sum, radius, f, x, t, y);
+    if w == 2 {
+        let n = join_parts(radius, room, f, x, t, y, keys, m.held);
+        return Met {
+            held: n,
+            joined: m.joined + 1,
+        };
+    }
+    Met {
+        held: m.held,
+        joined: m.joined + w,
+    }
+}
+
 // The new block, of the field table where the flag says so, meets the first n blocks of the other table, down to its depth.
 fn meet_blocks(
     field: bool,
@@ -175,14 +204,19 @@ fn meet_blocks(
     new: Span,
     depth: usize,
     n: usize,
-) -> Session
-    requires { ⌜ Ready s × (s .joined + n < 2 ^ 63) ⌝ }
+    keys: &mut [u64; 64],
+) -> Met
+    requires { ⌜ Ready s × (s .joined + n < 2 ^ 63) × Keys s (now keys) ⌝ }
     requires { ⌜ Inside new (cond field (now f) (now t)) ⌝ }
     requires { ⌜ (depth ≤ 65535) × (4 * depth ≤ length (cond field (now t) (now f))) × (n * s .query .block < depth + s .query .block) ⌝ }
-    ensures { λ r. ⌜ r ≡ meetBlocks field s (rowsOf (cond field (now (f .entry)) (now (t .entry))) new) (cond field (now (t .entry)) (now (f .entry))) depth n ⌝ }
+    ensures { λ r. ⌜ Stands (meetBlocks field s (rowsOf (cond field (now (f .entry)) (now (t .entry))) new) (cond field (now (t .entry)) (now (f .entry))) depth n) r (now (keys .exit)) ⌝ }
 {
     let block = s.query.block as usize;
-    let mut r = s;
+    let room = (s.query.k - s.out) as usize;
+    let mut m = Met {
+        held: s.held as usize,
+        joined: s.joined,
+    };
     let mut c: usize = 0;
     let mut i: usize = 0;
     while i < n {
@@ -190,19 +224,11 @@ fn meet_blocks(
         let old = Span { from: c, to: g };
         let x = either(field, new, old);
         let y = either(field, old, new);
-        let full = r.out + r.held == r.query.k;
-        let last = (r.held as usize + 63) % 64;
-        let low = r.pairs[last].sum;
-        let w = effect_parts(full, low, r.query.radius, f, x, t, y);
-        if w == 2 {
-            r = join_parts(r, f, x, t, y);
-        } else {
-            r.joined = r.joined + w;
-        }
+        m = meet_parts(s.query.radius, room, f, x, t, y, keys, m);
         c = c + block;
         i += 1;
     }
-    r
+    m
 }
 
 fn pick(t: bool, a: u32, b: u32) -> u32
@@ -234,11 +260,19 @@ fn next_depth(block: u32, rows: u32, depth: u32) -> u32
     rows
 }
 
+// What a read changes of a record's numbers; the pairs held stand beside it as keys.
+pub struct After {
+    pub depth: Counts,
+    pub last: u32,
+    pub held: u32,
+    pub joined: u64,
+}
+
 // One block of a table, the field table where the flag says so, is read and meets the other table's; the table is read down
 // to its end, and marked as read last.
-fn read_on(field: bool, f: &[i32], t: &[i32], s: Session) -> Session
-    requires { ⌜ Due field (now f) (now t) s ⌝ }
-    ensures { λ r. ⌜ r ≡ readTable field (now (f .entry)) (now (t .entry)) s ⌝ }
+fn read_on(field: bool, f: &[i32], t: &[i32], s: Session, keys: &mut [u64; 64]) -> After
+    requires { ⌜ Due field (now f) (now t) s × Keys s (now keys) ⌝ }
+    ensures { λ r. ⌜ (withKeys s r (now (keys .exit)) ≡ readTable field (now (f .entry)) (now (t .entry)) s) × (r .held ≤ 64) × (length (now (keys .exit)) ≡ 64) ⌝ }
 {
     let block = s.query.block;
     let rows = pick(field, s.rows.field.0, s.rows.trim.0);
@@ -250,12 +284,15 @@ fn read_on(field: bool, f: &[i32], t: &[i32], s: Session) -> Session
         from: d as usize,
         to: e as usize,
     };
-    let mut r = meet_blocks(field, s, f, t, new, depth as usize, n as usize);
-    let to = down_to(field, e, r.depth);
+    let m = meet_blocks(field, s, f, t, new, depth as usize, n as usize, keys);
+    let to = down_to(field, e, s.depth);
     let last = pick(field, 1, 2);
-    r.depth = to;
-    r.last = last;
-    r
+    After {
+        depth: to,
+        last,
+        held: m.held as u32,
+        joined: m.joined,
+    }
 }
 
 // What 6 and 7 say of the new block, of the table that is read next.
@@ -275,11 +312,11 @@ pub fn new_block_code(f: &[i32], t: &[i32], s: Session) -> u32
     tables::rows_code(t, from, n)
 }
 
-// One block of the table that is next is read and meets the other table's.
-pub fn read_block(f: &[i32], t: &[i32], s: Session) -> Session
-    requires { ⌜ Lent (now f) (now t) s × (settled (now f) (now t) s ≡ false) ⌝ }
-    ensures { λ r. ⌜ r ≡ readBlock (now (f .entry)) (now (t .entry)) s ⌝ }
+// One block of the table that is next is read and meets the other table's. The pairs held go in and come back as keys.
+pub fn read_block(f: &[i32], t: &[i32], s: Session, keys: &mut [u64; 64]) -> After
+    requires { ⌜ Lent (now f) (now t) s × (settled (now f) (now t) s ≡ false) × Keys s (now keys) ⌝ }
+    ensures { λ r. ⌜ (withKeys s r (now (keys .exit)) ≡ readBlock (now (f .entry)) (now (t .entry)) s) × (r .held ≤ 64) × (length (now (keys .exit)) ≡ 64) ⌝ }
 {
     let field = field_next(f, t, s);
-    read_on(field, f, t, s)
+    read_on(field, f, t, s, keys)
 }

@@ -60,16 +60,9 @@ module _ (depth : Counts) where
       ∙ first-regroup w (every (pairWithin depth) (take n l)) (ranked ahead (p ∷ take n l)) (every isZeros (drop n l))
 
   -- one place more
-  module _ (i n : ℕ) (b : Pair) (a : List Pair) (h : i < length a) where
-    split : placesFrom i n depth b (drop i a) ≡ placeFits i n depth b (getD a i noPair) && placesFrom (suc i) n depth (getD a i noPair) (drop (suc i) a)
-    unfolding placesFrom
-    split = ap (placesFrom i n depth b) (drop-cons a i noPair h)
-
-    pub place-on : placeFits i n depth b (getD a i noPair) ≡ true → placesFrom i n depth b (drop i a) ≡ placesFrom (suc i) n depth (getD a i noPair) (drop (suc i) a)
-    place-on t = split ∙ ap (λ (x : Bool). x && placesFrom (suc i) n depth (getD a i noPair) (drop (suc i) a)) t
-
-    pub place-stop : placeFits i n depth b (getD a i noPair) ≡ false → placesFrom i n depth b (drop i a) ≡ false
-    place-stop t = split ∙ ap (λ (x : Bool). x && placesFrom (suc i) n depth (getD a i noPair) (drop (suc i) a)) t
+  pub place-more : (i n : ℕ) (b : Pair) (a : List Pair) → i < length a → placesFrom i n depth b (drop i a) ≡ placeFits i n depth b (getD a i noPair) && placesFrom (suc i) n depth (getD a i noPair) (drop (suc i) a)
+  unfolding placesFrom
+  place-more i n b a h = ap (placesFrom i n depth b) (drop-cons a i noPair h)
 
   pub places-end : (i n : ℕ) (b : Pair) (a : List Pair) → length a ≤ i → placesFrom i n depth b (drop i a) ≡ true
   unfolding placesFrom

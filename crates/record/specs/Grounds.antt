@@ -1,19 +1,15 @@
--- Grounds of 5, over the numbers that they look at and not the whole record, and the last held pair. Assumes nothing.
-use mathlib.Core.Path.{_≡_, ap}
-use Prim.Native.Nat.{ℕ, suc, _+_, _*_, _-_, _%_, _≤_, _<_}
-use native.Mathlib.Omega.{arith}
+-- Grounds of 5, over the numbers that they look at and not the whole record. Assumes nothing.
+use Prim.Native.Nat.{ℕ, suc, _+_, _*_, _≤_}
 use mathlib.Core.Bool.{Bool, true, false, cond, _&&_, _||_}
 use mathlib.Core.List.{List, [], _∷_}
 use lib.Dec.{leb, ltb, eqb}
-use lib.ListN.{getD}
 use Rattle.rules.specs.declared.Counts.{Counts}
 use Rattle.rules.specs.declared.Pair.{Pair}
 use Rattle.rules.specs.declared.Query.{Query}
-use Rattle.rules.specs.declared.Session.{Session}
 use Rattle.rules.specs.Tables.{ahead}
-use Rattle.rules.specs.Session.{noPair}
 use Rattle.rules.specs.Read.{blockCount}
 use Rattle.rules.specs.Calls.{between, queryCode, countsFit, isZeros}
+use Rattle.held.specs.Held.{keyOf}
 
 -- `pairFits` of the two depths
 unfoldable pub pairWithin : Counts → Pair → Bool
@@ -40,17 +36,17 @@ numbersFit q rows depth last out held joined =
 unfoldable pub placeFits : ℕ → ℕ → Counts → Pair → Pair → Bool
 placeFits i n depth before p = cond (leb n i) (isZeros p) (pairWithin depth p && (eqb i 0 || ahead before p))
 
+-- no row of a held pair can be beyond 65,535
+pub record Shallow (depth : Counts) : Type 0 where
+  pub field : depth .field .0 ≤ 65535
+  pub trim : depth .trim .0 ≤ 65535
+
+-- the same by keys, `before` being the key before: the pair's key, or 1 for zeros; 0 where the place does not fit
+unfoldable pub placeKey : ℕ → ℕ → Counts → ℕ → Pair → ℕ
+placeKey i n depth before p =
+    cond (leb n i) (cond (isZeros p) 1 0) (cond (pairWithin depth p) (cond (ltb before (keyOf p)) (keyOf p) 0) 0)
+
 -- the places from place i on
 unfoldable pub placesFrom : ℕ → ℕ → Counts → Pair → List Pair → Bool
 placesFrom i n depth before [] = true
 placesFrom i n depth before (p ∷ l) = placeFits i n depth before p && placesFrom (suc i) n depth p l
-
--- the pair in the last held place; where none is held, what stands in the last place of all
-unfoldable pub lastHeld : Session → Pair
-lastHeld s = getD (s .pairs) ((s .held + 63) % 64) noPair
-
-pub last-held : (s : Session) → 0 < s .held → s .held ≤ 64 → lastHeld s ≡ getD (s .pairs) (s .held - 1) noPair
-unfolding lastHeld
-last-held s some few =
-    let here : (s .held + 63) % 64 ≡ s .held - 1 = omega arith in
-    ap (λ (i : ℕ). getD (s .pairs) i noPair) here

@@ -4,11 +4,11 @@ use rules::Pair;
 use rules::Query;
 use rules::Session;
 ghost use mathlib.Core.Path.{_≡_};
-ghost use mathlib.Core.Bool.{true};
+ghost use mathlib.Core.Bool.{cond};
 ghost use Prim.Native.Nat.{_+_, _*_, _-_, _≤_, _<_, _/_};
 ghost use Rattle.rules.specs.Read.{blockCount};
 ghost use Rattle.rules.specs.Calls.{queryCode, countsFit, isZeros, recordFits};
-ghost use Rattle.record.specs.Grounds.{pairWithin, markOf, numbersFit, placeFits, lastHeld};
+ghost use Rattle.record.specs.Grounds.{Shallow, pairWithin, markOf, numbersFit, placeKey};
 
 // What a query is refused by, 1 to 3 in this order; 0 where it is not.
 pub fn query_code(q: Query) -> u32
@@ -76,7 +76,7 @@ pub fn block_count(block: u32, depth: u32) -> u64
 }
 
 // All grounds but those of the pair places.
-fn numbers_fit(
+pub fn numbers_fit(
     q: Query,
     rows: Counts,
     depth: Counts,
@@ -102,53 +102,54 @@ fn numbers_fit(
     few & (mark & (joined <= most))
 }
 
-// Pair place i: one of the n held, which fits and stands behind the one before it, or zeros.
-fn place_fits(i: usize, n: usize, depth: Counts, before: Pair, p: Pair) -> bool
-    ensures { λ r. ⌜ r ≡ placeFits i n depth before p ⌝ }
+// Where a look through the places begins: at the first, or behind the last, where the numbers do not fit.
+pub fn first_place(fits: bool) -> usize
+    ensures { λ r. ⌜ r ≡ cond fits 0 64 ⌝ }
+{
+    if fits { 0 } else { 64 }
+}
+
+// Pair place i, `before` being the key before it: the key of one of the n held, which fits and stands behind that one; 1 for
+// zeros beyond them; 0 where the place does not fit.
+pub fn place_key(i: usize, n: usize, depth: Counts, before: u64, p: Pair) -> u64
+    requires { ⌜ Shallow depth ⌝ }
+    ensures { λ r. ⌜ r ≡ placeKey i n depth before p ⌝ }
 {
     if n <= i {
-        return is_zeros(p);
+        if is_zeros(p) {
+            return 1;
+        }
+        return 0;
     }
-    let fits = pair_fits(depth, p);
-    fits & ((i == 0) | held::is_ahead(before, p))
+    if !pair_fits(depth, p) {
+        return 0;
+    }
+    let key = held::key(p);
+    if before < key {
+        return key;
+    }
+    0
 }
 
-// What a look through a record finds: whether it is not refused by 5, and the last held pair.
-pub struct Looked {
-    pub fits: bool,
-    pub last: Pair,
-}
-
-// The record is handed in once, and its places are looked at where they stand: whoever calls need not look again.
-pub fn look(s: Session) -> Looked
-    ensures { λ r. ⌜ (r .fits ≡ recordFits s) × (r .fits ≡ true → r .last ≡ lastHeld s) ⌝ }
+// Whether the record is not refused by 5: the numbers, then place after place. It copies the record: read and take, which
+// have it at hand, look through the places themselves.
+pub fn fits(s: Session) -> bool
+    ensures { λ r. ⌜ r ≡ recordFits s ⌝ }
 {
-    let none = Pair {
-        sum: 0,
-        field: 0,
-        trim: 0,
-    };
-    if !numbers_fit(s.query, s.rows, s.depth, s.last, s.out, s.held, s.joined) {
-        return Looked {
-            fits: false,
-            last: none,
-        };
-    }
     let n = s.held as usize;
     let depth = s.depth;
-    let mut before = none;
-    let mut i: usize = 0;
+    let mut fits = numbers_fit(s.query, s.rows, s.depth, s.last, s.out, s.held, s.joined);
+    let mut before: u64 = 0;
+    let mut i = first_place(fits);
     while i < 64 {
         let p = s.pairs[i];
-        if !place_fits(i, n, depth, before, p) {
-            return Looked {
-                fits: false,
-                last: none,
-            };
+        let key = place_key(i, n, depth, before, p);
+        if key == 0 {
+            fits = false;
+            break;
         }
-        before = p;
+        before = key;
         i += 1;
     }
-    let last = s.pairs[(n + 63) % 64];
-    Looked { fits: true, last }
+    fits
 }

@@ -13,7 +13,7 @@ ghost use Prim.Native.Nat.{_+_, _*_, _-_, _≤_, _<_, _/_};
 ghost use denote.Ref.{ptr};
 ghost use lib.ListN.{length};
 ghost use Rattle.rules.specs.Session.{opened, zeros};
-ghost use Rattle.rules.specs.Take.{givesPair, movedOut, finished, lastBlock};
+ghost use Rattle.rules.specs.Take.{givesPair, finished, lastBlock};
 ghost use Rattle.rules.specs.Tables.{part};
 ghost use Rattle.laws.specs.Sizes.{Lent};
 ghost use Rattle.reading.specs.Ready.{LastHeld};
@@ -114,42 +114,50 @@ fn read_answer(code: u32, f: &[i32], t: &[i32], s: Session, last: Pair) -> Answe
     Answer::Read
 }
 
-// Read: settled, or one block of the table that is next, which meets the blocks already read of the other.
+// Read: settled, or one block of the table that is next, which meets the blocks already read of the other. The pair places
+// are looked through here, and in take, as in `record::fits`, and filled here: handed on, the record would be copied once
+// more. While blocks meet, the pairs held are keys, lent to whoever puts one among them.
 pub fn read(f: &[i32], t: &[i32], s: Session) -> Step
     ensures { λ r. ⌜ r ≡ readCall (now (f .entry)) (now (t .entry)) s ⌝ }
 {
     let mut r = s;
-    let seen = record::look(r);
-    let code = checks::call_code(seen.fits, r.rows, r.depth, f, t);
-    let answer = read_answer(code, f, t, r, seen.last);
+    let n = r.held as usize;
+    let end = (n + 63) % 64;
+    let depth = r.depth;
+    let mut fits = record::numbers_fit(r.query, r.rows, r.depth, r.last, r.out, r.held, r.joined);
+    let mut before: u64 = 0;
+    let mut keys: [u64; 64] = [0; 64];
+    let mut i = record::first_place(fits);
+    while i < 64 {
+        let p = r.pairs[i];
+        let key = record::place_key(i, n, depth, before, p);
+        if key == 0 {
+            fits = false;
+            break;
+        }
+        keys[i] = key;
+        before = key;
+        i += 1;
+    }
+    let code = checks::call_code(fits, r.rows, r.depth, f, t);
+    let last = r.pairs[end];
+    let answer = read_answer(code, f, t, r, last);
     if let Answer::Read = answer {
-        let read = reading::read_block(f, t, r);
-        r = read;
+        let after = reading::read_block(f, t, r, &mut keys);
+        let to = after.depth;
+        let m = after.held as usize;
+        r.depth = to;
+        r.last = after.last;
+        r.held = after.held;
+        r.joined = after.joined;
+        let mut j: usize = 0;
+        while j < 64 {
+            let p = held::place(&keys, j, m);
+            r.pairs[j] = p;
+            j += 1;
+        }
     }
     Step { answer, session: r }
-}
-
-// The first held pair moves out: those behind it move up, and a place of zeros stands at the end.
-fn moved_out(s: Session) -> Session
-    requires { ⌜ (0 < s .held) × (s .out ≤ 64) ⌝ }
-    ensures { λ r. ⌜ r ≡ movedOut s ⌝ }
-{
-    let mut r = s;
-    let mut j: usize = 0;
-    while j < 63 {
-        let q = r.pairs[j + 1];
-        r.pairs[j] = q;
-        j += 1;
-    }
-    let z = Pair {
-        sum: 0,
-        field: 0,
-        trim: 0,
-    };
-    r.pairs[63] = z;
-    r.out = r.out + 1;
-    r.held = r.held - 1;
-    r
 }
 
 // Whether a take answers the first held pair.
@@ -193,16 +201,44 @@ fn take_answer(code: u32, f: &[i32], t: &[i32], s: Session) -> Answer
     Answer::NotYet
 }
 
-// Take: the first held pair is answered and moved out; nothing else changes the record.
+// Take: the first held pair is answered and moved out, those behind it move up, and a place of zeros stands at the end;
+// nothing else changes the record.
 pub fn take(f: &[i32], t: &[i32], s: Session) -> Step
     ensures { λ r. ⌜ r ≡ takeCall (now (f .entry)) (now (t .entry)) s ⌝ }
 {
     let mut r = s;
-    let seen = record::look(r);
-    let code = checks::call_code(seen.fits, r.rows, r.depth, f, t);
+    let n = r.held as usize;
+    let depth = r.depth;
+    let mut fits = record::numbers_fit(r.query, r.rows, r.depth, r.last, r.out, r.held, r.joined);
+    let mut before: u64 = 0;
+    let mut i = record::first_place(fits);
+    while i < 64 {
+        let p = r.pairs[i];
+        let key = record::place_key(i, n, depth, before, p);
+        if key == 0 {
+            fits = false;
+            break;
+        }
+        before = key;
+        i += 1;
+    }
+    let code = checks::call_code(fits, r.rows, r.depth, f, t);
     let answer = take_answer(code, f, t, r);
     if let Answer::Given(_) = answer {
-        r = moved_out(r);
+        let mut j: usize = 0;
+        while j < 63 {
+            let q = r.pairs[j + 1];
+            r.pairs[j] = q;
+            j += 1;
+        }
+        let z = Pair {
+            sum: 0,
+            field: 0,
+            trim: 0,
+        };
+        r.pairs[63] = z;
+        r.out = r.out + 1;
+        r.held = r.held - 1;
     }
     Step { answer, session: r }
 }
@@ -224,8 +260,8 @@ pub fn show<'a>(f: &'a [i32], t: &'a [i32], s: Session) -> &'a [i32]
     ensures { λ r. ⌜ now r ≡ showCall (now (f .entry)) (now (t .entry)) s ⌝ }
     ensures { λ r. ⌜ ptr r ≡ showPlace (now (f .entry)) (now (t .entry)) (ptr (f .entry)) (ptr (t .entry)) s ⌝ }
 {
-    let seen = record::look(s);
-    if checks::lent_code(seen.fits, s.rows, f, t) != 0 {
+    let fits = record::fits(s);
+    if checks::lent_code(fits, s.rows, f, t) != 0 {
         return &f[..0];
     }
     if s.last == 1 {

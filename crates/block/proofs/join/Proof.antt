@@ -1,35 +1,26 @@
 -- `join` meets its contract: the pairs held are those of all pairs of rows passed so far, and pair by pair is all at
 -- once. Assumes nothing.
-use mathlib.Core.Path.{_≡_, refl, sym, ap, _∙_}
+use mathlib.Core.Path.{_≡_, refl, sym, ap, subst, _∙_}
 use mathlib.Core.Logic.{⊎-elim}
-use mathlib.Core.List.{List}
-use Prim.Native.Nat.{ℕ, _+_, _*_, _-_, _≤_, _<_, _/_}
+use Prim.Native.Nat.{ℕ, _+_, _*_, _-_, _%_, _≤_, _<_, _/_}
 use native.Mathlib.Nat.{suc-mul}
 use native.Mathlib.Omega.{arith}
-use lib.Dec.{eqb}
-use lib.ListN.{length, take}
+use lib.Dec.{eqb, ltb}
+use lib.ListN.{length, getD}
 use borrow.Author.Tests.{not-false, eqb-true}
-use Rattle.lists.specs.Lists.{ins}
 use Rattle.lists.specs.Bools.{both-true}
-use Rattle.rules.specs.declared.Pair.{Pair}
-use Rattle.rules.specs.Tables.{ahead}
-use borrow.Author.Needs.{needs}
-use Rattle.held.specs.declared.Held.{Held}
-use Rattle.held.specs.Held.{listOf, heldOf}
-use Rattle.held.specs.Tidy.{list-of-held, held-tidy, few-held}
-use Rattle.block.specs.Block.{at, metRow, metRows}
-use Rattle.block.specs.Full.{off, to-ordered}
-use Rattle.block.specs.Twin.{metTo, to-few, to-next, row-joins, row-skips, met-is}
+use Rattle.block.specs.Block.{at}
+use Rattle.block.proofs.Turns as Turns
 use Rattle.block.proofs.join.Statement.{statement}
 use Rattle.block.proofs.join.Tie as tie
 
 abbrev Inv-loop : tie.InvT-loop
-Inv-loop radius room x a y c m n last g₀ i₀ j₀ g i j =
-    (i ≤ m) × (j ≤ n) × (m ≤ i → j ≡ 0) × (g ≡ heldOf (metTo radius room (at a x) (at c y) (listOf g₀) i j))
+Inv-loop radius room x a y c keys₀ held m n last g₀ i₀ j₀ keys g i j =
+    (i ≤ m) × (j ≤ n) × (m ≤ i → j ≡ 0) × (g ≤ room) × (length keys ≡ 64) × Turns.Met radius room (at a x) (at c y) held keys₀ i j g keys
 
 -- the pairs of rows that are left, one more for the end of each row
 abbrev μ-loop : tie.MeasureT-loop
-μ-loop radius room x a y c m n last g₀ i₀ j₀ g i j = (m - i) * (n + 1) + (n - j)
+μ-loop radius room x a y c keys₀ held m n last g₀ i₀ j₀ keys g i j = (m - i) * (n + 1) + (n - j)
 
 row-less : (m n i j : ℕ) → i < m → (m - (i + 1)) * (n + 1) + (n - 0) < (m - i) * (n + 1) + (n - j)
 row-less m n i j h =
@@ -38,11 +29,18 @@ row-less m n i j h =
     omega (arith, e)
 
 add-last : tie.Need-add-last Inv-loop μ-loop
-add-last c = record { fits = omega (arith, c .pre .0 .0 .room-fits) }
+add-last c = omega arith
 
 loop-holds : tie.Need-loop-holds Inv-loop μ-loop
-unfolding metRow metRows
-loop-holds c = (omega arith, omega arith, λ _. refl, c .pre .0 .0 .zeros)
+loop-holds c =
+    let s = c in (
+      omega arith,
+      omega arith,
+      λ _. refl,
+      s .pre .0 .0,
+      s .pre .0 .2,
+      Turns.start (s .args .radius) (s .args .room) (at (s .args .a) (s .args .x .now)) (at (s .args .c) (s .args .y .now)) (s .args .held) (s .args .keys .now),
+    )
 
 next-near-requires : tie.Need-next-near-requires Inv-loop μ-loop
 next-near-requires c κs = omega arith
@@ -53,33 +51,25 @@ pair-at-requires c κs =
     let h : c .before .next-near .result < length (s .args .y .now) / 4 = c .if1 .taken in
     omega (arith, h, c .before .before .loop-test .taken, s .pre .1 .0 .whole, s .pre .1 .0 .few, s .pre .1 .1 .whole, s .pre .1 .1 .few)
 
-mul-q : tie.Need-mul-q Inv-loop μ-loop
-mul-q c = record { fits = omega arith }
+key-requires : tie.Need-key-requires Inv-loop μ-loop
+key-requires c κs = c .pair-at .ensures .1
 
-element-copy-out-q : tie.Need-element-copy-out-q Inv-loop μ-loop
-element-copy-out-q c = omega arith
+mul-if2 : tie.Need-mul-if2 Inv-loop μ-loop
+mul-if2 c = record { fits = omega arith }
 
-is-ahead-requires : tie.Need-is-ahead-requires Inv-loop μ-loop
-is-ahead-requires c κs = search needs
+element-copy-out-if2 : tie.Need-element-copy-out-if2 Inv-loop μ-loop
+element-copy-out-if2 c = omega arith
 
 put-requires : tie.Need-put-requires Inv-loop μ-loop
 put-requires c κs =
-    let s = c .before .before .before .before .before .before .before .before in
-    let v = c .before .before .before .before .before .before .before .loop in
-    let x = at (s .args .a) (s .args .x .now) in
-    let y = at (s .args .c) (s .args .y .now) in
-    let l = listOf (s .args .h) in
-    rw (v .inv .3)
-    (held-tidy (metTo (s .args .radius) (s .args .room) x y l (v .i) (v .j)) (s .args .room)
-    (to-few (s .args .radius) (s .args .room) x y l (v .i) (v .j) (few-held (s .args .h) (s .args .room) (s .pre .0 .0)))
-    (s .pre .0 .0 .room-fits))
+    let v = c .before .before .before .before .before .before .before .before in
+    (c .before .before .before .before .pair-at .ensures .1, v .loop .inv .3, v .before .pre .0 .1)
 
 add-j : tie.Need-add-j Inv-loop μ-loop
 add-j c = omega arith
 
 loop-less : tie.Need-loop-less Inv-loop μ-loop
 loop-less c =
-    let v = c .before .before .before .before .before .before .before .loop in
     let near = c .before .before .before .before .before .next-near in
     omega (arith, near .ensures .from, c .before .before .before .before .if1 .taken)
 
@@ -88,31 +78,33 @@ loop-again c =
     let s = c .before .before .before .before .before .before .before .before in
     let v = c .before .before .before .before .before .before .before .loop in
     let near = c .before .before .before .before .before .next-near in
-    let h : near .result < length (s .args .y .now) / 4 = c .before .before .before .before .if1 .taken in
-    let turn : v .i < length (s .args .x .now) / 4 = c .before .before .before .before .before .before .loop-test .taken in
     let x = at (s .args .a) (s .args .x .now) in
     let y = at (s .args .c) (s .args .y .now) in
-    let l = listOf (s .args .h) in
-    let met = metRows (s .args .radius) (s .args .room) x y l (v .i) in
-    let m = metTo (s .args .radius) (s .args .room) x y l (v .i) (near .result) in
-    let here : v .g ≡ heldOf m = v .inv .3 ∙ ap heldOf (row-skips (s .args .radius) (s .args .room) x y (v .i) met (v .j) (near .result) (near .ensures .from) (near .ensures .none-before)) in
-    let order = to-ordered (s .args .radius) (s .args .room) x y l (v .i) (near .result) (s .pre .0 .1) in
+    let n = s .args .held in
+    let a = s .args .keys .now in
     let p = c .before .before .before .pair-at in
-    let joins : (g : Held) → g ≡ heldOf (take (s .args .room) (ins ahead (p .result) (listOf (v .g)))) → g ≡ heldOf (metTo (s .args .radius) (s .args .room) x y l (v .i) (near .result + 1)) =
-    λ g e. row-joins (s .args .radius) (s .args .room) x y (v .i) (near .result) met (v .g) g (p .result) here (near .ensures .found h) (p .ensures) e in (
-      omega (arith, turn),
-      omega (arith, h),
-      λ z. absurd (omega (arith, z, turn)),
-      ⊎-elim
-          (λ w. w .2 ∙ joins (w .1 .result) (w .1 .ensures))
-          (λ w.
-          let both = both-true (eqb (v .g .n) (s .args .room)) (c .before .is-ahead .result) (not-false _ (w .0 .left)) in
-          let stays = off (v .g) m (s .args .room) (p .result) here order (s .pre .0 .0 .room-fits) (eqb-true (v .g .n) (s .args .room) (both .0)) (sym (c .before .is-ahead .ensures) ∙ both .1) in
-          let same : v .g ≡ heldOf (take (s .args .room) (ins ahead (p .result) (listOf (v .g)))) =
-          here ∙ ap heldOf (sym stays) ∙ ap (λ (r : List Pair). heldOf (take (s .args .room) (ins ahead (p .result) r))) (sym (ap listOf here ∙ list-of-held m)) in
-          w .1 ∙ joins (v .g) same)
-          (c .if2 .came),
-    )
+    let key = c .before .before .key in
+    let h : near .result < length (s .args .y .now) / 4 = c .before .before .before .before .if1 .taken in
+    let turn : v .i < length (s .args .x .now) / 4 = c .before .before .before .before .before .before .loop-test .taken in
+    let here = Turns.skipped (s .args .radius) (s .args .room) x y n a (v .i) (v .g) (v .keys) (v .j) (near .result) (near .ensures) (v .inv .5) in
+    let Met = Turns.Met (s .args .radius) (s .args .room) x y n a (v .i) (near .result + 1) in
+    let after : (c .if2 .g ≤ s .args .room) × (length (c .if2 .keys) ≡ 64) × Met (c .if2 .g) (c .if2 .keys) =
+    ⊎-elim
+    (λ w.
+    let next : Met (w .2 .result) (w .2 .last .0) =
+    Turns.joined (s .args .radius) (s .args .room) x y n a (v .i) (v .g) (v .keys) (near .result) (w .2 .result) (w .2 .last .0) (p .result)
+    here (near .ensures .found h) (p .ensures .0) (w .2 .ensures) in
+    rw (w .3, w .4) (w .2 .ensures .few, w .2 .ensures .long, next))
+    (λ w.
+    let last = getD (v .keys) ((s .args .room + 63) % 64) 0 in
+    let both = both-true (eqb (v .g) (s .args .room)) (ltb last (key .result)) (not-false _ (w .0 .left)) in
+    let behind = ap (ltb last) (sym (key .ensures)) ∙ both .1 in
+    let next : Met (v .g) (v .keys) =
+    Turns.fallen (s .args .radius) (s .args .room) x y n a (v .i) (v .g) (v .keys) (near .result) (p .result)
+    here (near .ensures .found h) (p .ensures .0) (p .ensures .1) (v .inv .4) (s .pre .0 .1) (eqb-true (v .g) (s .args .room) (both .0)) behind in
+    rw (w .1, w .2) (v .inv .3, v .inv .4, next))
+    (c .if2 .came) in
+    (omega (arith, turn), omega (arith, h), λ z. absurd (omega (arith, z, turn)), after .0, after .1, after .2)
 
 add-i : tie.Need-add-i Inv-loop μ-loop
 add-i c = omega arith
@@ -128,33 +120,32 @@ loop-again-2 c =
     let s = c .before .before .before .before in
     let v = c .before .before .before .loop in
     let near = c .before .next-near in
-    let n = length (s .args .y .now) / 4 in
     let x = at (s .args .a) (s .args .x .now) in
     let y = at (s .args .c) (s .args .y .now) in
-    let l = listOf (s .args .h) in
-    let met = metRows (s .args .radius) (s .args .room) x y l (v .i) in
-    let e : near .result ≡ n = omega (arith, near .ensures .upto, c .if1 .left) in
-    let skips = row-skips (s .args .radius) (s .args .room) x y (v .i) met (v .j) (near .result) (near .ensures .from) (near .ensures .none-before) in (
+    let n = s .args .held in
+    let a = s .args .keys .now in
+    let e : near .result ≡ length (s .args .y .now) / 4 = omega (arith, near .ensures .upto, c .if1 .left) in
+    let here = Turns.skipped (s .args .radius) (s .args .room) x y n a (v .i) (v .g) (v .keys) (v .j) (near .result) (near .ensures) (v .inv .5) in (
       omega (arith, c .before .before .loop-test .taken),
       omega arith,
       λ _. refl,
-      v .inv .3 ∙ ap heldOf (skips ∙ ap (metTo (s .args .radius) (s .args .room) x y l (v .i)) e ∙ to-next (s .args .radius) (s .args .room) x y l (v .i)),
+      v .inv .3,
+      v .inv .4,
+      Turns.next (s .args .radius) (s .args .room) x y n a (v .i) (v .g) (v .keys) (near .result) e here,
     )
 
 returns : tie.Need-returns Inv-loop μ-loop
-unfolding metRow
 returns c =
     let s = c .before .before in
     let v = c .before .loop in
     let x = at (s .args .a) (s .args .x .now) in
     let y = at (s .args .c) (s .args .y .now) in
-    let l = listOf (s .args .h) in
+    let n = s .args .held in
+    let a = s .args .keys .now in
     let e : v .i ≡ length (s .args .x .now) / 4 = omega (arith, v .inv .0, c .loop-test .left) in
-    let z = v .inv .2 (omega (arith, c .loop-test .left)) in
-    v .inv .3
-    ∙ ap (λ (j : ℕ). heldOf (metTo (s .args .radius) (s .args .room) x y l (v .i) j)) z
-    ∙ ap (λ (i : ℕ). heldOf (metRows (s .args .radius) (s .args .room) x y l i)) e
-    ∙ ap heldOf (met-is (s .args .radius) (s .args .room) x y l (s .pre .0 .1) (few-held (s .args .h) (s .args .room) (s .pre .0 .0)))
+    let z : v .j ≡ 0 = v .inv .2 (omega (arith, c .loop-test .left)) in
+    let met = subst (λ (j : ℕ). Turns.Met (s .args .radius) (s .args .room) x y n a (v .i) j (v .g) (v .keys)) z (v .inv .5) in
+    Turns.all-met (s .args .radius) (s .args .room) x y n a (v .i) (v .g) (v .keys) e met (s .pre .0 .0) (v .inv .3) (v .inv .4)
 
 pub join-spec : {M : Type 1} → statement M
 join-spec =
@@ -166,9 +157,9 @@ join-spec =
     loop-holds
     next-near-requires
     pair-at-requires
-    mul-q
-    element-copy-out-q
-    is-ahead-requires
+    key-requires
+    mul-if2
+    element-copy-out-if2
     put-requires
     add-j
     loop-less

@@ -1,4 +1,5 @@
 -- `pair_at` meets its contract, by what `score` ensures. Assumes nothing.
+use native.Mathlib.Omega.{arith}
 use mathlib.Core.Path.{refl}
 use Rattle.rules.specs.Tables.{pairAt, pairSum}
 use borrow.Author.Needs.{needs}
@@ -34,7 +35,7 @@ cast-t15 c = search needs
 
 returns : tie.Need-returns
 unfolding pairAt pairSum
-returns c = simp (c .before .score .ensures .0, c .score2 .ensures .0) refl
+returns c = (simp (c .before .score .ensures .0, c .score2 .ensures .0) refl, record { sum = omega arith; field = omega arith; trim = omega arith })
 
 pub pair-at-spec : {M : Type 1} → statement M
 pair-at-spec =

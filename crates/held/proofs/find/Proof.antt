@@ -1,36 +1,32 @@
-use mathlib.Core.Path.{_≡_, sym, ap, _∙_}
-use Prim.Native.Nat.{_+_, _-_, _≤_, _<_}
+-- `find` meets its contract: each number passed is lower. Assumes nothing.
+use mathlib.Core.Path.{_≡_, ap, _∙_}
+use mathlib.Core.Bool.{true, false}
+use Prim.Native.Nat.{ℕ, _+_, _-_, _≤_, _<_}
 use native.Mathlib.Omega.{arith}
-use borrow.Author.Needs.{needs}
+use lib.Dec.{ltb}
+use lib.ListN.{length, getD, take, drop}
 use lib.Seq.{length-take-le, getD-take}
-use Rattle.rules.specs.declared.Pair.{Pair}
+use borrow.Author.Needs.{needs}
+use borrow.Author.Tests.{lt-ltb, le-ltb}
+use Rattle.held.specs.Held.{placeOf}
 use Rattle.held.proofs.Lists.{place-on, place-here, place-none}
-use lib.ListN.{length, take, drop}
-use Rattle.rules.specs.Tables.{ahead}
-use Rattle.held.specs.Held.{place}
 use Rattle.held.proofs.find.Statement.{statement}
 use Rattle.held.proofs.find.Tie as tie
 
-abbrev zero-pair : Pair
-zero-pair = record { sum = 0; field = 0; trim = 0 }
-
 abbrev Inv-loop : tie.InvT-loop
-Inv-loop n p a i₀ i = (i ≤ n) × (length a ≡ 64) × (place p (take n a) ≡ i + place p (drop i (take n a)))
+Inv-loop a n p i₀ i = (i ≤ n) × (placeOf p (take n a) ≡ i + placeOf p (drop i (take n a)))
 
 abbrev μ-loop : tie.MeasureT-loop
-μ-loop n p a i₀ i = n - i
+μ-loop a n p i₀ i = n - i
 
 loop-holds : tie.Need-loop-holds Inv-loop μ-loop
-loop-holds c = (search needs, search needs, omega arith)
+loop-holds c = (search needs, omega arith)
 
-mul-q : tie.Need-mul-q Inv-loop μ-loop
-mul-q c = omega arith
+mul-if1 : tie.Need-mul-if1 Inv-loop μ-loop
+mul-if1 c = omega arith
 
-array-copy-out-q : tie.Need-array-copy-out-q Inv-loop μ-loop
-array-copy-out-q c = omega arith
-
-is-ahead-requires : tie.Need-is-ahead-requires Inv-loop μ-loop
-is-ahead-requires c κs = tt
+shared-slice-read-if1 : tie.Need-shared-slice-read-if1 Inv-loop μ-loop
+shared-slice-read-if1 c = omega arith
 
 add-i : tie.Need-add-i Inv-loop μ-loop
 add-i c = omega arith
@@ -40,23 +36,34 @@ loop-less c = omega arith
 
 loop-again : tie.Need-loop-again Inv-loop μ-loop
 loop-again c =
-    let s = c .before .before .before .before .before in
-    let i = c .before .before .before .before .loop .i in
-    let l = take (s .args .n) (s .args .t1) in
-    let inv = c .before .before .before .before .loop .inv in
-    let len : i < length l = simp (length-take-le (s .args .n) (s .args .t1) (omega arith)) (omega arith) in
-    (search needs, inv .1, inv .2 ∙ omega (arith, place-on (s .args .p) l i zero-pair len (ap (λ (q : Pair). ahead q (s .args .p)) (getD-take (s .args .n) (s .args .t1) i zero-pair (omega arith)) ∙ sym (c .before .is-ahead .ensures) ∙ c .if1 .taken)))
+    let s = c .before .before .before .before in
+    let i = c .before .before .before .loop .i in
+    let a = s .args .a .now in
+    let n = s .args .n in
+    let p = s .args .p in
+    let l = take n a in
+    let len : i < length l = simp (length-take-le n a (s .pre)) (omega arith) in
+    let lower : ltb (getD l i 0) p ≡ true = ap (λ (q : ℕ). ltb q p) (getD-take n a i 0 (omega arith)) ∙ lt-ltb (getD a i 0) p (c .if1 .taken) in
+    (search needs, c .before .before .before .loop .inv .1 ∙ omega (arith, place-on p l i len lower))
 
 returns : tie.Need-returns Inv-loop μ-loop
 returns c =
-    let s = c .before .before .before .before .before in
-    let i = c .before .before .before .before .loop .i in
-    let l = take (s .args .n) (s .args .t1) in
-    let len : i < length l = simp (length-take-le (s .args .n) (s .args .t1) (omega arith)) (omega arith) in
-    (omega (arith, place-here (s .args .p) l i zero-pair len (ap (λ (q : Pair). ahead q (s .args .p)) (getD-take (s .args .n) (s .args .t1) i zero-pair (omega arith)) ∙ sym (c .before .is-ahead .ensures) ∙ c .if1 .left)), search needs)
+    let s = c .before .before .before .before in
+    let i = c .before .before .before .loop .i in
+    let a = s .args .a .now in
+    let n = s .args .n in
+    let p = s .args .p in
+    let l = take n a in
+    let len : i < length l = simp (length-take-le n a (s .pre)) (omega arith) in
+    let not-lower : ltb (getD l i 0) p ≡ false = ap (λ (q : ℕ). ltb q p) (getD-take n a i 0 (omega arith)) ∙ le-ltb (getD a i 0) p (c .if1 .left) in
+    (omega (arith, place-here p l i len not-lower), search needs)
 
 returns-2 : tie.Need-returns-2 Inv-loop μ-loop
-returns-2 c = (omega (arith, place-none (c .before .before .args .p) (take (c .before .before .args .n) (c .before .before .args .t1)) (c .before .loop .i) (simp (length-take-le (c .before .before .args .n) (c .before .before .args .t1) (omega arith)) (omega arith))), search needs)
+returns-2 c =
+    let s = c .before .before in
+    let l = take (s .args .n) (s .args .a .now) in
+    let len : length l ≤ c .before .loop .i = simp (length-take-le (s .args .n) (s .args .a .now) (s .pre)) (omega arith) in
+    (omega (arith, place-none (s .args .p) l (c .before .loop .i) len), search needs)
 
 pub find-spec : {M : Type 1} → statement M
 find-spec =
@@ -65,9 +72,8 @@ find-spec =
     Inv-loop
     μ-loop
     loop-holds
-    mul-q
-    array-copy-out-q
-    is-ahead-requires
+    mul-if1
+    shared-slice-read-if1
     add-i
     loop-less
     loop-again

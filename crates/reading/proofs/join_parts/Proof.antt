@@ -1,8 +1,6 @@
 -- `join_parts` meets its contract: the parts are the blocks. Assumes nothing.
-use mathlib.Core.Path.{ap₂, _∙_}
+use mathlib.Core.Path.{sym}
 use native.Mathlib.Omega.{arith}
-use Rattle.rules.specs.Tables.{Block}
-use Rattle.reading.specs.Effect.{joinedPair}
 use Rattle.reading.specs.Meets.{part-is, part-rows}
 use borrow.Author.Needs.{needs}
 use Rattle.reading.proofs.join_parts.Statement.{statement}
@@ -20,33 +18,33 @@ mul-k c = search needs
 mul-l : tie.Need-mul-l
 mul-l c = search needs
 
-mul-join-pair : tie.Need-mul-join-pair
-mul-join-pair c = search needs
+mul-join : tie.Need-mul-join
+mul-join c = search needs
 
-sub-join-pair : tie.Need-sub-join-pair
-sub-join-pair c = search needs
+sub-join : tie.Need-sub-join
+sub-join c = search needs
 
-part-join-pair-start : tie.Need-part-join-pair-start
-part-join-pair-start c = search needs
+part-join-start : tie.Need-part-join-start
+part-join-start c = search needs
 
-part-join-pair-end : tie.Need-part-join-pair-end
-part-join-pair-end c = search needs
+part-join-end : tie.Need-part-join-end
+part-join-end c = search needs
 
-mul-join-pair-2 : tie.Need-mul-join-pair-2
-mul-join-pair-2 c = search needs
+mul-join-2 : tie.Need-mul-join-2
+mul-join-2 c = search needs
 
-sub-join-pair-2 : tie.Need-sub-join-pair-2
-sub-join-pair-2 c = search needs
+sub-join-2 : tie.Need-sub-join-2
+sub-join-2 c = search needs
 
-part-join-pair-start-2 : tie.Need-part-join-pair-start-2
-part-join-pair-start-2 c = search needs
+part-join-start-2 : tie.Need-part-join-start-2
+part-join-start-2 c = search needs
 
-part-join-pair-end-2 : tie.Need-part-join-pair-end-2
-part-join-pair-end-2 c = search needs
+part-join-end-2 : tie.Need-part-join-end-2
+part-join-end-2 c = search needs
 
-join-pair-requires : tie.Need-join-pair-requires
-join-pair-requires c κs =
-    let s = c .before .before .before .before .before .before in
+join-requires : tie.Need-join-requires
+join-requires c κs =
+    let s = c .before .before .before .before .before .before .before in
     let x = s .args .x in
     let y = s .args .y in
     let i = s .pre .1 .0 in
@@ -60,11 +58,8 @@ join-pair-requires c κs =
 
 returns : tie.Need-returns
 returns c =
-    let s = c .before .before .before .before .before .before .before .args in
-    let x = s .x in
-    let y = s .y in
-    c .join-pair .ensures
-    ∙ ap₂ (λ (x y : Block). joinedPair (s .s) x y) (part-is (s .f .now) (x .from) (x .to)) (part-is (s .t .now) (y .from) (y .to))
+    let s = c .before .before .before .before .before .before .before .before .args in
+    rw (sym (part-is (s .f .now) (s .x .from) (s .x .to)), sym (part-is (s .t .now) (s .y .from) (s .y .to))) (c .join .ensures)
 
 pub join-parts-spec : {M : Type 1} → statement M
 join-parts-spec =
@@ -74,13 +69,13 @@ join-parts-spec =
     mul-j
     mul-k
     mul-l
-    mul-join-pair
-    sub-join-pair
-    part-join-pair-start
-    part-join-pair-end
-    mul-join-pair-2
-    sub-join-pair-2
-    part-join-pair-start-2
-    part-join-pair-end-2
-    join-pair-requires
+    mul-join
+    sub-join
+    part-join-start
+    part-join-end
+    mul-join-2
+    sub-join-2
+    part-join-start-2
+    part-join-end-2
+    join-requires
     returns)
