@@ -2,11 +2,13 @@
 // pairs held.
 use rules::Pair;
 ghost use mathlib.Core.Path.{_≡_};
+ghost use mathlib.Core.Bool.{true};
 ghost use Prim.Native.Nat.{_+_, _*_, _≤_, _<_, _/_, _%_};
 ghost use lib.ListN.{length};
 ghost use Rattle.rules.specs.Tables.{row, qualifies, pairAt};
 ghost use Rattle.held.specs.Held.{Narrow};
 ghost use Rattle.block.specs.Block.{at, Rows, Joined};
+ghost use Rattle.block.specs.Small.{SmallRows, SmallPairs};
 ghost use Rattle.block.specs.Near.{rowNear, anyNear, NextNear};
 
 // Whether row i + 1 of x and row j + 1 of y lie within the radius.
@@ -64,15 +66,62 @@ fn pair_at(x: &[i32], a: usize, i: usize, y: &[i32], c: usize, j: usize) -> Pair
     }
 }
 
+// Whether every shade of a block is small.
+fn all_small(x: &[i32]) -> bool
+    ensures { λ r. ⌜ (r ≡ true → SmallRows (now (x .entry))) ⌝ }
+{
+    let n = x.len() / 4;
+    let mut i: usize = 0;
+    while i < n {
+        let p = tables::shade(x, i);
+        if !distance::is_small(p) {
+            return false;
+        }
+        i += 1;
+    }
+    true
+}
+
+// Whether the pairs of two blocks are to be tested at 32 bits. Rows that passed 6 may be; it is asked where it pays: of long
+// blocks, and of a radius at which a first gap within it is not rare, so that the branch on it is hard to foresee.
+fn both_small(radius: u32, x: &[i32], y: &[i32]) -> bool
+    ensures { λ r. ⌜ (r ≡ true → SmallPairs radius (now (x .entry)) (now (y .entry))) ⌝ }
+{
+    if (x.len() <= 128) | (radius < 64) {
+        return false;
+    }
+    if 40000 < radius {
+        return false;
+    }
+    let first = all_small(x);
+    let second = all_small(y);
+    first & second
+}
+
+// Whether row i + 1 of x and row j + 1 of y lie within the radius, tested at 32 bits where they may be.
+fn near_by(small: bool, radius: u32, x: &[i32], i: usize, y: &[i32], j: usize) -> bool
+    requires { ⌜ (4 * i + 4 ≤ length (now x)) × (4 * j + 4 ≤ length (now y)) ⌝ }
+    requires { ⌜ (small ≡ true → SmallPairs radius (now x) (now y)) ⌝ }
+    ensures { λ r. ⌜ r ≡ qualifies radius (row (now (x .entry)) i .shade) (row (now (y .entry)) j .shade) ⌝ }
+{
+    if !small {
+        return near(radius, x, i, y, j);
+    }
+    let p = tables::shade(x, i);
+    let q = tables::shade(y, j);
+    distance::near_small(radius, p, q)
+}
+
 // The first row of y from row j + 1 on that lies near row i + 1 of x, counted from 0; y's row count where none does.
-fn next_near(radius: u32, x: &[i32], i: usize, y: &[i32], j: usize) -> usize
+fn next_near(small: bool, radius: u32, x: &[i32], i: usize, y: &[i32], j: usize) -> usize
     requires { ⌜ (4 * i + 4 ≤ length (now x)) × (j ≤ length (now y) / 4) ⌝ }
+    requires { ⌜ (small ≡ true → SmallPairs radius (now x) (now y)) ⌝ }
     ensures { λ r. ⌜ NextNear radius (now (x .entry)) i (now (y .entry)) j r ⌝ }
 {
     let n = y.len() / 4;
     let mut k = j;
     while k < n {
-        if near(radius, x, i, y, k) {
+        if near_by(small, radius, x, i, y, k) {
             return k;
         }
         k += 1;
@@ -99,11 +148,12 @@ pub fn join(
     let m = x.len() / 4;
     let n = y.len() / 4;
     let last = (room + 63) % 64;
+    let small = both_small(radius, x, y);
     let mut g = held;
     let mut i: usize = 0;
     let mut j: usize = 0;
     while i < m {
-        let k = next_near(radius, x, i, y, j);
+        let k = next_near(small, radius, x, i, y, j);
         if k < n {
             let p = pair_at(x, a, i, y, c, k);
             let key = held::key(p);

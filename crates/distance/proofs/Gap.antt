@@ -1,6 +1,6 @@
--- The gap of two signed numbers, as naturals: its size, and what subtracting at 64 bits gives. Assumes nothing.
+-- The gap of two signed numbers, as naturals: its size, and what subtracting at 64 bits and at 32 gives. Assumes nothing.
 use mathlib.Core.Path.{_≡_, refl, sym, ap, subst, _∙_}
-use mathlib.Core.Bool.{Bool, true, false, cond}
+use mathlib.Core.Bool.{Bool, true, false, cond, _&&_}
 use Prim.Native.Nat.{ℕ, zero, suc, _+_, _-_, _≤_, _<_, _^_}
 use native.Mathlib.Omega.{arith}
 use lib.IntN.{ℤ, pos, negsuc, natAbs, subℕ, _-ℤ_}
@@ -10,6 +10,7 @@ use mir.Syntax.{w32, w64}
 use mir.Val.{Fits, SFits, toZ, ofZ}
 use mir.Facts.{toZ-ofZ}
 use borrow.Author.Tests.{leb-true, leb-false, ltb-true, ltb-false, le-leb, le-ltb}
+use Rattle.lists.specs.Bools.{both-true}
 use Rattle.rules.specs.Tables.{gap}
 
 -- the gap by the signs of the two numbers
@@ -121,3 +122,44 @@ module _ (x y : ℤ) (f : SFits w32 x) (g : SFits w32 y) (h : leZ (wide y) (wide
 pub gap-of-passed : (n : ℕ) (x y : ℤ) → mag x < 2 ^ 31 → mag y < 2 ^ 31 → n ≡ gap (toZ w32 (ofZ w32 x)) (toZ w32 (ofZ w32 y)) → n ≡ gap x y
 gap-of-passed n x y f g e =
     simp (toZ-ofZ {w = w32} {z = x} (record { sfits = f }), toZ-ofZ {w = w32} {z = y} (record { sfits = g })) at e
+
+-- a 32-bit number, as the code has it
+abbrev pub held : ℤ → ℤ
+held z = toZ w32 (ofZ w32 z)
+
+held-is : (z : ℤ) → mag z < 16384 → held z ≡ z
+held-is z h = toZ-ofZ {w = w32} {z = z} (record { sfits = omega arith })
+
+pub gap-small : (x y : ℤ) → mag x < 16384 → mag y < 16384 → gap x y < 32768
+gap-small x y f g = omega (arith, gap-mag x y)
+
+-- x - y where y <= x, both small, at 32 bits: it fits, it may be cast, and the cast is the gap
+module _ (x y : ℤ) (f : mag x < 16384) (g : mag y < 16384) (h : leZ (held y) (held x) ≡ true) where
+  difference-small : held x -ℤ held y ≡ pos (gap x y)
+  difference-small =
+      simp (held-is x f, held-is y g) (sub-le x y (simp (held-is x f, held-is y g) at h) ∙ ap pos (sym (gap-is x y)))
+
+  fits-small : SFits w32 (pos (gap x y))
+  fits-small = record { sfits = omega (arith, gap-small x y f g) }
+
+  pub sub-fits-small : SFits w32 (held x -ℤ held y)
+  sub-fits-small = rw difference-small fits-small
+
+  back-small : held (held x -ℤ held y) ≡ pos (gap x y)
+  back-small = rw (difference-small, toZ-ofZ fits-small)
+
+  pub cast-fits-small : T (nonNeg (held (held x -ℤ held y))) × Fits w32 (natAbs (held (held x -ℤ held y)))
+  cast-fits-small = rw back-small (tt, record { fits = omega (arith, gap-small x y f g) })
+
+  pub cast-is-small : natAbs (held (held x -ℤ held y)) ≡ gap x y
+  cast-is-small = ap natAbs back-small
+
+between : (z : ℤ) → leZ (negsuc 16382) z ≡ true → leZ z (pos 16383) ≡ true → mag z < 16384
+between (pos a) h k = let l : a ≤ 16383 = leb-true a 16383 k in omega arith
+between (negsuc b) h k = let l : b ≤ 16382 = leb-true b 16382 h in omega arith
+
+-- a 32-bit number that passes the code's test is small
+pub small-of : (z : ℤ) → mag z < 2 ^ 31 → (leZ (negsuc 16382) (held z) && leZ (held z) (pos 16383)) ≡ true → mag z < 16384
+small-of z f e =
+    let both = both-true _ _ (simp (toZ-ofZ {w = w32} {z = z} (record { sfits = f })) at e) in
+    between z (both .0) (both .1)

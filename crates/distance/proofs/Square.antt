@@ -5,7 +5,7 @@ use Prim.Native.Nat.{ℕ, suc, _+_, _*_, _-_, _≤_, _<_, _^_, min}
 use native.Mathlib.Nat.{mul-le-mul, suc-mul, mul-suc}
 use native.Mathlib.Omega.{arith}
 use lib.Dec.{leb}
-use mir.Syntax.{w64}
+use mir.Syntax.{w32, w64}
 use mir.Val.{Fits}
 use borrow.Author.Tests.{leb-true, leb-false, le-leb, lt-leb}
 use Rattle.rules.specs.declared.Shade.{Shade}
@@ -21,6 +21,16 @@ square-lt m n h =
 
 pub square-fits : (n : ℕ) → n < 2 ^ 32 → Fits w64 (n * n)
 square-fits n h = record { fits = (let k : n * n ≤ 4294967295 * 4294967295 = square-le {n = 4294967295} (omega arith) in omega arith) }
+
+-- the squares of two small gaps fit 32 bits, and so does their sum
+pub squares-fit : (m n : ℕ) → m < 32768 → n < 32768 → Fits w32 (m * m) × Fits w32 (n * n) × Fits w32 (m * m + n * n)
+squares-fit m n h k =
+    let a : m * m ≤ 32767 * 32767 = square-le {n = 32767} (omega arith) in
+    let b : n * n ≤ 32767 * 32767 = square-le {n = 32767} (omega arith) in
+    (record { fits = omega arith }, record { fits = omega arith }, record { fits = omega arith })
+
+pub radius-fits : (r : ℕ) → r ≤ 40000 → Fits w32 (r * r)
+radius-fits r h = record { fits = (let k : r * r ≤ 40000 * 40000 = square-le {n = 40000} h in omega arith) }
 
 -- what is left of the radius' square decides
 rest : (a b r : ℕ) → a ≤ r → leb b (r - a) ≡ leb (a + b) r
@@ -44,6 +54,10 @@ module _ (x y : Shade) (da db : ℕ) (ea : da ≡ gap (x .a) (y .a)) (eb : db �
   pub fits-in : (r : ℕ) → da ≤ r → leb (db * db) (r * r - da * da) ≡ qualifies r x y
   unfolding qualifies
   fits-in r h = rest (da * da) (db * db) (r * r) (square-le h) ∙ ap (λ (d : ℕ). leb d (r * r)) is-distance
+
+  pub sum-in : (r : ℕ) → leb (da * da + db * db) (r * r) ≡ qualifies r x y
+  unfolding qualifies
+  sum-in r = ap (λ (d : ℕ). leb d (r * r)) is-distance
 
   pub sum-is : da < 2 ^ 32 → db * db ≤ 18446744073709551615 - da * da → da * da + db * db ≡ min (squaredDistance x y) (2 ^ 64 - 1)
   sum-is l h = small (square-fits da l) ∙ ap (λ (d : ℕ). min d (2 ^ 64 - 1)) is-distance

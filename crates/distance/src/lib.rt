@@ -1,8 +1,12 @@
-// The distance of two shades, for all 32-bit numbers and all radii: no sum wraps, whatever a table holds.
+// The distance of two shades, for all 32-bit numbers and all radii: no sum wraps, whatever a table holds. At the end the
+// same test for small shades, as legal rows have them, at 32 bits.
 use rules::Shade;
 ghost use mathlib.Core.Path.{_≡_};
-ghost use Prim.Native.Nat.{_<_, _^_, _-_, min};
+ghost use mathlib.Core.Bool.{true};
+ghost use Prim.Native.Nat.{_<_, _≤_, _^_, _-_, min};
+ghost use lib.Signed.{mag};
 ghost use Rattle.rules.specs.Tables.{gap, squaredDistance, qualifies};
+ghost use Rattle.distance.specs.Small.{Small};
 
 // How far apart two numbers lie.
 fn apart(x: i32, y: i32) -> u64
@@ -53,4 +57,34 @@ pub fn qualifies(radius: u32, x: Shade, y: Shade) -> bool
         return false;
     }
     d.b * d.b <= r * r - d.a * d.a
+}
+
+// How far apart two small numbers lie.
+fn apart_small(x: i32, y: i32) -> u32
+    requires { ⌜ (mag x < 16384) × (mag y < 16384) ⌝ }
+    ensures { λ r. ⌜ (r ≡ gap x y) × (r < 32768) ⌝ }
+{
+    if y <= x {
+        return (x - y) as u32;
+    }
+    (y - x) as u32
+}
+
+// Whether a shade's numbers are small.
+pub fn is_small(x: Shade) -> bool
+    ensures { λ r. ⌜ (r ≡ true → Small x) ⌝ }
+{
+    let a = x.a;
+    let b = x.b;
+    ((-16383 <= a) & (a <= 16383)) & ((-16383 <= b) & (b <= 16383))
+}
+
+// Whether two small shades lie within the radius: 32 bits hold the squares, and no branch stands between the two gaps.
+pub fn near_small(radius: u32, x: Shade, y: Shade) -> bool
+    requires { ⌜ Small x × Small y × (radius ≤ 40000) ⌝ }
+    ensures { λ r. ⌜ r ≡ qualifies radius x y ⌝ }
+{
+    let a = apart_small(x.a, y.a);
+    let b = apart_small(x.b, y.b);
+    a * a + b * b <= radius * radius
 }

@@ -7,6 +7,7 @@ use native.Mathlib.Nat.{suc-mul}
 use native.Mathlib.Omega.{arith}
 use lib.Dec.{eqb, ltb}
 use lib.ListN.{length, getD}
+use borrow.Author.Needs.{needs}
 use borrow.Author.Tests.{not-false, eqb-true}
 use Rattle.lists.specs.Bools.{both-true}
 use Rattle.block.specs.Block.{at}
@@ -15,12 +16,12 @@ use Rattle.block.proofs.join.Statement.{statement}
 use Rattle.block.proofs.join.Tie as tie
 
 abbrev Inv-loop : tie.InvT-loop
-Inv-loop radius room x a y c keys₀ held m n last g₀ i₀ j₀ keys g i j =
+Inv-loop radius room x a y c keys₀ held m n last small g₀ i₀ j₀ keys g i j =
     (i ≤ m) × (j ≤ n) × (m ≤ i → j ≡ 0) × (g ≤ room) × (length keys ≡ 64) × Turns.Met radius room (at a x) (at c y) held keys₀ i j g keys
 
 -- the pairs of rows that are left, one more for the end of each row
 abbrev μ-loop : tie.MeasureT-loop
-μ-loop radius room x a y c keys₀ held m n last g₀ i₀ j₀ keys g i j = (m - i) * (n + 1) + (n - j)
+μ-loop radius room x a y c keys₀ held m n last small g₀ i₀ j₀ keys g i j = (m - i) * (n + 1) + (n - j)
 
 row-less : (m n i j : ℕ) → i < m → (m - (i + 1)) * (n + 1) + (n - 0) < (m - i) * (n + 1) + (n - j)
 row-less m n i j h =
@@ -31,9 +32,12 @@ row-less m n i j h =
 add-last : tie.Need-add-last Inv-loop μ-loop
 add-last c = omega arith
 
+both-small-requires : tie.Need-both-small-requires Inv-loop μ-loop
+both-small-requires c κs = search needs
+
 loop-holds : tie.Need-loop-holds Inv-loop μ-loop
 loop-holds c =
-    let s = c in (
+    let s = c .before in (
       omega arith,
       omega arith,
       λ _. refl,
@@ -43,11 +47,13 @@ loop-holds c =
     )
 
 next-near-requires : tie.Need-next-near-requires Inv-loop μ-loop
-next-near-requires c κs = omega arith
+next-near-requires c κs =
+    let small = c .before .before .both-small in
+    (omega arith, small .ensures)
 
 pair-at-requires : tie.Need-pair-at-requires Inv-loop μ-loop
 pair-at-requires c κs =
-    let s = c .before .before .before .before in
+    let s = c .before .before .before .before .before in
     let h : c .before .next-near .result < length (s .args .y .now) / 4 = c .if1 .taken in
     omega (arith, h, c .before .before .loop-test .taken, s .pre .1 .0 .whole, s .pre .1 .0 .few, s .pre .1 .1 .whole, s .pre .1 .1 .few)
 
@@ -63,7 +69,7 @@ element-copy-out-if2 c = omega arith
 put-requires : tie.Need-put-requires Inv-loop μ-loop
 put-requires c κs =
     let v = c .before .before .before .before .before .before .before .before in
-    (c .before .before .before .before .pair-at .ensures .1, v .loop .inv .3, v .before .pre .0 .1)
+    (c .before .before .before .before .pair-at .ensures .1, v .loop .inv .3, v .before .before .pre .0 .1)
 
 add-j : tie.Need-add-j Inv-loop μ-loop
 add-j c = omega arith
@@ -75,7 +81,7 @@ loop-less c =
 
 loop-again : tie.Need-loop-again Inv-loop μ-loop
 loop-again c =
-    let s = c .before .before .before .before .before .before .before .before in
+    let s = c .before .before .before .before .before .before .before .before .before in
     let v = c .before .before .before .before .before .before .before .loop in
     let near = c .before .before .before .before .before .next-near in
     let x = at (s .args .a) (s .args .x .now) in
@@ -111,13 +117,13 @@ add-i c = omega arith
 
 loop-less-2 : tie.Need-loop-less-2 Inv-loop μ-loop
 loop-less-2 c =
-    let s = c .before .before .before .before .args in
+    let s = c .before .before .before .before .before .args in
     let v = c .before .before .before .loop in
     row-less (length (s .x .now) / 4) (length (s .y .now) / 4) (v .i) (v .j) (c .before .before .loop-test .taken)
 
 loop-again-2 : tie.Need-loop-again-2 Inv-loop μ-loop
 loop-again-2 c =
-    let s = c .before .before .before .before in
+    let s = c .before .before .before .before .before in
     let v = c .before .before .before .loop in
     let near = c .before .next-near in
     let x = at (s .args .a) (s .args .x .now) in
@@ -136,7 +142,7 @@ loop-again-2 c =
 
 returns : tie.Need-returns Inv-loop μ-loop
 returns c =
-    let s = c .before .before in
+    let s = c .before .before .before in
     let v = c .before .loop in
     let x = at (s .args .a) (s .args .x .now) in
     let y = at (s .args .c) (s .args .y .now) in
@@ -154,6 +160,7 @@ join-spec =
     Inv-loop
     μ-loop
     add-last
+    both-small-requires
     loop-holds
     next-near-requires
     pair-at-requires

@@ -10,17 +10,19 @@ use Rattle.block.proofs.next_near.Statement.{statement}
 use Rattle.block.proofs.next_near.Tie as tie
 
 abbrev Inv-loop : tie.InvT-loop
-Inv-loop radius x i y j n k₀ k =
+Inv-loop small radius x i y j n k₀ k =
     (j ≤ k) × (k ≤ n) × ((b : ℕ) → j ≤ b → b < k → qualifies radius (row x i .shade) (row y b .shade) ≡ false)
 
 abbrev μ-loop : tie.MeasureT-loop
-μ-loop radius x i y j n k₀ k = n - k
+μ-loop small radius x i y j n k₀ k = n - k
 
 loop-holds : tie.Need-loop-holds Inv-loop μ-loop
-loop-holds c = (omega arith, omega (arith, c .pre), λ b h k. absurd (omega (arith, h, k)))
+loop-holds c = (omega arith, omega (arith, c .pre .0), λ b h k. absurd (omega (arith, h, k)))
 
-near-requires : tie.Need-near-requires Inv-loop μ-loop
-near-requires c κs = omega arith
+near-by-requires : tie.Need-near-by-requires Inv-loop μ-loop
+near-by-requires c κs =
+    let s = c .before .before in
+    (omega (arith, s .pre .0, c .loop-test .taken), s .pre .1)
 
 returns : tie.Need-returns Inv-loop μ-loop
 returns c =
@@ -30,7 +32,7 @@ returns c =
       from = v .inv .0;
       upto = omega (arith, h);
       none-before = v .inv .2;
-      found = λ _. sym (c .before .near .ensures) ∙ c .if1 .taken;
+      found = λ _. sym (c .before .near-by .ensures) ∙ c .if1 .taken;
     }
 
 add-k : tie.Need-add-k Inv-loop μ-loop
@@ -43,7 +45,7 @@ loop-again : tie.Need-loop-again Inv-loop μ-loop
 loop-again c =
     let v = c .before .before .before .loop in
     let s = c .before .before .before .before .args in
-    let here = sym (c .before .near .ensures) ∙ c .if1 .left in (
+    let here = sym (c .before .near-by .ensures) ∙ c .if1 .left in (
       omega (arith, v .inv .0),
       omega (arith, c .before .before .loop-test .taken),
       none-more (s .radius) (s .x .now) (s .i) (s .y .now) (s .j) (v .k) (v .inv .2) here,
@@ -68,7 +70,7 @@ next-near-spec =
     Inv-loop
     μ-loop
     loop-holds
-    near-requires
+    near-by-requires
     returns
     add-k
     loop-less
