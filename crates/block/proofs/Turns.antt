@@ -9,8 +9,8 @@ use lib.ListN.{length, getD, take, length-take}
 use Rattle.lists.specs.Words.{Ordered}
 use Rattle.rules.specs.declared.Pair.{Pair}
 use Rattle.rules.specs.Tables.{Block, row, rowCount, qualifies, pairAt, ahead}
-use Rattle.held.specs.Held.{keyOf, Narrow, Keyed, Put}
-use Rattle.held.specs.Keys.{keyed-length}
+use Rattle.keys.specs.Held.{keyOf, Narrow, Keyed, Put}
+use Rattle.keys.specs.Keys.{keyed-length}
 use Rattle.block.specs.Block.{metRow, metRows, Joined}
 use Rattle.block.specs.Full.{off, to-ordered}
 use Rattle.block.specs.Near.{NextNear}

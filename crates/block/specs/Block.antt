@@ -9,7 +9,7 @@ use Rattle.lists.specs.Lists.{ins, sort}
 use Rattle.lists.specs.Words.{Ordered}
 use Rattle.rules.specs.declared.Pair.{Pair}
 use Rattle.rules.specs.Tables.{Block, row, qualifies, pairAt, qualifying, ahead, rowCount}
-use Rattle.held.specs.Held.{Keyed}
+use Rattle.keys.specs.Held.{Keyed}
 
 -- a part of a table, a rows standing before it
 abbrev pub at : ℕ → List ℤ → Block

@@ -14,8 +14,8 @@ use Rattle.rules.specs.declared.Pair.{Pair}
 use Rattle.rules.specs.Tables.{Block, row, rowCount, qualifies, pairAt, ahead}
 use Rattle.rules.specs.Ranking.{ahead-strict}
 use Rattle.rules.specs.Session.{noPair}
-use Rattle.held.specs.Held.{keyOf, Narrow, Keyed}
-use Rattle.held.specs.Keys.{all-getD, key-order, key-at, keyed-length}
+use Rattle.keys.specs.Held.{keyOf, Narrow, Keyed}
+use Rattle.keys.specs.Keys.{all-getD, key-order, key-at, keyed-length}
 use Rattle.block.specs.Block.{putIf, metRow, metRows}
 
 -- p falls off behind a list whose last pair stands ahead of it

@@ -6,7 +6,7 @@ ghost use mathlib.Core.Bool.{true};
 ghost use Prim.Native.Nat.{_+_, _*_, _≤_, _<_, _/_, _%_};
 ghost use lib.ListN.{length};
 ghost use Rattle.rules.specs.Tables.{row, qualifies, pairAt};
-ghost use Rattle.held.specs.Held.{Narrow};
+ghost use Rattle.keys.specs.Held.{Narrow};
 ghost use Rattle.block.specs.Block.{at, Rows, Joined};
 ghost use Rattle.block.specs.Small.{SmallRows, SmallPairs};
 ghost use Rattle.block.specs.Near.{rowNear, anyNear, NextNear};
@@ -156,9 +156,9 @@ pub fn join(
         let k = next_near(small, radius, x, i, y, j);
         if k < n {
             let p = pair_at(x, a, i, y, c, k);
-            let key = held::key(p);
+            let key = keys::key(p);
             if !((g == room) & (keys[last] < key)) {
-                g = held::put(keys, g, room, p);
+                g = keys::put(keys, g, room, p);
             }
             j = k + 1;
         } else {

@@ -21,8 +21,8 @@ use Rattle.rules.specs.Tables.{ahead}
 use Rattle.rules.specs.Ranking.{Before, before-ahead, ahead-strict}
 use Rattle.rules.specs.Session.{noPair, heldPairs, bothReadOut, aDepthIsZero, aTableIsEmpty, ceiling, secured}
 use Rattle.rules.specs.Read.{lowest}
-use Rattle.laws.specs.Record.{Fits, held-reached}
-use Rattle.laws.specs.Sizes.{Lent}
+use Rattle.session_laws.specs.Record.{Fits, held-reached}
+use Rattle.session_laws.specs.Sizes.{Lent}
 use Rattle.ceiling.specs.Reached.{Reached}
 
 -- what is not ahead has no higher sum

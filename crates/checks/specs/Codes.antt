@@ -10,9 +10,9 @@ use Rattle.rules.specs.declared.Counts.{Counts}
 use Rattle.rules.specs.declared.Session.{Session}
 use Rattle.rules.specs.Numbers.{badRecord, unless, first}
 use Rattle.rules.specs.Calls.{sameSizeCode, rowsCode, recordFits, recordCode, lentCode, callCode}
-use Rattle.laws.specs.Bools.{first-none, unless-passed}
-use Rattle.laws.specs.Record.{CountsFit, record-fits}
-use Rattle.laws.specs.Sizes.{SameSize, same-size}
+use Rattle.session_laws.specs.Bools.{first-none, unless-passed}
+use Rattle.session_laws.specs.Record.{CountsFit, record-fits}
+use Rattle.session_laws.specs.Sizes.{SameSize, same-size}
 
 -- no table is read beyond its rows, of which there are at most 65,535
 pub record Within (rows depth : Counts) : Type 0 where

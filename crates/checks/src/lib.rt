@@ -1,11 +1,161 @@
-// What read, take and show check of the record and the slices that they are lent: 5, 4, then 6 and 7 of the rows read.
+// What calls are refused by: 1 to 3 of a query, 5 of a record (any record may come in), 4 of the lent slices, then 6 and 7 of
+// the rows read.
 use rules::Counts;
+use rules::Pair;
+use rules::Query;
+use rules::Session;
 ghost use mathlib.Core.Path.{_≡_};
-ghost use mathlib.Core.Bool.{true};
-ghost use Prim.Native.Nat.{_<_, _/_, _%_};
+ghost use mathlib.Core.Bool.{true, cond};
+ghost use Prim.Native.Nat.{_+_, _*_, _-_, _≤_, _<_, _/_, _%_};
 ghost use Rattle.rules.specs.Tables.{sizeFits};
-ghost use Rattle.rules.specs.Calls.{sameSizeCode};
+ghost use Rattle.rules.specs.Read.{blockCount};
+ghost use Rattle.rules.specs.Calls.{queryCode, countsFit, isZeros, recordFits, sameSizeCode};
+ghost use Rattle.checks.specs.Grounds.{Shallow, pairWithin, markOf, numbersFit, placeKey};
 ghost use Rattle.checks.specs.Codes.{Within, lentOf, callOf};
+
+// What a query is refused by, 1 to 3 in this order; 0 where it is not.
+pub fn query_code(q: Query) -> u32
+    ensures { λ r. ⌜ r ≡ queryCode q ⌝ }
+{
+    if !((1 <= q.k) & (q.k <= 64)) {
+        return 1;
+    }
+    if !((1 <= q.block) & (q.block <= 1024)) {
+        return 2;
+    }
+    if !(q.radius <= 40000) {
+        return 3;
+    }
+    0
+}
+
+// A table's row count and depth: at most 65,535 rows, of which the depth is a number of whole blocks, or all.
+fn counts_fit(block: u32, rows: u32, depth: u32) -> bool
+    requires { ⌜ 0 < block ⌝ }
+    ensures { λ r. ⌜ r ≡ countsFit block rows depth ⌝ }
+{
+    (rows <= 65535) & ((depth <= rows) & ((depth % block == 0) | (depth == rows)))
+}
+
+// A held pair's rows, of the two depths, and its sum.
+fn pair_fits(depth: Counts, p: Pair) -> bool
+    ensures { λ r. ⌜ r ≡ pairWithin depth p ⌝ }
+{
+    let field = depth.field.0;
+    let trim = depth.trim.0;
+    ((1 <= p.field) & (p.field <= field)) & (((1 <= p.trim) & (p.trim <= trim)) & (p.sum <= 19998))
+}
+
+fn is_zeros(p: Pair) -> bool
+    ensures { λ r. ⌜ r ≡ isZeros p ⌝ }
+{
+    (p.sum == 0) & ((p.field == 0) & (p.trim == 0))
+}
+
+// The last-read mark, of the two depths.
+fn mark_fits(last: u32, depth: Counts) -> bool
+    ensures { λ r. ⌜ r ≡ markOf last depth ⌝ }
+{
+    let field = depth.field.0;
+    let trim = depth.trim.0;
+    if last == 0 {
+        return (field == 0) & (trim == 0);
+    }
+    if last == 1 {
+        return 0 < field;
+    }
+    if last == 2 {
+        return 0 < trim;
+    }
+    false
+}
+
+// How many blocks the first rows are, a short last one included.
+pub fn block_count(block: u32, depth: u32) -> u64
+    requires { ⌜ (0 < block) × (block ≤ 1024) × (depth ≤ 65535) ⌝ }
+    ensures { λ r. ⌜ (r ≡ blockCount block depth) × (r ≤ 65535) ⌝ }
+{
+    ((depth + block - 1) / block) as u64
+}
+
+// All grounds but those of the pair places.
+pub fn numbers_fit(
+    q: Query,
+    rows: Counts,
+    depth: Counts,
+    last: u32,
+    out: u32,
+    held: u32,
+    joined: u64,
+) -> bool
+    ensures { λ r. ⌜ r ≡ numbersFit q rows depth last out held joined ⌝ }
+{
+    if query_code(q) != 0 {
+        return false;
+    }
+    if !counts_fit(q.block, rows.field.0, depth.field.0) {
+        return false;
+    }
+    if !counts_fit(q.block, rows.trim.0, depth.trim.0) {
+        return false;
+    }
+    let few = (out as u64) + (held as u64) <= (q.k as u64);
+    let mark = mark_fits(last, depth);
+    let most = block_count(q.block, depth.field.0) * block_count(q.block, depth.trim.0);
+    few & (mark & (joined <= most))
+}
+
+// Where a look through the places begins: at the first, or behind the last, where the numbers do not fit.
+pub fn first_place(fits: bool) -> usize
+    ensures { λ r. ⌜ r ≡ cond fits 0 64 ⌝ }
+{
+    if fits { 0 } else { 64 }
+}
+
+// Pair place i, `before` being the key before it: the key of one of the n held, which fits and stands behind that one; 1 for
+// zeros beyond them; 0 where the place does not fit.
+pub fn place_key(i: usize, n: usize, depth: Counts, before: u64, p: Pair) -> u64
+    requires { ⌜ Shallow depth ⌝ }
+    ensures { λ r. ⌜ r ≡ placeKey i n depth before p ⌝ }
+{
+    if n <= i {
+        if is_zeros(p) {
+            return 1;
+        }
+        return 0;
+    }
+    if !pair_fits(depth, p) {
+        return 0;
+    }
+    let key = keys::key(p);
+    if before < key {
+        return key;
+    }
+    0
+}
+
+// Whether the record is not refused by 5: the numbers, then place after place. It copies the record: read and take, which
+// have it at hand, look through the places themselves.
+pub fn fits(s: Session) -> bool
+    ensures { λ r. ⌜ r ≡ recordFits s ⌝ }
+{
+    let n = s.held as usize;
+    let depth = s.depth;
+    let mut fits = numbers_fit(s.query, s.rows, s.depth, s.last, s.out, s.held, s.joined);
+    let mut before: u64 = 0;
+    let mut i = first_place(fits);
+    while i < 64 {
+        let p = s.pairs[i];
+        let key = place_key(i, n, depth, before, p);
+        if key == 0 {
+            fits = false;
+            break;
+        }
+        before = key;
+        i += 1;
+    }
+    fits
+}
 
 // Whether a slice has four numbers to a row and at most 65,535 rows.
 pub fn size_fits(t: &[i32]) -> bool

@@ -20,14 +20,14 @@ use Rattle.rules.specs.Read.{readBlock}
 use Rattle.rules.specs.Take.{firstHeld, givesPair, movedOut, finished}
 use Rattle.rules.specs.Numbers.{number}
 use Rattle.rules.specs.Calls.{queryCode, callCode, newBlockCode, step, openCall, readCall, takeCall}
-use Rattle.instance.specs.Keeping.{Reached}
-use Rattle.instance.specs.Opening.{legal-opened, query-wanted}
-use Rattle.instance.specs.Sound.{Sound}
-use Rattle.instance.specs.Taking.{gives-some}
-use Rattle.instance.specs.Unrefused.{sound-open, sound-read, sound-take, reached-fits}
-use Rattle.instance.specs.Settled.{settled-take}
-use Rattle.instance.specs.Depths.{depths, read-deeper}
-use Rattle.instance.specs.Accepting.{call-accepted, new-block-accepted}
+use Rattle.tables_join.specs.Keeping.{Reached}
+use Rattle.tables_join.specs.Opening.{legal-opened, query-wanted}
+use Rattle.tables_join.specs.Sound.{Sound}
+use Rattle.tables_join.specs.Taking.{gives-some}
+use Rattle.tables_join.specs.Unrefused.{sound-open, sound-read, sound-take, reached-fits}
+use Rattle.tables_join.specs.Settled.{settled-take}
+use Rattle.tables_join.specs.Depths.{depths, read-deeper}
+use Rattle.tables_join.specs.Accepting.{call-accepted, new-block-accepted}
 use Rattle.demand.specs.Demand.{Call, reading, taking, Line, promised, isAccepted, Sequence, Follows, lastRecord}
 use Rattle.demand.specs.GetsThere.{GetsThere, runOf}
 use Rattle.demand.specs.Steps.{Happened, readsOf, Changed, kept, deeper, fewer}

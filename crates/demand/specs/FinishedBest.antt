@@ -16,13 +16,13 @@ use Rattle.rules.specs.declared.Query.{Query}
 use Rattle.rules.specs.declared.Answer.the-variants.{Finished}
 use Rattle.rules.specs.Tables.{legal, qualifying}
 use Rattle.rules.specs.Sure.{whole, qualifyingSums}
-use Rattle.instance.specs.Pairs.{Fits}
-use Rattle.instance.specs.PairsLaws.{pair-rank, qualifying-distinct}
-use Rattle.instance.specs.Keeping.{Reached}
-use Rattle.instance.specs.Opening.{query-wanted}
-use Rattle.instance.specs.Taking.{gives-some, gives-secured, finished-complete}
-use Rattle.instance.specs.Securing.{secured-best}
-use Rattle.instance.specs.WholeList.{all-fit}
+use Rattle.tables_join.specs.Pairs.{Fits}
+use Rattle.tables_join.specs.PairsLaws.{pair-rank, qualifying-distinct}
+use Rattle.tables_join.specs.Keeping.{Reached}
+use Rattle.tables_join.specs.Opening.{query-wanted}
+use Rattle.tables_join.specs.Taking.{gives-some, gives-secured, finished-complete}
+use Rattle.tables_join.specs.Securing.{secured-best}
+use Rattle.tables_join.specs.WholeList.{all-fit}
 use Rattle.demand.specs.Demand.{Line, Sequence, Follows, broughtBy, outs, lastRecord}
 use Rattle.demand.specs.Steps.{Changed, kept, deeper, fewer}
 use Rattle.demand.specs.Outcomes.{said-finished}

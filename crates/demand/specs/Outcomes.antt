@@ -19,11 +19,11 @@ use Rattle.rules.specs.Read.{fieldNext, newDepth, readTable, readBlock}
 use Rattle.rules.specs.Take.{firstHeld, givesPair, movedOut, finished}
 use Rattle.rules.specs.Numbers.{number}
 use Rattle.rules.specs.Calls.{callCode, newBlockCode, step, readCall, takeCall}
-use Rattle.instance.specs.Keeping.{Reached}
-use Rattle.instance.specs.Taking.{first-inside, empty-none}
-use Rattle.instance.specs.Depths.{read-field, read-trim, read-grows}
-use Rattle.instance.specs.Accepting.{call-accepted, accepted-fits, new-block-accepted, read-settled, read-goes, take-gives, take-finishes, take-waits}
-use Rattle.instance.specs.SameRows.{SameRows, same-less, same-secured, same-settled, same-next, same-read}
+use Rattle.tables_join.specs.Keeping.{Reached}
+use Rattle.tables_join.specs.Taking.{first-inside, empty-none}
+use Rattle.tables_join.specs.Depths.{read-field, read-trim, read-grows}
+use Rattle.tables_join.specs.Accepting.{call-accepted, accepted-fits, new-block-accepted, read-settled, read-goes, take-gives, take-finishes, take-waits}
+use Rattle.tables_join.specs.SameRows.{SameRows, same-less, same-secured, same-settled, same-next, same-read}
 use Rattle.demand.specs.Demand.{Call, reading, taking, promised, broughtBy}
 use Rattle.demand.specs.Steps.{Happened, refused, settling, going, giving, finishing, waiting, readsOf, Changed, kept, deeper, fewer}
 

@@ -15,11 +15,11 @@ use Rattle.rules.specs.Tables.{legal}
 use Rattle.rules.specs.Session.{opened}
 use Rattle.rules.specs.Take.{firstHeld, givesPair}
 use Rattle.rules.specs.Calls.{queryCode}
-use Rattle.instance.specs.Pairs.{Fits}
-use Rattle.instance.specs.Keeping.{Reached}
-use Rattle.instance.specs.Opening.{query-wanted}
-use Rattle.instance.specs.Taking.{gives-some, gives-secured, first-inside, first-new, finished-complete}
-use Rattle.instance.specs.Securing.{secured-best}
+use Rattle.tables_join.specs.Pairs.{Fits}
+use Rattle.tables_join.specs.Keeping.{Reached}
+use Rattle.tables_join.specs.Opening.{query-wanted}
+use Rattle.tables_join.specs.Taking.{gives-some, gives-secured, first-inside, first-new, finished-complete}
+use Rattle.tables_join.specs.Securing.{secured-best}
 use Rattle.demand.specs.Demand.{Call, Line, Qualifying, sumOf, outs, IsIn, byRules, over, Brought, Complete, Statement}
 use Rattle.demand.specs.Steps.{Happened}
 use Rattle.demand.specs.Outcomes.{said-given, said-finished}

@@ -17,12 +17,12 @@ use Rattle.rules.specs.Tables.{rowCount, legal}
 use Rattle.rules.specs.Read.{fieldNext, readBlock}
 use Rattle.rules.specs.Take.{movedOut}
 use Rattle.rules.specs.Sure.{Sure}
-use Rattle.instance.specs.Keeping.{Reached}
-use Rattle.instance.specs.Opening.{query-wanted}
-use Rattle.instance.specs.Reading.{open-reached, read-reached}
-use Rattle.instance.specs.Taking.{gives-some, take-reached}
-use Rattle.instance.specs.Depths.{read-grows, read-limit}
-use Rattle.instance.specs.SameRows.{SameRows, same-less}
+use Rattle.tables_join.specs.Keeping.{Reached}
+use Rattle.tables_join.specs.Opening.{query-wanted}
+use Rattle.tables_join.specs.Reading.{open-reached, read-reached}
+use Rattle.tables_join.specs.Taking.{gives-some, take-reached}
+use Rattle.tables_join.specs.Depths.{read-grows, read-limit}
+use Rattle.tables_join.specs.SameRows.{SameRows, same-less}
 use Rattle.demand.specs.Demand.{Line, Sequence, promised, isAccepted, Follows, broughtBy, outs, lastRecord, byRules, over}
 use Rattle.demand.specs.Steps.{Happened, Changed, kept, deeper, fewer}
 use Rattle.demand.specs.Openings.{opening-query, opening-is}

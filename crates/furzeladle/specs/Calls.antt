@@ -11,7 +11,7 @@ use Rattle.rules.specs.declared.Answer.the-variants.{Refused, Opened, Read, Set
 use Rattle.rules.specs.declared.Session.{Session}
 use Rattle.rules.specs.Take.{lastBlock}
 use Rattle.rules.specs.Calls.{lentCode, openCall, readCall, takeCall}
-use Rattle.flat.specs.Flat.{flatSize, flatPair, flatten, queryIn, unflatten}
+use Rattle.record_layout.specs.Flat.{flatSize, flatPair, flatten, queryIn, unflatten}
 
 -- the number of an answer: minus the refusal's, or which answer it is
 unfoldable pub answerNumber : Answer → ℤ

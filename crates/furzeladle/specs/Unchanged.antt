@@ -17,8 +17,8 @@ use Rattle.rules.specs.Query.{wasRead, wasGiven}
 use Rattle.rules.specs.Calls.{lentCode, readCall, takeCall, showCall}
 use Rattle.session.specs.Answers.{read-keeps, take-keeps}
 use Rattle.lists.specs.Lists.{each}
-use Rattle.flat.specs.Flat.{flatSize, word, flatPair, flatHead, flatten, unflatten}
-use Rattle.flat.specs.RoundTrip.{forth}
+use Rattle.record_layout.specs.Flat.{flatSize, word, flatPair, flatHead, flatten, unflatten}
+use Rattle.record_layout.specs.RoundTrip.{forth}
 use Rattle.furzeladle.specs.Calls.{laidIn, readLeaves, takeShort, takeLeaves, shownNumbers}
 
 -- A read that reads no block, and a take that gives no pair, lay out the record that stood there; the slice's number 10 is

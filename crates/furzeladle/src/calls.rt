@@ -35,7 +35,7 @@ fn put_given(answer: Answer, pair: &mut [u32])
     ensures { λ _. ⌜ now (pair .exit) ≡ pairLeft (now (pair .entry)) answer ⌝ }
 {
     match answer {
-        Answer::Given(p) => flat::put_pair(pair, 0, p),
+        Answer::Given(p) => record_layout::put_pair(pair, 0, p),
         Answer::Refused(_) => {}
         Answer::Opened => {}
         Answer::Read => {}
@@ -66,9 +66,9 @@ fn put_shown(f: &[i32], t: &[i32], s: Session, place: &mut [u32])
         field: 0,
         trim: 0,
     };
-    let fits = record::fits(s);
+    let fits = checks::fits(s);
     if checks::lent_code(fits, s.rows, f, t) != 0 {
-        flat::put_pair(place, 0, none);
+        record_layout::put_pair(place, 0, none);
         return;
     }
     if s.last == 1 {
@@ -79,7 +79,7 @@ fn put_shown(f: &[i32], t: &[i32], s: Session, place: &mut [u32])
         put_block(2, s.query.block, s.depth.trim.0, place);
         return;
     }
-    flat::put_pair(place, 0, none);
+    record_layout::put_pair(place, 0, none);
 }
 
 // Opening: the query's three numbers in, a record out.
@@ -91,13 +91,13 @@ pub extern "C" fn furzeladle_open(query: &[u32], f: &[i32], t: &[i32], lent: &mu
     if query.len() < 3 {
         return SHORT;
     }
-    if lent.len() < flat::SIZE {
+    if lent.len() < record_layout::SIZE {
         return SHORT;
     }
-    let q = flat::query_in(query);
+    let q = record_layout::query_in(query);
     let step = session::start(q, f, t);
     let s = step.session;
-    flat::pack(s, lent);
+    record_layout::pack(s, lent);
     let answer = step.answer;
     numbered(answer)
 }
@@ -109,15 +109,15 @@ pub extern "C" fn furzeladle_read(f: &[i32], t: &[i32], lent: &mut [u32]) -> i32
     ensures { λ r. ⌜ r ≡ readNumber (now (f .entry)) (now (t .entry)) (now (lent .entry)) ⌝ }
     ensures { λ _. ⌜ now (lent .exit) ≡ readLeaves (now (f .entry)) (now (t .entry)) (now (lent .entry)) ⌝ }
 {
-    if lent.len() < flat::SIZE {
+    if lent.len() < record_layout::SIZE {
         return SHORT;
     }
-    let s = flat::unpack(lent);
+    let s = record_layout::unpack(lent);
     let step = session::read(f, t, s);
     let answer = step.answer;
     if let Answer::Read = answer {
         let after = step.session;
-        flat::pack(after, lent);
+        record_layout::pack(after, lent);
     }
     numbered(answer)
 }
@@ -129,18 +129,18 @@ pub extern "C" fn furzeladle_take(f: &[i32], t: &[i32], lent: &mut [u32], pair: 
     ensures { λ _. ⌜ now (lent .exit) ≡ takeLeaves (now (f .entry)) (now (t .entry)) (now (lent .entry)) (now (pair .entry)) ⌝ }
     ensures { λ _. ⌜ now (pair .exit) ≡ takeWrites (now (f .entry)) (now (t .entry)) (now (lent .entry)) (now (pair .entry)) ⌝ }
 {
-    if lent.len() < flat::SIZE {
+    if lent.len() < record_layout::SIZE {
         return SHORT;
     }
     if pair.len() < 3 {
         return SHORT;
     }
-    let s = flat::unpack(lent);
+    let s = record_layout::unpack(lent);
     let step = session::take(f, t, s);
     let answer = step.answer;
     if let Answer::Given(_) = answer {
         let after = step.session;
-        flat::pack(after, lent);
+        record_layout::pack(after, lent);
     }
     put_given(answer, pair);
     numbered(answer)
@@ -152,13 +152,13 @@ pub extern "C" fn furzeladle_show(f: &[i32], t: &[i32], lent: &[u32], place: &mu
     ensures { λ r. ⌜ r ≡ showNumber (now (lent .entry)) (now (place .entry)) ⌝ }
     ensures { λ _. ⌜ now (place .exit) ≡ showWrites (now (f .entry)) (now (t .entry)) (now (lent .entry)) (now (place .entry)) ⌝ }
 {
-    if lent.len() < flat::SIZE {
+    if lent.len() < record_layout::SIZE {
         return SHORT;
     }
     if place.len() < 3 {
         return SHORT;
     }
-    let s = flat::unpack(lent);
+    let s = record_layout::unpack(lent);
     put_shown(f, t, s, place);
     0
 }

@@ -9,7 +9,7 @@ ghost use Rattle.file_laws.specs.Sizes.{Within};
 ghost use Rattle.furzeladle.specs.Answers.{numberAndRow, loadSigned};
 use rules::Loaded;
 
-mod whole_query;
+mod queries;
 
 // Minus a number.
 fn minus(n: u32) -> i32

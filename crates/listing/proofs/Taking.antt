@@ -12,7 +12,7 @@ use Rattle.rules.specs.declared.Step.{Step}
 use Rattle.rules.specs.declared.Answer.{Answer}
 use Rattle.rules.specs.declared.Answer.the-variants.{Given}
 use Rattle.rules.specs.Take.{firstHeld}
-use Rattle.laws.specs.Until.{Takes, take-cases}
+use Rattle.session_laws.specs.Until.{Takes, take-cases}
 use Rattle.rules.specs.Calls.{takeCall}
 use Rattle.rules.specs.declared.Query.{Query}
 use Rattle.rules.specs.Query.{wasGiven, takeUntilFinished, settledSession, list, pairLine, pairLines, queryLine, lastLine, listing}

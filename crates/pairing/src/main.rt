@@ -1,5 +1,5 @@
 // The pairing program: FIELD.TAB and TRIM.TAB of the working folder and the query on standard input, to the listing or
-// a refusal's number on standard output. What it prints is query::whole_query's; here bytes are only moved.
+// a refusal's number on standard output. What it prints is program::whole_query's; here bytes are only moved.
 use libc::STDIN_FILENO;
 use libc::STDOUT_FILENO;
 ghost use Rattle.io.specs.Counts.{Counts};
@@ -26,6 +26,6 @@ fn main() {
     let mut input = [0u8; 20];
     let k = io::read_full(STDIN_FILENO, &mut input);
     let mut out = [0u8; 2412];
-    let r = query::whole_query(&field[..m], &trim[..n], &input[..k], &mut out);
+    let r = program::whole_query(&field[..m], &trim[..n], &input[..k], &mut out);
     io::write_all(STDOUT_FILENO, &out[..r]);
 }

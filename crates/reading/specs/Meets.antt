@@ -18,7 +18,7 @@ use Rattle.rules.specs.Tables.{Block, qualifying, ahead}
 use Rattle.rules.specs.Ranking.{ahead-strict}
 use Rattle.rules.specs.Session.{places, heldPairs}
 use Rattle.rules.specs.Read.{skipped, bestHeld, holding, meet, rowsBetween, meetBlocks}
-use Rattle.held.specs.Places.{list-of-places}
+use Rattle.keys.specs.Places.{list-of-places}
 use Rattle.block.specs.Block.{at, Rows}
 use Rattle.reading.specs.declared.Span.{Span}
 use Rattle.reading.specs.Ready.{Ready}

@@ -7,7 +7,7 @@ use Rattle.rules.specs.declared.Pair.{Pair}
 use Rattle.rules.specs.declared.Session.{Session}
 use Rattle.rules.specs.Tables.{ahead}
 use Rattle.rules.specs.Session.{noPair, places, heldPairs}
-use Rattle.laws.specs.Record.{QueryFits}
+use Rattle.session_laws.specs.Record.{QueryFits}
 
 pub record Ready (s : Session) : Type 0 where
   pub query : QueryFits (s .query)

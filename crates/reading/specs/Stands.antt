@@ -14,11 +14,11 @@ use Rattle.rules.specs.declared.Session.{Session}
 use Rattle.rules.specs.Tables.{Block, qualifying}
 use Rattle.rules.specs.Session.{noPair, places, heldPairs, firstScore}
 use Rattle.rules.specs.Read.{lowest, skipped, bestHeld, holding, meet, readTo}
-use Rattle.laws.specs.Read.{Kept}
+use Rattle.session_laws.specs.Read.{Kept}
 use Rattle.ceiling.specs.Last.{lastOf, lowest-is-last}
-use Rattle.held.specs.Held.{keyOf, pairOf, Narrow, Keyed}
-use Rattle.held.specs.Keys.{pair-key, keyed-length, keyed-at}
-use Rattle.held.specs.Places.{placesOf, list-of-places}
+use Rattle.keys.specs.Held.{keyOf, pairOf, Narrow, Keyed}
+use Rattle.keys.specs.Keys.{pair-key, keyed-length, keyed-at}
+use Rattle.keys.specs.Places.{placesOf, list-of-places}
 use Rattle.block.specs.Block.{Joined}
 use Rattle.reading.specs.declared.Met.{Met}
 use Rattle.reading.specs.declared.After.{After}

@@ -12,7 +12,7 @@ ghost use lib.ListN.{length};
 ghost use Rattle.rules.specs.Session.{settled};
 ghost use Rattle.rules.specs.Read.{scoreDrop, fieldNext, meetBlocks, nextDepth, readTable, readBlock};
 ghost use Rattle.rules.specs.Calls.{newBlockCode};
-ghost use Rattle.laws.specs.Sizes.{Lent};
+ghost use Rattle.session_laws.specs.Sizes.{Lent};
 ghost use Rattle.block.specs.Block.{Joined};
 ghost use Rattle.reading.specs.Ready.{Ready, LastHeld};
 ghost use Rattle.reading.specs.Effect.{Effect};
@@ -180,7 +180,7 @@ fn meet_parts(
 {
     let full = m.held == room;
     let last = (m.held + 63) % 64;
-    let p = held::pair(keys[last]);
+    let p = keys::pair(keys[last]);
     let w = effect_parts(full, p.sum, radius, f, x, t, y);
     if w == 2 {
         let n = join_parts(radius, room, f, x, t, y, keys, m.held);
@@ -279,7 +279,7 @@ fn read_on(field: bool, f: &[i32], t: &[i32], s: Session, keys: &mut [u64; 64]) 
     let d = pick(field, s.depth.field.0, s.depth.trim.0);
     let depth = pick(field, s.depth.trim.0, s.depth.field.0);
     let e = next_depth(block, rows, d);
-    let n = record::block_count(block, depth);
+    let n = checks::block_count(block, depth);
     let new = Span {
         from: d as usize,
         to: e as usize,

@@ -10,7 +10,7 @@ use borrow.Author.Tests.{eq-eqb}
 use Rattle.rules.specs.declared.Session.{Session}
 use Rattle.rules.specs.Session.{noPair}
 use Rattle.rules.specs.Calls.{recordFits, callCode}
-use Rattle.laws.specs.Sizes.{Lent, call-lent}
+use Rattle.session_laws.specs.Sizes.{Lent, call-lent}
 use Rattle.checks.specs.Codes.{callOf, call-is}
 use Rattle.reading.specs.Ready.{LastHeld}
 

@@ -9,8 +9,8 @@ use lib.Seq.{take-all}
 use Rattle.rules.specs.declared.Pair.{Pair}
 use Rattle.rules.specs.declared.Session.{Session}
 use Rattle.rules.specs.Session.{noPair}
-use Rattle.held.specs.Held.{placeAt}
-use Rattle.held.specs.Places.{placesOf, place-is, places-long, filled, one-filled}
+use Rattle.keys.specs.Held.{placeAt}
+use Rattle.keys.specs.Places.{placesOf, place-is, places-long, filled, one-filled}
 use Rattle.reading.specs.declared.After.{After}
 use Rattle.reading.specs.Stands.{withKeys}
 use Rattle.session.proofs.Moving.{placed}

@@ -14,7 +14,7 @@ use Rattle.lists.specs.Bools.{clash}
 use Rattle.lists.specs.Sorts.{all-append}
 use Rattle.rules.specs.declared.Session.{Session}
 use Rattle.rules.specs.Session.{noPair}
-use Rattle.held.specs.Held.{keyOf, Narrow, Keyed}
+use Rattle.keys.specs.Held.{keyOf, Narrow, Keyed}
 use Rattle.reading.specs.Stands.{Keys}
 
 -- before turn i: where all fits, the keys of the held places before i are those of their pairs

@@ -15,7 +15,7 @@ ghost use lib.ListN.{length};
 ghost use Rattle.rules.specs.Session.{opened, zeros};
 ghost use Rattle.rules.specs.Take.{givesPair, finished, lastBlock};
 ghost use Rattle.rules.specs.Tables.{part};
-ghost use Rattle.laws.specs.Sizes.{Lent};
+ghost use Rattle.session_laws.specs.Sizes.{Lent};
 ghost use Rattle.reading.specs.Ready.{LastHeld};
 ghost use Rattle.session.specs.Answers.{readAnswer, takeAnswer};
 ghost use Rattle.rules.specs.Calls.{openCode, openCall, readCall, takeCall, showCall, movedOn, showPlace};
@@ -24,7 +24,7 @@ ghost use Rattle.rules.specs.Calls.{openCode, openCall, readCall, takeCall, sho
 fn open_code(q: Query, f: &[i32], t: &[i32]) -> u32
     ensures { λ r. ⌜ r ≡ openCode q (now (f .entry)) (now (t .entry)) ⌝ }
 {
-    let code = record::query_code(q);
+    let code = checks::query_code(q);
     if code != 0 {
         return code;
     }
@@ -115,7 +115,7 @@ fn read_answer(code: u32, f: &[i32], t: &[i32], s: Session, last: Pair) -> Answe
 }
 
 // Read: settled, or one block of the table that is next, which meets the blocks already read of the other. The pair places
-// are looked through here, and in take, as in `record::fits`, and filled here: handed on, the record would be copied once
+// are looked through here, and in take, as in `checks::fits`, and filled here: handed on, the record would be copied once
 // more. While blocks meet, the pairs held are keys, lent to whoever puts one among them.
 pub fn read(f: &[i32], t: &[i32], s: Session) -> Step
     ensures { λ r. ⌜ r ≡ readCall (now (f .entry)) (now (t .entry)) s ⌝ }
@@ -124,13 +124,13 @@ pub fn read(f: &[i32], t: &[i32], s: Session) -> Step
     let n = r.held as usize;
     let end = (n + 63) % 64;
     let depth = r.depth;
-    let mut fits = record::numbers_fit(r.query, r.rows, r.depth, r.last, r.out, r.held, r.joined);
+    let mut fits = checks::numbers_fit(r.query, r.rows, r.depth, r.last, r.out, r.held, r.joined);
     let mut before: u64 = 0;
     let mut keys: [u64; 64] = [0; 64];
-    let mut i = record::first_place(fits);
+    let mut i = checks::first_place(fits);
     while i < 64 {
         let p = r.pairs[i];
-        let key = record::place_key(i, n, depth, before, p);
+        let key = checks::place_key(i, n, depth, before, p);
         if key == 0 {
             fits = false;
             break;
@@ -152,7 +152,7 @@ pub fn read(f: &[i32], t: &[i32], s: Session) -> Step
         r.joined = after.joined;
         let mut j: usize = 0;
         while j < 64 {
-            let p = held::place(&keys, j, m);
+            let p = keys::place(&keys, j, m);
             r.pairs[j] = p;
             j += 1;
         }
@@ -209,12 +209,12 @@ pub fn take(f: &[i32], t: &[i32], s: Session) -> Step
     let mut r = s;
     let n = r.held as usize;
     let depth = r.depth;
-    let mut fits = record::numbers_fit(r.query, r.rows, r.depth, r.last, r.out, r.held, r.joined);
+    let mut fits = checks::numbers_fit(r.query, r.rows, r.depth, r.last, r.out, r.held, r.joined);
     let mut before: u64 = 0;
-    let mut i = record::first_place(fits);
+    let mut i = checks::first_place(fits);
     while i < 64 {
         let p = r.pairs[i];
-        let key = record::place_key(i, n, depth, before, p);
+        let key = checks::place_key(i, n, depth, before, p);
         if key == 0 {
             fits = false;
             break;
@@ -260,7 +260,7 @@ pub fn show<'a>(f: &'a [i32], t: &'a [i32], s: Session) -> &'a [i32]
     ensures { λ r. ⌜ now r ≡ showCall (now (f .entry)) (now (t .entry)) s ⌝ }
     ensures { λ r. ⌜ ptr r ≡ showPlace (now (f .entry)) (now (t .entry)) (ptr (f .entry)) (ptr (t .entry)) s ⌝ }
 {
-    let fits = record::fits(s);
+    let fits = checks::fits(s);
     if checks::lent_code(fits, s.rows, f, t) != 0 {
         return &f[..0];
     }

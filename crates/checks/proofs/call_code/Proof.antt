@@ -7,8 +7,8 @@ use native.Mathlib.Omega.{arith}
 use lib.IntN.{ℤ}
 use lib.ListN.{length}
 use borrow.Author.Tests.{eq-eqb, ne-eqb}
-use Rattle.laws.specs.Record.{CountsFit}
-use Rattle.laws.specs.Sizes.{SameSize}
+use Rattle.session_laws.specs.Record.{CountsFit}
+use Rattle.session_laws.specs.Sizes.{SameSize}
 use Rattle.checks.specs.Codes.{callOf, lent-passed}
 use borrow.Author.Needs.{needs}
 use Rattle.checks.proofs.call_code.Statement.{statement}

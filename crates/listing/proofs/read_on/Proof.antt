@@ -6,7 +6,7 @@ use borrow.Author.Tests.{not-true, not-false}
 use Rattle.rules.specs.declared.Step.{Step}
 use Rattle.rules.specs.Calls.{readCall}
 use Rattle.rules.specs.Query.{wasRead}
-use Rattle.laws.specs.Read.{unreadRows}
+use Rattle.session_laws.specs.Read.{unreadRows}
 use Rattle.listing.specs.Until.{readOn, fewer, read-more, read-ends}
 use Rattle.listing.proofs.read_on.Statement.{statement}
 use Rattle.listing.proofs.read_on.Tie as tie

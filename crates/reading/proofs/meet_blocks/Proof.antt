@@ -10,7 +10,7 @@ use borrow.Author.Needs.{needs}
 use Rattle.rules.specs.declared.Query.{Query}
 use Rattle.rules.specs.declared.Session.{Session}
 use Rattle.rules.specs.Read.{meet, meetBlocks}
-use Rattle.laws.specs.Read.{blocks-keep, blocks-joined}
+use Rattle.session_laws.specs.Read.{blocks-keep, blocks-joined}
 use Rattle.reading.specs.declared.Span.{Span}
 use Rattle.reading.specs.Ready.{Ready}
 use Rattle.reading.specs.Side.{Inside, rowsOf}

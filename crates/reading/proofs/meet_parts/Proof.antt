@@ -3,7 +3,7 @@ use mathlib.Core.Path.{sym}
 use lib.Dec.{eqb}
 use Prim.Native.Nat.{_+_, _%_}
 use lib.ListN.{getD}
-use Rattle.held.specs.Held.{pairOf}
+use Rattle.keys.specs.Held.{pairOf}
 use Rattle.reading.specs.Side.{rowsOf}
 use Rattle.reading.specs.Effect.{Effect}
 use Rattle.reading.specs.Stands.{meets-joined, meets-counted}

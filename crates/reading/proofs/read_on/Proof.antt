@@ -5,7 +5,7 @@ use native.Mathlib.Nat.{div-mul-le-self}
 use native.Mathlib.Omega.{arith}
 use Rattle.rules.specs.declared.Session.{Session}
 use Rattle.rules.specs.Read.{meetBlocks, rowsBetween, oldDepth, newDepth, blockCount, readTable}
-use Rattle.laws.specs.Read.{blocks-keep}
+use Rattle.session_laws.specs.Read.{blocks-keep}
 use Rattle.reading.specs.Ready.{Ready}
 use Rattle.reading.specs.Side.{otherDepth}
 use Rattle.reading.specs.Meets.{blocks-ready}

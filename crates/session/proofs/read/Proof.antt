@@ -9,9 +9,9 @@ use borrow.Author.Tests.{eq-eqb}
 use Rattle.lists.specs.Bools.{clash}
 use Rattle.rules.specs.Session.{settled}
 use Rattle.rules.specs.Query.{wasRead}
-use Rattle.laws.specs.Record.{call-fits}
+use Rattle.session_laws.specs.Record.{call-fits}
 use Rattle.rules.specs.Calls.{recordFits, step, readCall}
-use Rattle.record.proofs.Looking.{Looking, look-starts, look-key, look-on, look-stops, look-ends}
+use Rattle.checks.proofs.Looking.{Looking, look-starts, look-key, look-on, look-stops, look-ends}
 use Rattle.checks.specs.Codes.{within}
 use Rattle.reading.specs.Stands.{Keys}
 use borrow.Author.Needs.{needs}

@@ -6,8 +6,8 @@ use lib.Dec.{eqb}
 use borrow.Author.Tests.{eq-eqb, ne-eqb}
 use Rattle.rules.specs.Take.{shownRows}
 use Rattle.rules.specs.Calls.{lentCode, showCall, showPlace}
-use Rattle.laws.specs.Record.{mark-field, mark-trim}
-use Rattle.laws.specs.Sizes.{Lent, lent}
+use Rattle.session_laws.specs.Record.{mark-field, mark-trim}
+use Rattle.session_laws.specs.Sizes.{Lent, lent}
 use Rattle.checks.specs.Codes.{lentOf, lent-is}
 use borrow.Author.Needs.{needs}
 use Rattle.session.proofs.show.Statement.{statement}

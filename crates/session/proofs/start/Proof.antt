@@ -5,7 +5,7 @@ use native.Mathlib.Omega.{arith}
 use lib.Dec.{eqb}
 use borrow.Author.Tests.{eq-eqb, ne-eqb}
 use Rattle.rules.specs.Calls.{openCode, openCall}
-use Rattle.laws.specs.Sizes.{Sized, open-sized}
+use Rattle.session_laws.specs.Sizes.{Sized, open-sized}
 use borrow.Author.Needs.{needs}
 use Rattle.session.proofs.start.Statement.{statement}
 use Rattle.session.proofs.start.Tie as tie

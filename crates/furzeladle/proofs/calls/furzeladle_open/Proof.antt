@@ -8,7 +8,7 @@ use Rattle.rules.specs.declared.Step.{Step}
 use Rattle.rules.specs.Numbers.{number}
 use Rattle.rules.specs.declared.Query.{Query}
 use Rattle.rules.specs.Calls.{openCall}
-use Rattle.flat.specs.Flat.{queryIn}
+use Rattle.record_layout.specs.Flat.{queryIn}
 use Rattle.furzeladle.specs.Calls.{answerNumber, laidIn, openShort, openNumber, openLeaves}
 use Rattle.furzeladle.specs.Small.{open-small}
 use borrow.Author.Needs.{needs, sfits-of}

@@ -12,7 +12,7 @@ use Rattle.rules.specs.Query.{wasRead}
 use Rattle.rules.specs.Numbers.{number}
 use Rattle.rules.specs.Calls.{readCall}
 use Rattle.session.proofs.Answers.{not-read}
-use Rattle.flat.specs.Flat.{unflatten}
+use Rattle.record_layout.specs.Flat.{unflatten}
 use Rattle.furzeladle.specs.Calls.{answerNumber, laidIn, readNumber, readLeaves}
 use Rattle.furzeladle.specs.Unchanged.{read-same}
 use Rattle.furzeladle.specs.Small.{read-small}

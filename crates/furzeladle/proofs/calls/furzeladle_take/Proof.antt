@@ -12,7 +12,7 @@ use Rattle.rules.specs.Query.{wasGiven}
 use Rattle.rules.specs.Numbers.{number}
 use Rattle.rules.specs.Calls.{takeCall}
 use Rattle.session.proofs.Answers.{not-given}
-use Rattle.flat.specs.Flat.{unflatten}
+use Rattle.record_layout.specs.Flat.{unflatten}
 use Rattle.furzeladle.specs.Calls.{answerNumber, laidIn, pairLeft, takeShort, takeNumber, takeLeaves, takeWrites}
 use Rattle.furzeladle.specs.Unchanged.{take-same}
 use Rattle.furzeladle.specs.Small.{take-small}

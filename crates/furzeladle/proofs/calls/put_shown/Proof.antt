@@ -5,10 +5,10 @@ use native.Mathlib.Omega.{arith}
 use lib.Dec.{eqb}
 use borrow.Author.Tests.{eq-eqb, ne-eqb}
 use Rattle.rules.specs.Calls.{lentCode}
-use Rattle.laws.specs.Record.{mark-field, mark-trim}
-use Rattle.laws.specs.Sizes.{Lent, lent}
+use Rattle.session_laws.specs.Record.{mark-field, mark-trim}
+use Rattle.session_laws.specs.Sizes.{Lent, lent}
 use Rattle.checks.specs.Codes.{lentOf, lent-is}
-use Rattle.flat.specs.Flat.{flatPair}
+use Rattle.record_layout.specs.Flat.{flatPair}
 use Rattle.furzeladle.specs.Calls.{shownNumbers}
 use borrow.Author.Needs.{needs}
 use Rattle.furzeladle.proofs.calls.put_shown.Statement.{statement}

@@ -1,0 +1,139 @@
+-- Wrong rules, each a twin of the right one, and the part of demand 3 that it breaks on tables of a few rows. Assumes
+-- nothing.
+use mathlib.Core.Path.{_≡_, refl}
+use mathlib.Core.Bool.{Bool, true, false, cond}
+use mathlib.Core.List.{List, []}
+use Prim.Native.Nat.{ℕ, zero, suc, _+_, _-_, _≤_, _<_, max}
+use lib.Dec.{eqb, ltb, leb, lit<, lit≤}
+use lib.IntN.{ℤ, pos}
+use Rattle.lists.specs.Lists.{atLeast}
+use Rattle.rules.specs.declared.FieldRows.{FieldRows}
+use Rattle.rules.specs.declared.TrimRows.{TrimRows}
+use Rattle.rules.specs.declared.Query.{Query}
+use Rattle.rules.specs.declared.Session.{Session}
+use Rattle.rules.specs.Session.{lastScore, fieldReadOut, trimReadOut, settled}
+use Rattle.rules.specs.Read.{scoreDrop, fieldNext, readTable, readTo}
+use Rattle.rules.specs.Take.{firstHeld}
+use Rattle.rules.specs.Sure.{Sure, qualifyingSums}
+use Rattle.rules.specs.Calls.{openCall, readCall}
+use Rattle.rules.specs.Run.{run}
+use Rattle.tables_join.specs.SureTest.{isSure, ceilingAt}
+use Rattle.tables_join.specs.SureTestLaws.{sure-is-test}
+use Rattle.demand.specs.Demand.{Qualifying, sumOf}
+use Rattle.demand_cases.specs.Transcript.{row}
+
+-- ---- Rules for the table that is read next
+
+-- a rule in place of the drops, both tables having been read and neither to its end
+abbrev chosenBy : (List ℤ → List ℤ → Session → Bool) → List ℤ → List ℤ → Session → Bool
+chosenBy rule f t s =
+    cond (eqb (s .depth .field .0) 0) true
+    (cond (eqb (s .depth .trim .0) 0) false (cond (trimReadOut s) true (cond (fieldReadOut s) false (rule f t s))))
+
+-- source 001 as printed: the table whose last score is higher
+abbrev byLastScore : List ℤ → List ℤ → Session → Bool
+byLastScore f t s = leb (lastScore t (s .depth .trim .0)) (lastScore f (s .depth .field .0))
+
+-- at equal drops always the field table
+abbrev equalDropsField : List ℤ → List ℤ → Session → Bool
+equalDropsField f t s = leb (scoreDrop f (s .depth .field .0)) (scoreDrop t (s .depth .trim .0))
+
+-- document 01's own rule in this form
+abbrev byDrops : List ℤ → List ℤ → Session → Bool
+byDrops f t s =
+    let x = scoreDrop f (s .depth .field .0) in
+    let y = scoreDrop t (s .depth .trim .0) in
+    cond (ltb x y) true (cond (ltb y x) false (leb (s .depth .field .0) (s .depth .trim .0)))
+
+-- reading until settled by such a rule, at most n reads
+abbrev readBy : ℕ → (List ℤ → List ℤ → Session → Bool) → List ℤ → List ℤ → Session → Session
+readBy zero rule f t s = s
+readBy (suc n) rule f t s = cond (settled f t s) s (readBy n rule f t (readTable (chosenBy rule f t s) f t s))
+
+-- how many rows such a rule reads of the two tables
+abbrev rowsBy : (List ℤ → List ℤ → Session → Bool) → Query → List ℤ → List ℤ → ℕ
+rowsBy rule q f t =
+    let s = readBy 12 rule f t (openCall q f t .session) in
+    max (s .depth .field .0) (s .depth .trim .0)
+
+abbrev two : FieldRows
+two = record { 0 = 2 }
+
+abbrev twoTrim : TrimRows
+twoTrim = record { 0 = 2 }
+
+abbrev best : Query
+best = record { k = 1; block = 1; radius = 0 }
+
+-- the pair that matters is field row 1 with trim row 2, and trim scores lie below all field scores
+abbrev highFields : List ℤ
+highFields = row (pos 100) (pos 0) (row (pos 90) (pos 7) (row (pos 80) (pos 7) (row (pos 70) (pos 7) [])))
+
+abbrev lowTrims : List ℤ
+lowTrims = row (pos 10) (pos 9) (row (pos 9) (pos 0) (row (pos 8) (pos 9) []))
+
+sure-low : Sure 1 0 highFields lowTrims two twoTrim
+unfolding run isSure ceilingAt qualifyingSums atLeast
+sure-low = sure-is-test highFields lowTrims refl refl two twoTrim 1 0 (lit≤ tt) .1 refl
+
+-- the row limit, here 2, is broken by the last-score rule and kept by document 01's
+pub last-score-breaks-limit : Sure 1 0 highFields lowTrims two twoTrim × (max 2 2 + 1 - 1 < rowsBy byLastScore best highFields lowTrims) × (rowsBy byDrops best highFields lowTrims ≡ 2)
+unfolding run
+last-score-breaks-limit = (sure-low, lit< tt, refl)
+
+-- a plateau of equal scores in the field table
+abbrev plateau : List ℤ
+plateau = row (pos 5) (pos 0) (row (pos 5) (pos 7) (row (pos 5) (pos 7) (row (pos 5) (pos 7) [])))
+
+abbrev level : List ℤ
+level = row (pos 5) (pos 9) (row (pos 5) (pos 0) (row (pos 5) (pos 9) []))
+
+sure-level : Sure 1 0 plateau level two twoTrim
+unfolding run isSure ceilingAt qualifyingSums atLeast
+sure-level = sure-is-test plateau level refl refl two twoTrim 1 0 (lit≤ tt) .1 refl
+
+pub equal-drops-break-limit : Sure 1 0 plateau level two twoTrim × (max 2 2 + 1 - 1 < rowsBy equalDropsField best plateau level) × (rowsBy byDrops best plateau level ≡ 2)
+unfolding run
+equal-drops-break-limit = (sure-level, lit< tt, refl)
+
+-- ---- Reading everything at the first read
+
+abbrev one : FieldRows
+one = record { 0 = 1 }
+
+abbrev oneTrim : TrimRows
+oneTrim = record { 0 = 1 }
+
+-- all rows that remain in place of one block: the field depth after the first read
+abbrev readsAll : Query → List ℤ → List ℤ → ℕ
+readsAll q f t =
+    let s = openCall q f t .session in
+    readTo (fieldNext f t s) (s .rows .field .0) s .depth .field .0
+
+sure-first : Sure 1 0 plateau plateau one oneTrim
+unfolding run isSure ceilingAt qualifyingSums atLeast
+sure-first = sure-is-test plateau plateau refl refl one oneTrim 1 0 (lit≤ tt) .1 refl
+
+pub reading-all-breaks-limit : Sure 1 0 plateau plateau one oneTrim × (max 1 1 + 1 - 1 < readsAll best plateau plateau) × (rowsBy byDrops best plateau plateau ≡ 1)
+unfolding run
+reading-all-breaks-limit = (sure-first, lit< tt, refl)
+
+-- ---- Taking the best held pair before the ceiling is down to it
+
+abbrev crossed : List ℤ
+crossed = row (pos 10) (pos 1) (row (pos 1) (pos 2) [])
+
+abbrev crossing : List ℤ
+crossing = row (pos 10) (pos 2) (row (pos 9) (pos 1) [])
+
+abbrev after : Session → Session
+after s = readCall crossed crossing s .session
+
+abbrev read3 : Session
+read3 = after (after (after (openCall best crossed crossing .session)))
+
+-- after three reads the best held pair has sum 11, and a qualifying pair that is not out has sum 19
+pub too-early-breaks-highest : Qualifying best crossed crossing 1 2 × (firstHeld read3 .sum < sumOf crossed crossing 1 2)
+unfolding run
+too-early-breaks-highest =
+    (record { field-row = (lit≤ tt, lit≤ tt); trim-row = (lit≤ tt, lit≤ tt); near = refl }, lit< tt)

@@ -1,0 +1,20 @@
+-- `refuse` meets its contract. Assumes nothing.
+use mathlib.Core.Path.{sym}
+use native.Mathlib.Omega.{arith}
+use Rattle.printing.specs.Lines.{refusal-length}
+use borrow.Author.Needs.{needs}
+use Rattle.program.proofs.refuse.Statement.{statement}
+use Rattle.program.proofs.refuse.Tie as tie
+
+put-refusal-requires : tie.Need-put-refusal-requires
+put-refusal-requires c κs = search needs
+
+same-length : tie.Need-same-length
+same-length c = search needs
+
+returns : tie.Need-returns
+returns c =
+    record { count = sym (refusal-length (c .before .before .before .before .before .args .code)); short = omega arith; front = c .before .before .put-refusal .ensures }
+
+pub refuse-spec : {M : Type 1} → statement M
+refuse-spec = tie.close (tie.spec put-refusal-requires same-length returns)

@@ -1,0 +1,104 @@
+-- What the pairing program prints on accepted input: the best pairs of the two files' tables. Assumes nothing.
+use mathlib.Core.Path.{_≡_, refl, sym, ap, subst, _∙_}
+use mathlib.Core.Bool.{true}
+use mathlib.Core.List.{List, map, List·Memᴰ}
+use Prim.Native.Nat.{ℕ, _+_, _-_, _≤_, max}
+use lib.Dec.{eqb}
+use lib.IntN.{ℤ, pos}
+use borrow.Author.Tests.{eqb-true, eq-eqb}
+use Rattle.lists.specs.Lists.{best}
+use Rattle.lists.specs.Words.{Distinct}
+use Rattle.rules.specs.declared.FieldRows.{FieldRows}
+use Rattle.rules.specs.declared.TrimRows.{TrimRows}
+use Rattle.rules.specs.declared.Loaded.{Loaded}
+use Rattle.rules.specs.declared.Loaded.the-variants.{Rows, Unfit}
+use Rattle.rules.specs.declared.Pair.{Pair}
+use Rattle.rules.specs.declared.Query.{Query}
+use Rattle.rules.specs.Tables.{legal}
+use Rattle.rules.specs.Numbers.{first}
+use Rattle.rules.specs.Calls.{queryCode, sizeCode, openCode}
+use Rattle.rules.specs.File.{fileTable, loadedCode}
+use Rattle.rules.specs.Query.{list, listing, settledSession, programFileCode, inputCode, inputQuery, tableOf, refusalLine, wholeQueryCode, wholeQuery}
+use Rattle.rules.specs.Sure.{Sure, qualifyingSums}
+use Rattle.session_laws.specs.Bools.{first-none}
+use Rattle.file_laws.specs.Legal.{accepted-legal}
+use Rattle.tables_join.specs.Pairs.{Fits}
+use Rattle.tables_join.specs.WholeList.{list-best, list-listed}
+use Rattle.program.specs.Program.{orRefusal, refusal-none, refusal-some, programFile, program-code, program-rows, Numbered, program-numbered}
+use Rattle.program_laws.specs.Depths.{settled-within}
+
+-- of a query over two tables: what is listed, and how far it was read
+pub record Answered (q : Query) (f t : List ℤ) : Type 0 where
+  pub field-legal : legal f ≡ true
+  pub trim-legal : legal t ≡ true
+  pub in-range : queryCode q ≡ 0
+  -- the k highest qualifying sums, all of them if fewer
+  pub sums : map (λ p. p .sum) (list q f t) ≡ best (q .k) (qualifyingSums (q .radius) f t)
+  -- each pair is one of two rows that qualify, with its own sum, and comes once
+  pub pairs : (p : Pair) → List·Memᴰ p (list q f t) → Fits (q .radius) f t p
+  pub once : Distinct (list q f t)
+  -- the row limit
+  pub row-limit : (m : FieldRows) (n : TrimRows) → Sure (q .k) (q .radius) f t m n →
+      (settledSession q f t .depth .field .0 ≤ max (m .0) (n .0) + q .block - 1)
+      × (settledSession q f t .depth .trim .0 ≤ max (m .0) (n .0) + q .block - 1)
+
+-- and of what the program prints
+pub record Whole (field trim input : List ℕ) : Type 0 where
+  pub printed : wholeQuery field trim input ≡ listing (inputQuery input) (tableOf field) (tableOf trim)
+  pub answered : Answered (inputQuery input) (tableOf field) (tableOf trim)
+
+pub query-answered : (q : Query) (f t : List ℤ) → legal f ≡ true → legal t ≡ true → queryCode q ≡ 0 → Answered q f t
+query-answered q f t g h k =
+    let l = list-listed q f t g h k in
+    record {
+      field-legal = g;
+      trim-legal = h;
+      in-range = k;
+      sums = list-best q f t g h k;
+      pairs = l .fit;
+      once = l .once;
+      row-limit = settled-within q f t g h k;
+    }
+
+-- a file that passes has a legal table
+file-legal : (bytes : List ℕ) (kind : ℤ) → eqb (programFileCode bytes kind) 0 ≡ true → legal (tableOf bytes) ≡ true
+file-legal bytes kind h = go (programFile bytes kind) refl
+  where
+    none : loadedCode (programFile bytes kind) ≡ 0
+    none = program-code bytes kind ∙ eqb-true (programFileCode bytes kind) 0 h
+
+    go : (x : Loaded) → programFile bytes kind ≡ x → legal (tableOf bytes) ≡ true
+    go (Rows n) e =
+        let small = program-rows bytes kind n e in
+        ap (λ (k : ℕ). legal (fileTable bytes k)) (small .count) ∙ accepted-legal bytes kind n (small .checked)
+    go (Unfit code row) e =
+        absurd
+        (subst (λ (x : Loaded). Numbered x) e (program-numbered bytes kind) (ap (λ (x : Loaded). loadedCode x) (sym e) ∙ none))
+
+-- accepted input
+pub whole-query : (field trim input : List ℕ) → wholeQueryCode field trim input ≡ 0 → Whole field trim input
+unfolding wholeQuery wholeQueryCode openCode orRefusal
+whole-query field trim input h =
+    let q = inputQuery input in
+    let f = tableOf field in
+    let t = tableOf trim in
+    let a = programFileCode field (pos 1) in
+    let b = programFileCode trim (pos 2) in
+    let c = inputCode input in
+    let d = openCode q f t in
+    let passed-a = first-none a (first b (first c d)) (eq-eqb (wholeQueryCode field trim input) 0 h) in
+    let passed-b = first-none b (first c d) (passed-a .1) in
+    let passed-c = first-none c d (passed-b .1) in
+    let passed-d = first-none (queryCode q) (first (sizeCode f) (sizeCode t)) (passed-c .1) in
+    record {
+      printed = refusal-none (wholeQueryCode field trim input) (listing q f t) h;
+      answered =
+          query-answered q f t (file-legal field (pos 1) (passed-a .0)) (file-legal trim (pos 2) (passed-b .0)) (eqb-true (queryCode q) 0 (passed-d .0));
+    }
+
+-- refused input: its number alone
+pub whole-refused : (field trim input : List ℕ) → (wholeQueryCode field trim input ≡ 0 → ⊥) →
+    wholeQuery field trim input ≡ refusalLine (wholeQueryCode field trim input)
+unfolding wholeQuery orRefusal
+whole-refused field trim input h =
+    refusal-some (wholeQueryCode field trim input) (listing (inputQuery input) (tableOf field) (tableOf trim)) h

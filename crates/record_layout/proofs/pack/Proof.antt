@@ -1,0 +1,107 @@
+-- `pack` meets its contract: after i turns the first i pairs are laid down. Assumes nothing.
+use mathlib.Core.Path.{_≡_, refl, sym, ap, _∙_}
+use mathlib.Core.List.{List, _++_}
+use Prim.Native.Nat.{ℕ, _+_, _*_, _-_, _≤_, _<_}
+use native.Mathlib.Omega.{arith}
+use lib.ListN.{length, length-map, getD, take, drop}
+use lib.Seq.{take-all}
+use borrow.Author.Needs.{needs}
+use Rattle.lists.specs.Lists.{each}
+use Rattle.rules.specs.declared.Pair.{Pair}
+use Rattle.rules.specs.Session.{noPair}
+use Rattle.record_layout.specs.Flat.{flatSize, flatPair, flatHead, flatten}
+use Rattle.record_layout.proofs.Places.{onto, laid, none-laid, one-out}
+use Rattle.record_layout.proofs.pack.Statement.{statement}
+use Rattle.record_layout.proofs.pack.Tie as tie
+
+abbrev Inv-loop : tie.InvT-loop
+Inv-loop out₀ s i₀ out i =
+    (i ≤ 64) × (length (s .pairs) ≡ 64) × (length out ≡ length out₀) × (flatSize ≤ length out₀) × (out ≡ laid out₀ (s .pairs) i)
+
+abbrev μ-loop : tie.MeasureT-loop
+μ-loop out₀ s i₀ out i = 64 - i
+
+put-head-requires : tie.Need-put-head-requires Inv-loop μ-loop
+put-head-requires c κs = search needs
+
+loop-holds : tie.Need-loop-holds Inv-loop μ-loop
+loop-holds c =
+    let s = c .before .before .before .before .before in
+    let head = c .before .before .put-head in
+    let long : length (s .args .t1 .pairs) ≡ 64 = sym (length-map (s .args .t1 .pairs) _) ∙ s .good .0 .1 .1 .1 .1 .1 .1 .1 .1 .0 .1 .0 .1 in
+    (omega arith, long, refl, omega (arith, head .kept .0, s .pre), none-laid (head .last .0) (s .args .t1 .pairs))
+
+mul-p : tie.Need-mul-p Inv-loop μ-loop
+mul-p c = omega arith
+
+element-copy-out-p : tie.Need-element-copy-out-p Inv-loop μ-loop
+element-copy-out-p c = search needs
+
+mul-put-pair : tie.Need-mul-put-pair Inv-loop μ-loop
+mul-put-pair c = omega arith
+
+add-put-pair : tie.Need-add-put-pair Inv-loop μ-loop
+add-put-pair c = omega arith
+
+put-pair-requires : tie.Need-put-pair-requires Inv-loop μ-loop
+put-pair-requires c κs =
+    let v = c .before .before .before .loop in
+    omega (arith, v .inv .2, v .inv .3, c .before .before .loop-test .taken)
+
+add-i : tie.Need-add-i Inv-loop μ-loop
+add-i c = omega arith
+
+loop-less : tie.Need-loop-less Inv-loop μ-loop
+loop-less c = omega arith
+
+loop-again : tie.Need-loop-again Inv-loop μ-loop
+loop-again c =
+    let v = c .before .before .before .before .before .before .loop in
+    let s = c .before .before .before .before .before .before .before .before .before .before .before .before .args .t1 in
+    let l = c .before .before .before .before .before .before .before .before .before .put-head .last .0 in
+    let p = getD (s .pairs) (v .i) noPair in
+    let h : v .i < 64 = c .before .before .before .before .before .loop-test .taken in (
+      omega (arith, h),
+      v .inv .1,
+      c .before .before .put-pair .kept .0 ∙ v .inv .2,
+      v .inv .3,
+      c .before .before .put-pair .ensures
+          ∙ ap (λ (r : List ℕ). take (12 + 3 * v .i) r ++ flatPair p ++ drop (12 + 3 * v .i + 3) r) (v .inv .4)
+          ∙ one-out l (s .pairs) (omega (arith, v .inv .3)) (v .i) (omega (arith, h, v .inv .1)),
+    )
+
+same-length : tie.Need-same-length Inv-loop μ-loop
+same-length c = search needs
+
+returns : tie.Need-returns Inv-loop μ-loop
+unfolding flatten flatHead
+returns c =
+    let v = c .before .loop in
+    let s = c .before .before .before .before .before .before .before .args .t1 in
+    let l = c .before .before .before .before .before .before .before .args .out .now in
+    let head = c .before .before .before .before .put-head in
+    let e : v .i ≡ 64 = omega (arith, v .inv .0, c .loop-test .left) in
+    v .inv .4
+    ∙ ap (laid (head .last .0) (s .pairs)) e
+    ∙ ap (λ (a : List Pair). take 12 (head .last .0) ++ each flatPair a ++ drop flatSize (head .last .0)) (take-all 64 (s .pairs) (omega (arith, v .inv .1)))
+    ∙ ap (λ (r : List ℕ). take 12 r ++ each flatPair (s .pairs) ++ drop flatSize r) (head .ensures)
+    ∙ onto (flatHead s) (each flatPair (s .pairs)) l 12 192 refl
+
+pub pack-spec : {M : Type 1} → statement M
+pack-spec =
+    tie.close
+    (tie.spec
+    Inv-loop
+    μ-loop
+    put-head-requires
+    loop-holds
+    mul-p
+    element-copy-out-p
+    mul-put-pair
+    add-put-pair
+    put-pair-requires
+    add-i
+    loop-less
+    loop-again
+    same-length
+    returns)

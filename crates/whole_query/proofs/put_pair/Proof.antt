@@ -1,0 +1,59 @@
+-- `put_pair` meets its contract. Assumes nothing.
+use Rattle.whole_query.proofs.Steps.{pair-put}
+use borrow.Author.Needs.{needs}
+use Rattle.whole_query.proofs.put_pair.Statement.{statement}
+use Rattle.whole_query.proofs.put_pair.Tie as tie
+
+add-b : tie.Need-add-b
+add-b c = search needs
+
+line-of-requires : tie.Need-line-of-requires
+line-of-requires c κs = search needs
+
+cast-put-three : tie.Need-cast-put-three
+cast-put-three c = search needs
+
+cast-put-three-2 : tie.Need-cast-put-three-2
+cast-put-three-2 c = search needs
+
+cast-put-three-3 : tie.Need-cast-put-three-3
+cast-put-three-3 c = search needs
+
+put-three-requires : tie.Need-put-three-requires
+put-three-requires c κs = search needs
+
+cast-put-three-4 : tie.Need-cast-put-three-4
+cast-put-three-4 c = search needs
+
+cast-put-three-5 : tie.Need-cast-put-three-5
+cast-put-three-5 c = search needs
+
+put-three-requires-2 : tie.Need-put-three-requires-2
+put-three-requires-2 c κs = search needs
+
+same-length : tie.Need-same-length
+same-length c = search needs
+
+returns : tie.Need-returns
+returns c =
+    let s = c .before .before .before .before .before .before .before .before .before .before .before .before .before .before .before .args in
+    let line = c .before .before .before .before .before .before .before .before .before .before .before .before .before .line-of in
+    let three = c .before .before .before .before .before .before .before .before .put-three in
+    let more = c .before .before .put-three2 in
+    pair-put (s .f .now) (s .t .now) (s .p) (line .result) (s .at) (s .out .now) (three .last .0) (more .last .0) (line .ensures) (three .ensures) (more .ensures)
+
+pub put-pair-spec : {M : Type 1} → statement M
+put-pair-spec =
+    tie.close
+    (tie.spec
+    add-b
+    line-of-requires
+    cast-put-three
+    cast-put-three-2
+    cast-put-three-3
+    put-three-requires
+    cast-put-three-4
+    cast-put-three-5
+    put-three-requires-2
+    same-length
+    returns)
