@@ -10,7 +10,7 @@ use lib.IntN.{ℤ}
 use borrow.Author.Tests.{eqb-true, eqb-false}
 use Rattle.lists.specs.Lists.{consIf, keep, range, each}
 use Rattle.lists.specs.Appends.{keep-append, each-append, range-end}
-use Rattle.lists.specs.Bools.{none-true}
+use Rattle.lists.specs.Bools.{or-none-out}
 use Rattle.rules.specs.declared.Pair.{Pair}
 use Rattle.rules.specs.Tables.{Block, row, rowCount, qualifies, pairAt, qualifying}
 
@@ -32,7 +32,7 @@ module _ (radius : ℕ) (x y : Block) where
   unfolding rowNear keep range consIf
   none-kept i zero h = refl
   none-kept i (suc n) h =
-      let both = none-true (rowNear radius (x .rows) (y .rows) i n) (test i n) h in
+      let both = or-none-out (rowNear radius (x .rows) (y .rows) i n) (test i n) h in
       let e : 0 + n ≡ n = omega arith in
       ap (keep (test i)) (range-end 0 n ∙ ap (λ (m : ℕ). range 0 n ++ m ∷ []) e)
       ∙ keep-append (test i) (range 0 n) (n ∷ [])
@@ -45,7 +45,7 @@ module _ (radius : ℕ) (x y : Block) where
   unfolding anyNear each range
   none-of zero h = refl
   none-of (suc n) h =
-      let both = none-true (anyNear radius (x .rows) (y .rows) n) (rowNear radius (x .rows) (y .rows) n (rowCount (y .rows))) h in
+      let both = or-none-out (anyNear radius (x .rows) (y .rows) n) (rowNear radius (x .rows) (y .rows) n (rowCount (y .rows))) h in
       let e : 0 + n ≡ n = omega arith in
       ap (each ofRow) (range-end 0 n ∙ ap (λ (m : ℕ). range 0 n ++ m ∷ []) e)
       ∙ each-append ofRow (range 0 n) (n ∷ [])

@@ -10,7 +10,7 @@ use Rattle.rules.specs.declared.Counts.{Counts}
 use Rattle.rules.specs.declared.Pair.{Pair}
 use Rattle.rules.specs.Tables.{ahead}
 use Rattle.rules.specs.Calls.{between, isZeros}
-use Rattle.session_laws.specs.Bools.{and-left, and-right}
+use Rattle.lists.specs.Bools.{and-left, and-right}
 use Rattle.lists.specs.Bools.{clash}
 use Rattle.keys.specs.Held.{keyOf, Narrow}
 use Rattle.keys.specs.Keys.{key-order}

@@ -14,7 +14,7 @@ use Rattle.rules.specs.declared.Pair.{Pair}
 use Rattle.rules.specs.declared.Session.{Session}
 use Rattle.rules.specs.Session.{noPair}
 use Rattle.rules.specs.Calls.{queryCode, countsFit, recordFits}
-use Rattle.session_laws.specs.Bools.{and-left, and-right}
+use Rattle.lists.specs.Bools.{and-left, and-right}
 use Rattle.session_laws.specs.Record.{counts-fit}
 use Rattle.keys.specs.Held.{keyOf, Narrow}
 use Rattle.checks.specs.Grounds.{numbersFit, placeFits, placesFrom, Shallow, placeKey}

@@ -10,7 +10,7 @@ use Rattle.rules.specs.declared.Counts.{Counts}
 use Rattle.rules.specs.declared.Session.{Session}
 use Rattle.rules.specs.Numbers.{badRecord, unless, first}
 use Rattle.rules.specs.Calls.{sameSizeCode, rowsCode, recordFits, recordCode, lentCode, callCode}
-use Rattle.session_laws.specs.Bools.{first-none, unless-passed}
+use Rattle.lists.specs.Bools.{first-none, unless-passed}
 use Rattle.session_laws.specs.Record.{CountsFit, record-fits}
 use Rattle.session_laws.specs.Sizes.{SameSize, same-size}
 

@@ -10,7 +10,7 @@ use mir.Syntax.{w32, w64}
 use mir.Val.{Fits, SFits, toZ, ofZ}
 use mir.Facts.{toZ-ofZ}
 use borrow.Author.Tests.{leb-true, leb-false, ltb-true, ltb-false, le-leb, le-ltb}
-use Rattle.lists.specs.Bools.{both-true}
+use Rattle.lists.specs.Bools.{and-out}
 use Rattle.rules.specs.Tables.{gap}
 
 -- the gap by the signs of the two numbers
@@ -161,5 +161,5 @@ between (negsuc b) h k = let l : b ≤ 16382 = leb-true b 16382 h in omega arith
 -- a 32-bit number that passes the code's test is small
 pub small-of : (z : ℤ) → mag z < 2 ^ 31 → (leZ (negsuc 16382) (held z) && leZ (held z) (pos 16383)) ≡ true → mag z < 16384
 small-of z f e =
-    let both = both-true _ _ (simp (toZ-ofZ {w = w32} {z = z} (record { sfits = f })) at e) in
+    let both = and-out _ _ (simp (toZ-ofZ {w = w32} {z = z} (record { sfits = f })) at e) in
     between z (both .0) (both .1)

@@ -11,7 +11,7 @@ use lib.ListN.{length, getD, take, drop}
 use lib.Seq.{drop-cons}
 use borrow.Author.Tests.{leb-true}
 use Rattle.rules.specs.File.{isDigit, columns}
-use Rattle.file_laws.specs.Tests.{and-left, and-right}
+use Rattle.lists.specs.Bools.{and-left, and-right}
 use Rattle.file.specs.Column.{upTo, byteWorth}
 
 pub whole : (bytes : List ℕ) (at width : ℕ) → columns bytes at width ≡ upTo bytes at (at + width)

@@ -9,7 +9,7 @@ use lib.IntN.{pos, negℤ}
 use borrow.Author.Tests.{ne-eqb, eqb-true, eqb-false}
 use Rattle.lists.specs.Lists.{every}
 use Rattle.rules.specs.File.{isDigit, afterBlanks, digitsFit, digitsFrom, hasMinus, afterMinus, columnFits, columnNumber}
-use Rattle.file_laws.specs.Tests.{and-left, and-right}
+use Rattle.lists.specs.Bools.{and-left, and-right}
 use Rattle.file.specs.declared.Column.{Column}
 use Rattle.file.specs.declared.Scan.{Scan}
 use Rattle.file.specs.Column.{byteWorth, stepped, start, scanned, signedWorth, heldOf, columnHeld}

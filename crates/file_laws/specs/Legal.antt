@@ -17,7 +17,7 @@ use Rattle.rules.specs.Tables.{natOf, rowInRange, rowInOrder, sizeFits, legal}
 use Rattle.rules.specs.Numbers.{unless, first}
 use Rattle.rules.specs.Calls.{between, rowCode}
 use Rattle.rules.specs.File.{fileCount, fileKind, fileTable, rowColumnsFit, fileRowCode, kindFits, checkFile, andSlice, loadAnswer}
-use Rattle.file_laws.specs.Tests.{and-left, and-right, and-both}
+use Rattle.lists.specs.Bools.{and-left, and-right, and-in}
 use Rattle.file_laws.specs.Table.{table-length}
 use Rattle.file_laws.specs.Accepted.{accepted}
 
@@ -26,7 +26,7 @@ every-range : (test : ℕ → Bool) (a n : ℕ) → ((i : ℕ) → a ≤ i → i
 unfolding every range
 every-range test a zero h = refl
 every-range test a (suc n) h =
-    and-both (test a) (every test (range (suc a) n)) (h a (omega arith) (omega arith))
+    and-in (test a) (every test (range (suc a) n)) (h a (omega arith) (omega arith))
     (every-range test (suc a) n (λ i k l. h i (omega arith) (omega arith)))
 
 -- checks of which none refuses
@@ -57,7 +57,7 @@ accepted-legal bytes kind n h =
     let each-row : every (λ i. rowInRange t i && rowInOrder t i) (range 0 n) ≡ true =
     every-range (λ i. rowInRange t i && rowInOrder t i) 0 n
     (λ i k l.
-    let p = row-passed bytes t i (f .rows i (omega arith)) in and-both (rowInRange t i) (rowInOrder t i) (p .1 .0) (p .1 .1)) in
+    let p = row-passed bytes t i (f .rows i (omega arith)) in and-in (rowInRange t i) (rowInOrder t i) (p .1 .0) (p .1 .1)) in
     simp (rows, whole, each-row, le-leb n 65535 (f .few))
 
 -- a file is accepted for at most one kind

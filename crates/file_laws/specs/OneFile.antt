@@ -14,7 +14,7 @@ use Rattle.rules.specs.declared.Loaded.the-variants.{Rows}
 use Rattle.rules.specs.Tables.{natOf, num}
 use Rattle.rules.specs.Calls.{between}
 use Rattle.rules.specs.File.{afterBlanks, digitsFrom, hasMinus, digitsOf, columns, columnFits, columnNumber, endsLine, headerFits, fileCount, fileKind, kindFits, rowStart, rowColumnsFit, rowNumbers, fileTable, checkFile}
-use Rattle.file_laws.specs.Tests.{and-right}
+use Rattle.lists.specs.Bools.{and-right}
 use Rattle.file_laws.specs.Parts.{header-parts, row-parts}
 use Rattle.file_laws.specs.Table.{table-length, table-num}
 use Rattle.file_laws.specs.Accepted.{accepted}

@@ -4,7 +4,7 @@ use mathlib.Core.Bool.{true, false, _&&_}
 use mathlib.Core.List.{List}
 use Prim.Native.Nat.{ℕ, _+_}
 use Rattle.rules.specs.File.{columns, columnFits, endsLine, headerFits, rowStart, rowColumnsFit}
-use Rattle.file_laws.specs.Tests.{and-left, and-right}
+use Rattle.lists.specs.Bools.{and-left, and-right}
 
 pub record HeaderFits (bytes : List ℕ) : Type 0 where
   pub count : columnFits false (columns bytes 0 6) ≡ true

@@ -10,7 +10,7 @@ use lib.ListN.{length}
 use borrow.Author.Tests.{le-leb, leb-true, eq-eqb, eqb-true, eqb-false, not-true}
 use Rattle.lists.specs.Lists.{every}
 use Rattle.rules.specs.File.{isDigit, afterBlanks, digitsFit, digitsFrom, hasMinus, afterMinus, digitsOf, columnFits, columnNumber}
-use Rattle.file_laws.specs.Tests.{and-left, and-right, and-both}
+use Rattle.lists.specs.Bools.{and-left, and-right, and-in}
 
 pub never : {X : Type 0} → false ≡ true → X
 never h = absurd (subst T (sym h) tt)
@@ -113,14 +113,14 @@ digits-small : (l : List ℕ) → every isDigit l ≡ true → small l ≡ true
 unfolding every small
 digits-small [] f = refl
 digits-small (b ∷ l) f =
-    and-both (leb b 57) (small l) (and-right (leb 48 b) (leb b 57) (and-left (isDigit b) (every isDigit l) f))
+    and-in (leb b 57) (small l) (and-right (leb 48 b) (leb b 57) (and-left (isDigit b) (every isDigit l) f))
     (digits-small l (and-right (isDigit b) (every isDigit l) f))
 
 spelled-small : {m : Bool} {l : List ℕ} → Spelled m l → small l ≡ true
 unfolding every small
 spelled-small (blanks p) = spelled-small p
-spelled-small (minus {d = d} {l = l} a b f) = and-both (leb d 57) (small l) (le-leb d 57 b) (digits-small l f)
-spelled-small (digits {d = d} {l = l} a b f) = and-both (leb d 57) (small l) (le-leb d 57 b) (digits-small l f)
+spelled-small (minus {d = d} {l = l} a b f) = and-in (leb d 57) (small l) (le-leb d 57 b) (digits-small l f)
+spelled-small (digits {d = d} {l = l} a b f) = and-in (leb d 57) (small l) (le-leb d 57 b) (digits-small l f)
 spelled-small nought = refl
 
 -- blanks and a minus are worth nothing
@@ -181,7 +181,7 @@ minus-some signed l f m z =
     let n = digitsFrom 0 (digitsOf signed l) in
     let test = hasMinus signed (afterBlanks l) && eqb n 0 in
     let fails = not-true test (and-right (digitsFit (digitsOf signed l)) (not test) f) in
-    let passes = and-both (hasMinus signed (afterBlanks l)) (eqb n 0) m (eq-eqb n 0 z) in
+    let passes = and-in (hasMinus signed (afterBlanks l)) (eqb n 0) m (eq-eqb n 0 z) in
     never (sym fails ∙ passes)
 
 -- the same without blanks before it

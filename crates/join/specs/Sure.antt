@@ -11,7 +11,7 @@ use lib.Seq.{getD-take, take-take, take-all, take-append-le}
 use borrow.Author.Tests.{leb-true, leb-false, ltb-true, ltb-false, le-leb}
 use Rattle.lists.specs.Lists.{each, atLeast, best}
 use Rattle.lists.specs.Counts.{count-none, count-falls, count-best, best-ext}
-use Rattle.lists.specs.Bools.{clash, fails, both-true, one-true}
+use Rattle.lists.specs.Bools.{clash, fails, and-out, or-out}
 use Rattle.join.specs.Join.{Side, SideLaws, Laws, Partner, Begins, rowAt, weightAt, first, last, ceiling, sumsOf, region, Sure, sureTest, flip}
 use Rattle.join.specs.Regions.{region-part, count-cut, count-more, count-swap, count-region}
 use Rattle.join.specs.Ceiling.{swap-laws, ended-not, ceiling-cases, outside-low}
@@ -20,10 +20,10 @@ use Rattle.join.specs.Ceiling.{swap-laws, ended-not, ceiling-cases, outs
 pub sure-cases : {A B : Type 0} (S : Side A) (U : Side B) (qual : A → B → Bool) (k : ℕ) (F : List A) (p : ℕ) (T : List B) (q : ℕ) → sureTest S U qual k F p T q ≡ true
     → (S .empty F p ≡ true) ⊎ ((U .empty T q ≡ true) ⊎ (((S .ended F p ≡ true) × (U .ended T q ≡ true)) ⊎ ((1 ≤ p) × (1 ≤ q) × (k ≤ region S U qual (ceiling S U F p T q) F p T q))))
 unfolding sureTest
-sure-cases S U qual k F p T q e = ⊎-elim inl (λ e. inr (⊎-elim inl (λ e. inr (⊎-elim (λ e. inl (both-true _ _ e)) (λ e. inr (covered (both-true _ _ e))) (one-true _ _ e))) (one-true _ _ e))) (one-true _ _ e)
+sure-cases S U qual k F p T q e = ⊎-elim inl (λ e. inr (⊎-elim inl (λ e. inr (⊎-elim (λ e. inl (and-out _ _ e)) (λ e. inr (covered (and-out _ _ e))) (or-out _ _ e))) (or-out _ _ e))) (or-out _ _ e)
   where
     covered : (leb 1 p ≡ true) × ((leb 1 q && leb k (region S U qual (ceiling S U F p T q) F p T q)) ≡ true) → (1 ≤ p) × (1 ≤ q) × (k ≤ region S U qual (ceiling S U F p T q) F p T q)
-    covered e = let h = both-true (leb 1 q) (leb k (region S U qual (ceiling S U F p T q) F p T q)) (e .1) in (leb-true 1 p (e .0), leb-true 1 q (h .0), leb-true k (region S U qual (ceiling S U F p T q) F p T q) (h .1))
+    covered e = let h = and-out (leb 1 q) (leb k (region S U qual (ceiling S U F p T q) F p T q)) (e .1) in (leb-true 1 p (e .0), leb-true 1 q (h .0), leb-true k (region S U qual (ceiling S U F p T q) F p T q) (h .1))
 
 -- From the test to the meaning
 

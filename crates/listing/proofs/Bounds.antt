@@ -19,7 +19,7 @@ use Rattle.rules.specs.Tables.{num, row, within, inRange, rowInRange, rowInOrde
 use Rattle.rules.specs.Session.{noPair, secured}
 use Rattle.rules.specs.Take.{firstHeld, givesPair, movedOut}
 use Rattle.rules.specs.Calls.{between, pairFits, rowCode, rowsCode, lentCode, callCode, takeCall}
-use Rattle.session_laws.specs.Bools.{and-left, and-right, first-none, unless-passed}
+use Rattle.lists.specs.Bools.{and-left, and-right, first-none, unless-passed}
 use Rattle.session_laws.specs.Sizes.{call-lent}
 use Rattle.session_laws.specs.Until.{Takes}
 use Rattle.distance.proofs.Gap.{gap-mag}

@@ -16,7 +16,7 @@ use Rattle.rules.specs.Session.{secured}
 use Rattle.rules.specs.Take.{firstHeld, givesPair, movedOut}
 use Rattle.rules.specs.Calls.{openCall, readCall, takeCall}
 use Rattle.rules.specs.Query.{wasRead, given, wasGiven, readUntilSettled, takeUntilFinished, settledSession, list}
-use Rattle.session_laws.specs.Bools.{of-true, and-left}
+use Rattle.lists.specs.Bools.{of-true, and-left}
 use Rattle.session_laws.specs.Record.{call-fits, record-fits}
 use Rattle.session_laws.specs.Read.{unreadRows, read-raises}
 use Rattle.session_laws.specs.Until.{read-cases, reads-end, take-cases, wanted, takes-end, list-bound}

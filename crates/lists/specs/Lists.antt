@@ -20,6 +20,12 @@ unfoldable pub every : {A : Type 0} → (A → Bool) → List A → Bool
 every test [] = true
 every test (x ∷ l) = test x && every test l
 
+-- whether all tests of a list pass
+abbrev pub all : List Bool → Bool
+all [] = true
+all (a ∷ []) = a
+all (a ∷ b ∷ l) = a && all (b ∷ l)
+
 -- the n numbers a, a + 1, ..
 unfoldable pub range : ℕ → ℕ → List ℕ
 range a zero = []

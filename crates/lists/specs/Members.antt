@@ -7,7 +7,7 @@ use Prim.Native.Nat.{ℕ, zero, suc, _≤_}
 use native.Mathlib.Omega.{arith}
 use lib.ListN.{length, take}
 use Rattle.lists.specs.Lists.{ins, sort, ranked}
-use Rattle.lists.specs.Bools.{clash, both-true}
+use Rattle.lists.specs.Bools.{clash, and-out}
 use Rattle.lists.specs.Words.{All, Strict, Ordered, Distinct}
 use Rattle.lists.specs.Sorts.{all-at, all-map, sort-ordered, take-ordered, ranked-ordered}
 
@@ -100,13 +100,13 @@ module _ {A : Type 0} (ahead : A → A → Bool) (order : Strict ahead) where
   unfolding ranked
   ranked-first x [] h = tt
   ranked-first x (y ∷ l) h =
-      let b = both-true (ahead x y) (ranked ahead (y ∷ l)) h in
+      let b = and-out (ahead x y) (ranked ahead (y ∷ l)) h in
       (b .0, all-map (λ z. ahead y z ≡ true) (λ z. ahead x z ≡ true) (λ z k. order .trans x y z (b .0) k) l (ranked-first y l (b .1)))
 
   pub ranked-rest : (x : A) (l : List A) → ranked ahead (x ∷ l) ≡ true → ranked ahead l ≡ true
   unfolding ranked
   ranked-rest x [] h = refl
-  ranked-rest x (y ∷ l) h = both-true (ahead x y) (ranked ahead (y ∷ l)) h .1
+  ranked-rest x (y ∷ l) h = and-out (ahead x y) (ranked ahead (y ∷ l)) h .1
 
   pub ranked-distinct : (l : List A) → ranked ahead l ≡ true → Distinct l
   ranked-distinct [] h = tt

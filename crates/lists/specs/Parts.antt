@@ -8,7 +8,7 @@ use native.Mathlib.Omega.{arith}
 use native.Mathlib.Decide.{ℕ-discrete}
 use lib.ListN.{length, getD}
 use Rattle.lists.specs.Lists.{consIf, keep, every, range, each}
-use Rattle.lists.specs.Bools.{clash, both-true}
+use Rattle.lists.specs.Bools.{clash, and-out}
 use Rattle.lists.specs.Words.{Distinct}
 
 -- ++
@@ -142,8 +142,8 @@ keep-map g test (x ∷ l) = go (test (g x)) (keep-map g test l)
 module _ {A : Type 0} (test : A → Bool) where
   pub every-at : (x : A) {l : List A} → every test l ≡ true → List·Memᴰ x l → test x ≡ true
   unfolding every
-  every-at x h (List·Memᴰ·head {x = y} {xs = l} e) = ap test e ∙ both-true (test y) (every test l) h .0
-  every-at x h (List·Memᴰ·tail {x = y} {xs = l} m) = every-at x (both-true (test y) (every test l) h .1) m
+  every-at x h (List·Memᴰ·head {x = y} {xs = l} e) = ap test e ∙ and-out (test y) (every test l) h .0
+  every-at x h (List·Memᴰ·tail {x = y} {xs = l} m) = every-at x (and-out (test y) (every test l) h .1) m
 
   pub every-of : (l : List A) → ((x : A) → List·Memᴰ x l → test x ≡ true) → every test l ≡ true
   unfolding every

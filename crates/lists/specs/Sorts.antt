@@ -7,7 +7,7 @@ use native.Mathlib.Omega.{arith}
 use lib.ListN.{length, take}
 use lib.Seq.{take-take}
 use Rattle.lists.specs.Lists.{ins, sort, ranked}
-use Rattle.lists.specs.Bools.{clash, fails, both-true}
+use Rattle.lists.specs.Bools.{clash, fails, and-out}
 use Rattle.lists.specs.Words.{All, Strict, Ordered}
 
 module _ {A : Type 0} where
@@ -183,8 +183,8 @@ module _ {A : Type 0} (ahead : A → A → Bool) (order : Strict ahead) where
   ranked-ordered [] h = tt
   ranked-ordered (x ∷ []) h = (tt, tt)
   ranked-ordered (x ∷ y ∷ l) h =
-      let e : ahead y x ≡ false = order .asym x y (both-true (ahead x y) (ranked ahead (y ∷ l)) h .0) in
-      let r : Ordered ahead (y ∷ l) = ranked-ordered (y ∷ l) (both-true (ahead x y) (ranked ahead (y ∷ l)) h .1) in
+      let e : ahead y x ≡ false = order .asym x y (and-out (ahead x y) (ranked ahead (y ∷ l)) h .0) in
+      let r : Ordered ahead (y ∷ l) = ranked-ordered (y ∷ l) (and-out (ahead x y) (ranked ahead (y ∷ l)) h .1) in
       ((e, all-map (λ z. ahead z y ≡ false) (λ z. ahead z x ≡ false) (λ z k. not-ahead x y z e k) l (r .0)), r)
 
   -- a ranked list stays as it is

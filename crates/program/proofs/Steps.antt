@@ -22,7 +22,7 @@ use Rattle.rules.specs.Tables.{natOf}
 use Rattle.rules.specs.Numbers.{number}
 use Rattle.rules.specs.File.{columns, columnFits, columnNumber, endsLine, fileTable, checkFile, andSlice, loadedInto, loadAnswer, loadNumbers, loadedCode}
 use Rattle.rules.specs.Query.{programFileCode, inputQuery, tableOf, refusalLine, wholeQuery}
-use Rattle.session_laws.specs.Bools.{and-left, and-right}
+use Rattle.lists.specs.Bools.{and-left, and-right}
 use Rattle.file.specs.declared.Column.{Column}
 use Rattle.file.specs.Column.{columnHeld}
 use Rattle.file.proofs.Head.{number-held}

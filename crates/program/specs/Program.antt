@@ -18,7 +18,7 @@ use Rattle.rules.specs.Session.{opened, zeros}
 use Rattle.rules.specs.Calls.{step, openCode, openCall}
 use Rattle.rules.specs.File.{columns, columnFits, endsLine, headerFits, fileCount, kindFits, rowStart, fileTable, fileRowCode, andRow, rowsLoaded, checkFile, loadedCode}
 use Rattle.rules.specs.Query.{listing, programFileCode, inputCode, inputQuery, tableOf, refusalLine, wholeQueryCode, wholeQuery}
-use Rattle.session_laws.specs.Bools.{of-true}
+use Rattle.lists.specs.Bools.{of-true}
 use Rattle.file_laws.specs.Accepted.{accepted}
 use Rattle.printing.specs.Put.{putAt}
 use Rattle.program.specs.declared.Input.{Input}

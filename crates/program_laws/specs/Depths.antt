@@ -17,7 +17,7 @@ use Rattle.rules.specs.Read.{readBlock}
 use Rattle.rules.specs.Calls.{step, queryCode, callCode, newBlockCode, openCall, readCall}
 use Rattle.rules.specs.Query.{wasRead, readUntilSettled, settledSession}
 use Rattle.rules.specs.Sure.{Sure}
-use Rattle.session_laws.specs.Bools.{of-true}
+use Rattle.lists.specs.Bools.{of-true}
 use Rattle.demand.specs.Demand.{Call, reading, lastRecord}
 use Rattle.demand.specs.GetsThere.{runOf}
 use Rattle.demand.specs.Ends.{run-sequence}

@@ -20,7 +20,7 @@ use Rattle.rules.specs.Calls.{queryCode, sizeCode, openCode}
 use Rattle.rules.specs.File.{fileTable, loadedCode}
 use Rattle.rules.specs.Query.{list, listing, settledSession, programFileCode, inputCode, inputQuery, tableOf, refusalLine, wholeQueryCode, wholeQuery}
 use Rattle.rules.specs.Sure.{Sure, qualifyingSums}
-use Rattle.session_laws.specs.Bools.{first-none}
+use Rattle.lists.specs.Bools.{first-none}
 use Rattle.file_laws.specs.Legal.{accepted-legal}
 use Rattle.tables_join.specs.Pairs.{Fits}
 use Rattle.tables_join.specs.WholeList.{list-best, list-listed}

@@ -19,7 +19,7 @@ use Rattle.rules.specs.Ranking.{ahead-strict}
 use Rattle.rules.specs.Session.{noPair, places, heldPairs, fieldReadOut, trimReadOut, settled}
 use Rattle.rules.specs.Read.{fieldNext, oldDepth, newDepth}
 use Rattle.rules.specs.Calls.{isZeros, rowsCode, newBlockCode}
-use Rattle.session_laws.specs.Bools.{and-left, and-right}
+use Rattle.lists.specs.Bools.{and-left, and-right}
 use Rattle.session_laws.specs.Record.{Fits}
 use Rattle.session_laws.specs.Sizes.{Lent}
 use Rattle.session_laws.specs.Read.{unsettled, chosen-unread}

@@ -2,18 +2,18 @@
 -- read, take, show. Definitions only. Assumes nothing.
 use Prim.Native.Nat.{ℕ, zero, suc, _+_, _*_, _-_, _%_}
 use mathlib.Core.Bool.{Bool, false, cond, _&&_, _||_}
-use mathlib.Core.List.{List, []}
+use mathlib.Core.List.{List, [], _∷_}
 use lib.Dec.{leb, ltb, eqb}
 use lib.IntN.{ℤ}
 use lib.ListN.{drop}
-use Rattle.lists.specs.Lists.{every, ranked}
+use Rattle.lists.specs.Lists.{every, all, ranked}
 use Rattle.rules.specs.declared.Pair.{Pair}
 use Rattle.rules.specs.declared.Query.{Query}
 use Rattle.rules.specs.declared.Session.{Session}
 use Rattle.rules.specs.declared.Step.{Step}
 use Rattle.rules.specs.declared.Answer.{Answer}
 use Rattle.rules.specs.declared.Answer.the-variants.{Refused, Opened, Read, Settled, Given, NotYet, Finished}
-use Rattle.rules.specs.Tables.{rowCount, rowInRange, rowInOrder, sizeFits, ahead}
+use Rattle.rules.specs.Tables.{mostRows, rowCount, rowInRange, rowInOrder, sizeFits, ahead}
 use Rattle.rules.specs.Session.{opened, zeros, heldPairs, settled}
 use Rattle.rules.specs.Read.{blockCount, fieldNext, oldDepth, newDepth, readBlock}
 use Rattle.rules.specs.Take.{firstHeld, givesPair, movedOut, finished, lastBlock, shownRows}
@@ -25,8 +25,11 @@ between low high n = leb low n && leb n high
 -- 1, 2, 3: the query's numbers
 unfoldable pub queryCode : Query → ℕ
 queryCode q =
-    first (unless (between 1 64 (q .k)) listLength)
-    (first (unless (between 1 1024 (q .block)) blockSize) (unless (leb (q .radius) 40000) radiusRange))
+    first
+    (unless (between 1 64 (q .k)) listLength
+    ∷ unless (between 1 1024 (q .block)) blockSize
+    ∷ unless (leb (q .radius) 40000) radiusRange
+    ∷ [])
 
 -- 4, at opening: "slice length not a multiple of 4, more than 65,535 rows"
 unfoldable pub sizeCode : List ℤ → ℕ
@@ -38,24 +41,28 @@ sameSizeCode rows t = unless (sizeFits t && eqb (rowCount t) rows) tableSize
 
 -- 6 and 7 for row i + 1: "6 before 7"
 unfoldable pub rowCode : List ℤ → ℕ → ℕ
-rowCode t i = first (unless (rowInRange t i) rowLimit) (unless (rowInOrder t i) rowOrder)
+rowCode t i = first (unless (rowInRange t i) rowLimit ∷ unless (rowInOrder t i) rowOrder ∷ [])
 
 -- "6 and 7 .. row by row": rows a + 1 to a + n
 unfoldable pub rowsCode : List ℤ → ℕ → ℕ → ℕ
 rowsCode t a zero = 0
-rowsCode t a (suc n) = first (rowsCode t a n) (rowCode t (a + n))
+rowsCode t a (suc n) = first (rowsCode t a n ∷ rowCode t (a + n) ∷ [])
 
 -- 5, table by table: "a row count exceeds 65,535, a depth exceeds its rows or is neither a multiple of the block nor all
 -- rows"
 unfoldable pub countsFit : ℕ → ℕ → ℕ → Bool
 countsFit block rows depth =
-    leb rows 65535 && (leb depth rows && (eqb (depth % block) 0 || eqb depth rows))
+    leb rows mostRows && (leb depth rows && (eqb (depth % block) 0 || eqb depth rows))
 
--- 5, pair by pair: "a held pair's row is outside 1 to the depth, a held sum is outside 0 to 19,998"
+-- "a held sum is outside 0 to 19,998"
+abbrev pub mostSum : ℕ
+mostSum = 19998
+
+-- 5, pair by pair: "a held pair's row is outside 1 to the depth", or its sum
 unfoldable pub pairFits : Session → Pair → Bool
 pairFits s p =
     between 1 (s .depth .field .0) (p .field)
-    && (between 1 (s .depth .trim .0) (p .trim) && leb (p .sum) 19998)
+    && (between 1 (s .depth .trim .0) (p .trim) && leb (p .sum) mostSum)
 
 -- 5: "the last-read mark isn't 0 to 2, names a table of depth 0 or is 0 though a depth isn't"
 unfoldable pub markFits : Session → Bool
@@ -67,19 +74,23 @@ markFits s =
 abbrev pub isZeros : Pair → Bool
 isZeros p = eqb (p .sum) 0 && (eqb (p .field) 0 && eqb (p .trim) 0)
 
--- 5: all grounds, in document 01's order
-unfoldable pub recordFits : Session → Bool
-recordFits s =
+-- 5: its grounds, in document 01's order, as tests that must all pass
+abbrev pub recordGrounds : Session → List Bool
+recordGrounds s =
     eqb (queryCode (s .query)) 0
-    && (countsFit (s .query .block) (s .rows .field .0) (s .depth .field .0)
-    && (countsFit (s .query .block) (s .rows .trim .0) (s .depth .trim .0)
-    && (leb (s .out + s .held) (s .query .k)
-    && (every (pairFits s) (heldPairs s)
-    && (ranked ahead (heldPairs s)
-    && (markFits s
-    && (every isZeros (drop (s .held) (s .pairs))
-    && leb (s .joined)
-    (blockCount (s .query .block) (s .depth .field .0) * blockCount (s .query .block) (s .depth .trim .0)))))))))
+    ∷ countsFit (s .query .block) (s .rows .field .0) (s .depth .field .0)
+    ∷ countsFit (s .query .block) (s .rows .trim .0) (s .depth .trim .0)
+    ∷ leb (s .out + s .held) (s .query .k)
+    ∷ every (pairFits s) (heldPairs s)
+    ∷ ranked ahead (heldPairs s)
+    ∷ markFits s
+    ∷ every isZeros (drop (s .held) (s .pairs))
+    ∷ leb (s .joined)
+    (blockCount (s .query .block) (s .depth .field .0) * blockCount (s .query .block) (s .depth .trim .0))
+    ∷ []
+
+unfoldable pub recordFits : Session → Bool
+recordFits s = all (recordGrounds s)
 
 unfoldable pub recordCode : Session → ℕ
 recordCode s = unless (recordFits s) badRecord
@@ -87,12 +98,12 @@ recordCode s = unless (recordFits s) badRecord
 -- 5, 4: what show looks at, and read and take look at first
 unfoldable pub lentCode : List ℤ → List ℤ → Session → ℕ
 lentCode f t s =
-    first (recordCode s) (first (sameSizeCode (s .rows .field .0) f) (sameSizeCode (s .rows .trim .0) t))
+    first (recordCode s ∷ sameSizeCode (s .rows .field .0) f ∷ sameSizeCode (s .rows .trim .0) t ∷ [])
 
 -- "Read and take check 5, 4, then 6 and 7 over the rows up to the depths, field first"
 unfoldable pub callCode : List ℤ → List ℤ → Session → ℕ
 callCode f t s =
-    first (lentCode f t s) (first (rowsCode f 0 (s .depth .field .0)) (rowsCode t 0 (s .depth .trim .0)))
+    first (lentCode f t s ∷ rowsCode f 0 (s .depth .field .0) ∷ rowsCode t 0 (s .depth .trim .0) ∷ [])
 
 -- "else it checks its new block by 6 and 7"
 unfoldable pub newBlockCode : List ℤ → List ℤ → Session → ℕ
@@ -105,7 +116,7 @@ step a s = record { answer = a; session = s }
 
 -- "Opening checks 1, 2, 3, 4 (field, then trim); refused, its record is all zeros."
 unfoldable pub openCode : Query → List ℤ → List ℤ → ℕ
-openCode q f t = first (queryCode q) (first (sizeCode f) (sizeCode t))
+openCode q f t = first (queryCode q ∷ sizeCode f ∷ sizeCode t ∷ [])
 
 unfoldable pub openCall : Query → List ℤ → List ℤ → Step
 openCall q f t =

@@ -2,14 +2,14 @@
 use Prim.Native.Nat.{ℕ, zero, suc, _+_, _*_, _-_}
 use mathlib.Core.Bool.{Bool, true, false, cond, _&&_, not}
 use mathlib.Core.List.{List, [], _∷_, _++_}
-use lib.Dec.{ltb, eqb}
+use lib.Dec.{leb, ltb, eqb}
 use lib.IntN.{ℤ, pos, negℤ}
 use lib.ListN.{length, getD, take, drop}
 use Rattle.lists.specs.Lists.{every, range, each}
 use Rattle.rules.specs.declared.Loaded.{Loaded}
 use Rattle.rules.specs.declared.Loaded.the-variants.{Rows, Unfit}
-use Rattle.rules.specs.Tables.{natOf}
-use Rattle.rules.specs.Numbers.{tableSize, cutFile, badColumn, wrongKind, shortSlice, unless, first}
+use Rattle.rules.specs.Tables.{mostRows, natOf}
+use Rattle.rules.specs.Numbers.{tableSize, cutFile, badColumn, wrongKind, shortSlice, unless, first, saidOf, signed}
 use Rattle.rules.specs.Calls.{between, rowCode}
 
 abbrev pub blank : ℕ
@@ -70,6 +70,14 @@ columnNumber signed l =
 abbrev pub columns : List ℕ → ℕ → ℕ → List ℕ
 columns bytes o w = take w (drop o bytes)
 
+-- the bytes of the header
+abbrev pub headerBytes : ℕ
+headerBytes = 13
+
+-- "Each row, 27 bytes"
+abbrev pub rowBytes : ℕ
+rowBytes = 27
+
 abbrev pub endsLine : List ℕ → ℕ → Bool
 endsLine bytes o = eqb (getD bytes o 0) lineFeed
 
@@ -84,9 +92,9 @@ fileCount bytes = natOf (columnNumber false (columns bytes 0 6))
 unfoldable pub fileKind : List ℕ → ℕ
 fileKind bytes = natOf (columnNumber false (columns bytes 6 6))
 
--- "Each row, 27 bytes": where row i + 1 begins
+-- where row i + 1 begins
 abbrev pub rowStart : ℕ → ℕ
-rowStart i = 13 + 27 * i
+rowStart i = headerBytes + rowBytes * i
 
 -- "pattern number 1-6, score 7-12, a 13-19, b 20-26, LF"
 unfoldable pub rowColumnsFit : List ℕ → ℕ → Bool
@@ -113,7 +121,7 @@ fileTable bytes n = each (rowNumbers bytes) (range 0 n)
 
 -- "each row by 9, 6, 7": row i + 1, t being the file's table
 unfoldable pub fileRowCode : List ℕ → List ℤ → ℕ → ℕ
-fileRowCode bytes t i = first (unless (rowColumnsFit bytes i) badColumn) (rowCode t i)
+fileRowCode bytes t i = first (unless (rowColumnsFit bytes i) badColumn ∷ rowCode t i ∷ [])
 
 -- the answer where row n + 1 follows rows that were answered so: "Refusals 6, 7, 9 add the row number"
 unfoldable pub andRow : List ℕ → List ℤ → ℕ → Loaded → Loaded
@@ -129,16 +137,23 @@ rowsLoaded bytes t (suc n) = andRow bytes t n (rowsLoaded bytes t n)
 unfoldable pub kindFits : List ℕ → ℤ → Bool
 kindFits bytes kind = between 1 2 (natOf kind) && eqb (fileKind bytes) (natOf kind)
 
--- A file without a slice. "Order: fewer than 13 bytes (8); header columns or LF (9); kind (10); count above 65,535 (4);
--- length other than 13 + 27 × count (8); each row by 9, 6, 7".
+-- "Order: fewer than 13 bytes (8); header columns or LF (9); kind (10); count above 65,535 (4); length other than
+-- 13 + 27 × count (8)"
+unfoldable pub headCode : List ℕ → ℤ → ℕ
+headCode bytes kind =
+    first
+    (unless (leb headerBytes (length bytes)) cutFile
+    ∷ unless (headerFits bytes) badColumn
+    ∷ unless (kindFits bytes kind) wrongKind
+    ∷ unless (leb (fileCount bytes) mostRows) tableSize
+    ∷ unless (eqb (length bytes) (rowStart (fileCount bytes))) cutFile
+    ∷ [])
+
+-- A file without a slice: these checks, which add 0, then "each row by 9, 6, 7".
 unfoldable pub checkFile : List ℕ → ℤ → Loaded
 checkFile bytes kind =
-    cond (ltb (length bytes) 13) (Unfit cutFile 0)
-    (cond (not (headerFits bytes)) (Unfit badColumn 0)
-    (cond (not (kindFits bytes kind)) (Unfit wrongKind 0)
-    (cond (ltb 65535 (fileCount bytes)) (Unfit tableSize 0)
-    (cond (not (eqb (length bytes) (rowStart (fileCount bytes)))) (Unfit cutFile 0)
-    (rowsLoaded bytes (fileTable bytes (fileCount bytes)) (fileCount bytes))))))
+    cond (eqb (headCode bytes kind) 0) (rowsLoaded bytes (fileTable bytes (fileCount bytes)) (fileCount bytes))
+    (Unfit (headCode bytes kind) 0)
 
 -- "then 11": the answer where a slice of so many numbers is lent
 unfoldable pub andSlice : ℕ → Loaded → Loaded
@@ -157,16 +172,6 @@ loadAnswer bytes kind lent = andSlice (length lent) (checkFile bytes kind)
 unfoldable pub loadNumbers : List ℕ → ℤ → List ℤ → List ℤ
 loadNumbers bytes kind lent = loadedInto bytes lent (loadAnswer bytes kind lent)
 
--- "the row count, or minus the refusal number"
-unfoldable pub signedAnswer : Loaded → ℤ
-signedAnswer (Rows n) = pos n
-signedAnswer (Unfit code row) = negℤ (pos code)
-
--- "A check alone, without a slice and so without 11"
+-- "A check alone, without a slice and so without 11 .. returns the row count, or minus the refusal number."
 unfoldable pub checkAlone : List ℕ → ℤ → ℤ
-checkAlone bytes kind = signedAnswer (checkFile bytes kind)
-
--- the refusal's number, 0 where the file is accepted
-abbrev pub loadedCode : Loaded → ℕ
-loadedCode (Rows n) = 0
-loadedCode (Unfit code row) = code
+checkAlone bytes kind = signed (saidOf (checkFile bytes kind))

@@ -4,6 +4,7 @@ pub mod Read
 pub mod Take
 pub mod Sure
 pub mod Numbers
+pub mod Checks
 pub mod Calls
 pub mod File
 pub mod Query

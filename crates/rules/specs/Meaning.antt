@@ -7,14 +7,11 @@ use native.Mathlib.Omega.{arith}
 use lib.Dec.{eqb, leb}
 use lib.IntN.{ℤ}
 use borrow.Author.Tests.{lt-ltb, le-ltb, ne-eqb}
+use Rattle.lists.specs.Bools.{and-false}
 use Rattle.rules.specs.declared.Session.{Session}
 use Rattle.rules.specs.Tables.{Block}
 use Rattle.rules.specs.Session.{firstScore, lastScore, fieldReadOut, trimReadOut, heldPairs, ceiling}
 use Rattle.rules.specs.Read.{scoreDrop, fieldNext, lowest, skipped}
-
-and-false : (b : Bool) → b && false ≡ false
-and-false true = refl
-and-false false = refl
 
 -- ---- the ceiling: a table that is read out has no part in it
 

@@ -10,20 +10,15 @@ use Rattle.rules.specs.declared.Pair.{Pair}
 use Rattle.rules.specs.declared.Query.{Query}
 use Rattle.rules.specs.declared.Session.{Session}
 use Rattle.rules.specs.declared.Answer.{Answer}
-use Rattle.rules.specs.declared.Answer.the-variants.{Refused, Opened, Read, Settled, Given, NotYet, Finished}
 use Rattle.rules.specs.Tables.{natOf, row, squaredDistance}
-use Rattle.rules.specs.Numbers.{tableSize, cutFile, badColumn, unless, first}
+use Rattle.rules.specs.Numbers.{tableSize, cutFile, badColumn, unless, first, said, saidOf, refusal}
 use Rattle.rules.specs.Calls.{openCode, openCall, readCall, takeCall}
-use Rattle.rules.specs.File.{blank, lineFeed, columns, columnFits, columnNumber, endsLine, fileCount, fileTable, checkFile, loadedCode}
+use Rattle.rules.specs.File.{blank, lineFeed, columns, columnFits, columnNumber, endsLine, fileCount, fileTable, checkFile}
+use Rattle.lists.specs.Lists.{all}
 
+-- the answer that a block was read
 abbrev pub wasRead : Answer → Bool
-wasRead (Refused n) = false
-wasRead Opened = false
-wasRead Read = true
-wasRead Settled = false
-wasRead (Given p) = false
-wasRead NotYet = false
-wasRead Finished = false
+wasRead a = said a .accepted && eqb (said a .number) 0
 
 -- "It .. reads until settled": at most n reads
 unfoldable pub readUntilSettled : ℕ → List ℤ → List ℤ → Session → Session
@@ -32,15 +27,16 @@ readUntilSettled (suc n) f t s =
     let r = readCall f t s in
     elim (wasRead (r .answer)) [ true ↦ readUntilSettled n f t (r .session) | false ↦ s ]
 
+-- the pair of these values
+abbrev pub pairsIn : List ℕ → List Pair
+pairsIn [] = []
+pairsIn (a ∷ []) = []
+pairsIn (a ∷ b ∷ []) = []
+pairsIn (a ∷ b ∷ c ∷ l) = record { sum = a; field = b; trim = c } ∷ []
+
 -- the pair that an answer brings out
 abbrev pub given : Answer → List Pair
-given (Refused n) = []
-given Opened = []
-given Read = []
-given Settled = []
-given (Given p) = p ∷ []
-given NotYet = []
-given Finished = []
+given a = pairsIn (said a .values)
 
 abbrev pub wasGiven : Answer → Bool
 wasGiven a = ltb 0 (length (given a))
@@ -75,7 +71,8 @@ pairLine f t rank p =
     let y = row t (p .trim - 1) in
     decimal 6 rank
     ++ (decimal 6 (p .sum)
-    ++ (decimal 6 (x .pattern) ++ (decimal 6 (y .pattern) ++ (decimal 12 (squaredDistance (x .shade) (y .shade)) ++ (lineFeed ∷ [])))))
+    ++ (decimal 6 (x .pattern)
+    ++ (decimal 6 (y .pattern) ++ (decimal 12 (squaredDistance (x .shade) (y .shade)) ++ (lineFeed ∷ [])))))
 
 -- the lines of a list whose first pair has this rank
 unfoldable pub pairLines : List ℤ → List ℤ → ℕ → List Pair → List ℕ
@@ -95,18 +92,32 @@ lastLine s =
 unfoldable pub listing : Query → List ℤ → List ℤ → List ℕ
 listing q f t = queryLine q ++ (pairLines f t 1 (list q f t) ++ lastLine (settledSession q f t))
 
--- "A file above 13,837 bytes is 4 before any other check of it"
+-- "A file above 13,837 bytes": 512 rows
+abbrev pub mostFileBytes : ℕ
+mostFileBytes = 13837
+
+-- it "is 4 before any other check of it"
 unfoldable pub programFileCode : List ℕ → ℤ → ℕ
-programFileCode bytes kind = first (unless (leb (length bytes) 13837) tableSize) (loadedCode (checkFile bytes kind))
+programFileCode bytes kind =
+    first (unless (leb (length bytes) mostFileBytes) tableSize ∷ refusal (saidOf (checkFile bytes kind)) ∷ [])
+
+-- "k, block, radius, six columns each, then LF"
+abbrev pub inputLength : ℕ
+inputLength = 19
+
+-- whether its columns and LF are formed as they must be
+abbrev pub inputFits : List ℕ → Bool
+inputFits input =
+    all
+    (columnFits false (columns input 0 6)
+    ∷ columnFits false (columns input 6 6)
+    ∷ columnFits false (columns input 12 6)
+    ∷ endsLine input 18
+    ∷ [])
 
 -- "input other than 19 bytes is 8, a bad column or LF in it 9"
 unfoldable pub inputCode : List ℕ → ℕ
-inputCode input =
-    first (unless (eqb (length input) 19) cutFile)
-    (unless
-    (columnFits false (columns input 0 6)
-    && (columnFits false (columns input 6 6) && (columnFits false (columns input 12 6) && endsLine input 18)))
-    badColumn)
+inputCode input = first (unless (eqb (length input) inputLength) cutFile ∷ unless (inputFits input) badColumn ∷ [])
 
 unfoldable pub inputQuery : List ℕ → Query
 inputQuery input =
@@ -127,9 +138,12 @@ refusalLine code = decimal 6 code ++ (lineFeed ∷ [])
 -- "It checks the field file, the trim file, the input, then opens"
 unfoldable pub wholeQueryCode : List ℕ → List ℕ → List ℕ → ℕ
 wholeQueryCode field trim input =
-    first (programFileCode field (pos 1))
-    (first (programFileCode trim (pos 2))
-    (first (inputCode input) (openCode (inputQuery input) (tableOf field) (tableOf trim))))
+    first
+    (programFileCode field (pos 1)
+    ∷ programFileCode trim (pos 2)
+    ∷ inputCode input
+    ∷ openCode (inputQuery input) (tableOf field) (tableOf trim)
+    ∷ [])
 
 -- what the pairing program prints
 unfoldable pub wholeQuery : List ℕ → List ℕ → List ℕ → List ℕ

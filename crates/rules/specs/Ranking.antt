@@ -6,6 +6,7 @@ use Prim.Native.Nat.{ℕ, _<_}
 use native.Mathlib.Omega.{arith}
 use lib.Dec.{T, eqb, ltb}
 use borrow.Author.Tests.{eqb-true, ltb-true, lt-ltb, eq-eqb}
+use Rattle.lists.specs.Bools.{and-out, or-out, or-in-right}
 use Rattle.lists.specs.Words.{Strict}
 use Rattle.rules.specs.declared.Pair.{Pair}
 use Rattle.rules.specs.Tables.{ahead}
@@ -16,41 +17,29 @@ Before p q =
     (q .sum < p .sum)
     ⊎ ((p .sum ≡ q .sum) × ((p .field < q .field) ⊎ ((p .field ≡ q .field) × (p .trim < q .trim))))
 
-or-cases : (a b : Bool) → a || b ≡ true → (a ≡ true) ⊎ (b ≡ true)
-or-cases true b h = inl refl
-or-cases false b h = inr h
-
-and-both : (a b : Bool) → a && b ≡ true → (a ≡ true) × (b ≡ true)
-and-both true b h = (refl, h)
-and-both false b h = absurd (subst T (sym h) tt)
-
-or-right : (a b : Bool) → b ≡ true → a || b ≡ true
-or-right true b h = refl
-or-right false b h = h
-
 pub ahead-before : (p q : Pair) → ahead p q ≡ true → Before p q
 unfolding ahead Before
 ahead-before p q h =
     ⊎-elim (λ a. inl (ltb-true _ _ a))
     (λ b.
-    let s = and-both (eqb (p .sum) (q .sum)) _ b in
+    let s = and-out (eqb (p .sum) (q .sum)) _ b in
     inr (
       eqb-true _ _ (s .0),
       ⊎-elim (λ a. inl (ltb-true _ _ a))
-          (λ e. let g = and-both (eqb (p .field) (q .field)) _ e in inr (eqb-true _ _ (g .0), ltb-true _ _ (g .1)))
-          (or-cases (ltb (p .field) (q .field)) _ (s .1)),
+          (λ e. let g = and-out (eqb (p .field) (q .field)) _ e in inr (eqb-true _ _ (g .0), ltb-true _ _ (g .1)))
+          (or-out (ltb (p .field) (q .field)) _ (s .1)),
     ))
-    (or-cases (ltb (q .sum) (p .sum)) _ h)
+    (or-out (ltb (q .sum) (p .sum)) _ h)
 
 pub before-ahead : (p q : Pair) → Before p q → ahead p q ≡ true
 unfolding ahead Before
 before-ahead p q w =
     ⊎-elim (λ a. rw (lt-ltb (q .sum) (p .sum) a))
     (λ s.
-    or-right (ltb (q .sum) (p .sum)) _
+    or-in-right (ltb (q .sum) (p .sum)) _
     (rw (eq-eqb (p .sum) (q .sum) (s .0))
     (⊎-elim (λ a. rw (lt-ltb (p .field) (q .field) a))
-    (λ g. or-right (ltb (p .field) (q .field)) _ (rw (eq-eqb (p .field) (q .field) (g .0)) (lt-ltb (p .trim) (q .trim) (g .1))))
+    (λ g. or-in-right (ltb (p .field) (q .field)) _ (rw (eq-eqb (p .field) (q .field) (g .0)) (lt-ltb (p .trim) (q .trim) (g .1))))
     (s .1))))
     w
 

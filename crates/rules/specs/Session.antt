@@ -16,9 +16,13 @@ use Rattle.rules.specs.Tables.{row}
 abbrev pub noPair : Pair
 noPair = record { sum = 0; field = 0; trim = 0 }
 
--- the 64 pair places with these pairs in front: "those beyond the held pairs are zeros"
+-- "Of its 64 pair places"
+abbrev pub placeCount : ℕ
+placeCount = 64
+
+-- the pair places with these pairs in front: "those beyond the held pairs are zeros"
 unfoldable pub places : List Pair → List Pair
-places l = l ++ replicate (64 - length l) noPair
+places l = l ++ replicate (placeCount - length l) noPair
 
 -- "Opening gives a record with nothing read": of a query and the tables' row counts
 unfoldable pub opened : Query → FieldRows → TrimRows → Session

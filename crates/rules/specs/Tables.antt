@@ -34,9 +34,13 @@ rowInRange t i = inRange (num t i 0) (num t i 1) (num t i 2) (num t i 3)
 unfoldable pub rowInOrder : List ℤ → ℕ → Bool
 rowInOrder t i = eqb i 0 || leZ (num t i 1) (num t (i - 1) 1)
 
--- "A table has 0 to 65,535 rows", four numbers to each
+-- "A table has 0 to 65,535 rows"
+abbrev pub mostRows : ℕ
+mostRows = 65535
+
+-- and four numbers to each
 unfoldable pub sizeFits : List ℤ → Bool
-sizeFits t = eqb (length t % 4) 0 && leb (rowCount t) 65535
+sizeFits t = eqb (length t % 4) 0 && leb (rowCount t) mostRows
 
 -- "It is legal if every row keeps these ranges and no score exceeds the one before it."
 unfoldable pub legal : List ℤ → Bool
@@ -102,5 +106,7 @@ pairAt x y i j =
 unfoldable pub qualifying : ℕ → Block → Block → List Pair
 qualifying radius x y =
     each
-    (λ i. map (pairAt x y i) (keep (λ j. qualifies radius (row (x .rows) i .shade) (row (y .rows) j .shade)) (range 0 (rowCount (y .rows)))))
+    (λ i.
+    map (pairAt x y i)
+    (keep (λ j. qualifies radius (row (x .rows) i .shade) (row (y .rows) j .shade)) (range 0 (rowCount (y .rows)))))
     (range 0 (rowCount (x .rows)))

@@ -1,6 +1,48 @@
 // The values that document 01 speaks of: query, pair, record, answers. No code.
 // What they mean stands in specs/, in document 01's order.
 
+// The numbers of document 01's table of refusals; 0 is no refusal.
+pub const LIST_LENGTH: u32 = 1;
+
+pub const BLOCK_SIZE: u32 = 2;
+
+pub const RADIUS_RANGE: u32 = 3;
+
+pub const TABLE_SIZE: u32 = 4;
+
+pub const BAD_RECORD: u32 = 5;
+
+pub const ROW_LIMIT: u32 = 6;
+
+pub const ROW_ORDER: u32 = 7;
+
+pub const CUT_FILE: u32 = 8;
+
+pub const BAD_COLUMN: u32 = 9;
+
+pub const WRONG_KIND: u32 = 10;
+
+pub const SHORT_SLICE: u32 = 11;
+
+// The largest list length: so many pair places has a record.
+pub const PLACES: usize = 64;
+
+// The rows of the longest table.
+pub const MOST_ROWS: u32 = 65535;
+
+// The largest sum of two scores.
+pub const MOST_SUM: u32 = 19998;
+
+// The bytes of a strict file's header, and of each of its rows.
+pub const HEADER_BYTES: usize = 13;
+
+pub const ROW_BYTES: usize = 27;
+
+// The bytes of the program's longest file, and of its input.
+pub const MOST_FILE_BYTES: usize = 13837;
+
+pub const INPUT_LENGTH: usize = 19;
+
 // A place in the colour plane: hundredths of a* and b*.
 pub struct Shade {
     pub a: i32,
@@ -46,7 +88,7 @@ pub struct Session {
     pub out: u32,
     // Pairs held: so many of the 64 places, from the front.
     pub held: u32,
-    pub pairs: [Pair; 64],
+    pub pairs: [Pair; PLACES],
     // Block pairs joined.
     pub joined: u64,
 }

@@ -9,7 +9,7 @@ use denote.Enum.Declared.{tagOf}
 use types.Run.{OneOf}
 use borrow.Author.Tests.{eqb-false, not-true}
 use Rattle.lists.specs.Lists.{every}
-use Rattle.lists.specs.Bools.{both-true}
+use Rattle.lists.specs.Bools.{and-out}
 use Rattle.rules.proofs.Answer.{the-type}
 use Rattle.rules.specs.declared.Answer.{Answer}
 use Rattle.rules.specs.declared.Answer.the-variants.{Refused, Opened, Read, Settled, Given, NotYet, Finished}
@@ -19,9 +19,9 @@ use Rattle.rules.specs.Query.{wasRead, wasGiven}
 no-key : (x : ℕ) (ks : List ℕ) → every (λ k. not (eqb x k)) ks ≡ true → OneOf ks x → ⊥
 unfolding every
 no-key x [] e h = h
-no-key x (k ∷ []) e h = eqb-false x k (not-true (eqb x k) (both-true (not (eqb x k)) true e .0)) h
-no-key x (k ∷ j ∷ ks) e (inl h) = eqb-false x k (not-true (eqb x k) (both-true (not (eqb x k)) (every (λ k. not (eqb x k)) (j ∷ ks)) e .0)) h
-no-key x (k ∷ j ∷ ks) e (inr h) = no-key x (j ∷ ks) (both-true (not (eqb x k)) (every (λ k. not (eqb x k)) (j ∷ ks)) e .1) h
+no-key x (k ∷ []) e h = eqb-false x k (not-true (eqb x k) (and-out (not (eqb x k)) true e .0)) h
+no-key x (k ∷ j ∷ ks) e (inl h) = eqb-false x k (not-true (eqb x k) (and-out (not (eqb x k)) (every (λ k. not (eqb x k)) (j ∷ ks)) e .0)) h
+no-key x (k ∷ j ∷ ks) e (inr h) = no-key x (j ∷ ks) (and-out (not (eqb x k)) (every (λ k. not (eqb x k)) (j ∷ ks)) e .1) h
 
 pub not-read : (a : Answer) → OneOf (0 ∷ 1 ∷ 3 ∷ 4 ∷ 5 ∷ 6 ∷ []) (tagOf the-type a) → wasRead a ≡ false
 unfolding every

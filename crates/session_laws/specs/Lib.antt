@@ -1,4 +1,3 @@
-pub mod Bools
 pub mod Record
 pub mod Sizes
 pub mod Read

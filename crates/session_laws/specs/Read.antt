@@ -11,7 +11,7 @@ use Rattle.rules.specs.declared.Session.{Session}
 use Rattle.rules.specs.declared.Pair.{Pair}
 use Rattle.lists.specs.Lists.{every}
 use Rattle.rules.specs.Tables.{Block, qualifying}
-use Rattle.session_laws.specs.Bools.{or-left, or-right}
+use Rattle.lists.specs.Bools.{or-none-out}
 use Rattle.session_laws.specs.Record.{Fits}
 use Rattle.rules.specs.Session.{fieldReadOut, trimReadOut, bothReadOut, aTableIsEmpty, heldPairs, secured, settled}
 use Rattle.rules.specs.Read.{blockAt, fieldNext, scoreDrop, newDepth, bestHeld, holding, meet, skipped, meetBlocks, readTo, readTable, readBlock}
@@ -78,11 +78,12 @@ unfolding settled
 unsettled f t s h =
     let last = eqb (s .out + s .held) (s .query .k) && every (secured f t s) (heldPairs s) in
     let rest = eqb (s .out) (s .query .k) || last in
-    let after = or-right (aTableIsEmpty s) (bothReadOut s || rest) h in
+    let a = or-none-out (aTableIsEmpty s) (bothReadOut s || rest) h in
+    let b = or-none-out (bothReadOut s) rest (a .1) in
     record {
-      no-table-empty = or-left (aTableIsEmpty s) (bothReadOut s || rest) h;
-      not-both-out = or-left (bothReadOut s) rest after;
-      not-all-out = or-left (eqb (s .out) (s .query .k)) last (or-right (bothReadOut s) rest after);
+      no-table-empty = a .0;
+      not-both-out = b .0;
+      not-all-out = or-none-out (eqb (s .out) (s .query .k)) last (b .1) .0;
     }
 
 -- ---- The table that is read next is not read out
@@ -110,8 +111,8 @@ chosen-unread f t s h k =
     (cond (ltb (scoreDrop f (s .depth .field .0)) (scoreDrop t (s .depth .trim .0))) true
     (cond (ltb (scoreDrop t (s .depth .trim .0)) (scoreDrop f (s .depth .field .0))) false
     (leb (s .depth .field .0) (s .depth .trim .0))))
-    (not-out (s .depth .field .0) (s .rows .field .0) (or-left (eqb (s .rows .field .0) 0) (eqb (s .rows .trim .0) 0) h))
-    (not-out (s .depth .trim .0) (s .rows .trim .0) (or-right (eqb (s .rows .field .0) 0) (eqb (s .rows .trim .0) 0) h))
+    (not-out (s .depth .field .0) (s .rows .field .0) (or-none-out (eqb (s .rows .field .0) 0) (eqb (s .rows .trim .0) 0) h .0))
+    (not-out (s .depth .trim .0) (s .rows .trim .0) (or-none-out (eqb (s .rows .field .0) 0) (eqb (s .rows .trim .0) 0) h .1))
     k
 
 -- ---- A read raises a depth

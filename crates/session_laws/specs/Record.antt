@@ -18,7 +18,7 @@ use Rattle.rules.specs.Session.{noPair, heldPairs}
 use Rattle.rules.specs.Read.{blockCount}
 use Rattle.rules.specs.Numbers.{first, unless, listLength, blockSize, radiusRange, badRecord}
 use Rattle.rules.specs.Calls.{between, queryCode, countsFit, pairFits, markFits, isZeros, recordFits, recordCode, lentCode, callCode}
-use Rattle.session_laws.specs.Bools.{and-left, and-right, first-none, unless-passed}
+use Rattle.lists.specs.Bools.{and-left, and-right, first-none, unless-passed}
 
 -- what 5 says of a table's counts
 pub record CountsFit (rows depth : ℕ) : Type 0 where

@@ -14,7 +14,7 @@ use Rattle.rules.specs.Tables.{sizeFits, rowCount}
 use Rattle.rules.specs.Numbers.{first, tableSize, badRecord}
 use Rattle.rules.specs.Calls.{queryCode, sizeCode, sameSizeCode, openCode, recordFits, recordCode, lentCode, callCode}
 use Rattle.session_laws.specs.Record.{Fits, record-fits}
-use Rattle.session_laws.specs.Bools.{and-left, and-right, first-none, unless-passed}
+use Rattle.lists.specs.Bools.{and-left, and-right, first-none, unless-passed}
 
 pub record Sized (t : List ℤ) : Type 0 where
   pub few : rowCount t ≤ 65535

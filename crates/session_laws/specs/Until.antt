@@ -19,7 +19,7 @@ use Rattle.rules.specs.Read.{readBlock}
 use Rattle.rules.specs.Take.{firstHeld, givesPair, movedOut, finished}
 use Rattle.rules.specs.Calls.{step, openCode, callCode, newBlockCode, openCall, readCall, takeCall}
 use Rattle.rules.specs.Query.{wasRead, given, wasGiven, readUntilSettled, takeUntilFinished, settledSession, list}
-use Rattle.session_laws.specs.Bools.{of-true, and-left}
+use Rattle.lists.specs.Bools.{of-true, and-left}
 use Rattle.session_laws.specs.Record.{call-fits, record-fits}
 use Rattle.session_laws.specs.Read.{unreadRows, read-raises, read-keeps-query}
 

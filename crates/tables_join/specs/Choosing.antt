@@ -9,7 +9,7 @@ use lib.Dec.{leb, ltb, eqb}
 use lib.IntN.{ℤ}
 use lib.ListN.{length}
 use borrow.Author.Tests.{leb-true, leb-false, lt-leb, ltb-true, ltb-false, eqb-true, eqb-false}
-use Rattle.lists.specs.Bools.{clash, none-true}
+use Rattle.lists.specs.Bools.{clash, or-none-out}
 use Rattle.join.specs.Join.{Chosen, dropAt}
 use Rattle.join.specs.Limit.{row-limit, row-limit-trim}
 use Rattle.rules.specs.declared.FieldRows.{FieldRows}
@@ -112,13 +112,13 @@ module _ {q : Query} {f t : List ℤ} {out : List Pair} {s : Session} (a : Reach
   live : leb (length (rowsOf f)) 0 ≡ false
   live =
       lt-leb (length (rowsOf f)) 0
-      (let z = eqb-false (s .rows .field .0) 0 (none-true (eqb (s .rows .field .0) 0) (eqb (s .rows .trim .0) 0) (unsettled f t s u .no-table-empty) .0) in
+      (let z = eqb-false (s .rows .field .0) 0 (or-none-out (eqb (s .rows .field .0) 0) (eqb (s .rows .trim .0) 0) (unsettled f t s u .no-table-empty) .0) in
       omega (arith, length-rows f, a .field-rows))
 
   live-trim : leb (length (rowsOf t)) 0 ≡ false
   live-trim =
       lt-leb (length (rowsOf t)) 0
-      (let z = eqb-false (s .rows .trim .0) 0 (none-true (eqb (s .rows .field .0) 0) (eqb (s .rows .trim .0) 0) (unsettled f t s u .no-table-empty) .1) in
+      (let z = eqb-false (s .rows .trim .0) 0 (or-none-out (eqb (s .rows .field .0) 0) (eqb (s .rows .trim .0) 0) (unsettled f t s u .no-table-empty) .1) in
       omega (arith, length-rows t, a .trim-rows))
 
   unended : (side .ended (rowsOf f) (s .depth .field .0) && side .ended (rowsOf t) (s .depth .trim .0)) ≡ false

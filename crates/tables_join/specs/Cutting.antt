@@ -11,7 +11,7 @@ use lib.ListN.{length, take, drop}
 use lib.Seq.{take-take, length-take-le}
 use borrow.Author.Tests.{leb-true, eqb-true}
 use Rattle.lists.specs.Lists.{every, ranked}
-use Rattle.lists.specs.Bools.{both-true}
+use Rattle.lists.specs.Bools.{and-out}
 use Rattle.rules.specs.declared.Query.{Query}
 use Rattle.rules.specs.declared.Session.{Session}
 use Rattle.rules.specs.Tables.{rowCount, rowInRange, rowInOrder, sizeFits, legal, ahead}
@@ -61,21 +61,21 @@ module _ (t : List ℤ) (n : ℕ) (fits : n ≤ rowCount t) where
 counts-parts : (size rows d : ℕ) → countsFit size rows d ≡ true → (rows ≤ 65535) × (d ≤ rows)
 unfolding countsFit
 counts-parts size rows d e =
-    let a = both-true (leb rows 65535) (leb d rows && (eqb (d % size) 0 || eqb d rows)) e in
-    (leb-true rows 65535 (a .0), leb-true d rows (both-true (leb d rows) (eqb (d % size) 0 || eqb d rows) (a .1) .0))
+    let a = and-out (leb rows 65535) (leb d rows && (eqb (d % size) 0 || eqb d rows)) e in
+    (leb-true rows 65535 (a .0), leb-true d rows (and-out (leb d rows) (eqb (d % size) 0 || eqb d rows) (a .1) .0))
 
 size-parts : (n : ℕ) (t : List ℤ) → sameSizeCode n t ≡ 0 → n ≡ rowCount t
 unfolding sameSizeCode
 size-parts n t e =
     sym
     (eqb-true (rowCount t) n
-    (both-true (sizeFits t) (eqb (rowCount t) n) (unless-passed (sizeFits t && eqb (rowCount t) n) tableSize (omega arith) e) .1))
+    (and-out (sizeFits t) (eqb (rowCount t) n) (unless-passed (sizeFits t && eqb (rowCount t) n) tableSize (omega arith) e) .1))
 
 query-most : (q : Query) → queryCode q ≡ 0 → q .k ≤ 64
 unfolding queryCode
 query-most q e =
     leb-true (q .k) 64
-    (both-true (leb 1 (q .k)) (leb (q .k) 64)
+    (and-out (leb 1 (q .k)) (leb (q .k) 64)
     (unless-passed (between 1 64 (q .k)) 1 (omega arith) (first-passed (unless (between 1 64 (q .k)) 1) (first (unless (between 1 1024 (q .block)) 2) (unless (leb (q .radius) 40000) 3)) e .0)) .1)
 
 pub passed : (f t : List ℤ) (s : Session) → callCode f t s ≡ 0 → Passed f t s
@@ -93,12 +93,12 @@ passed f t s e =
     let r3 : Bool = leb (s .out + s .held) (s .query .k) && r4 in
     let r2 : Bool = countsFit (s .query .block) (s .rows .trim .0) (s .depth .trim .0) && r3 in
     let r1 : Bool = countsFit (s .query .block) (s .rows .field .0) (s .depth .field .0) && r2 in
-    let p1 = both-true (eqb (queryCode (s .query)) 0) r1 (accepted-fits f t s e) in
-    let p2 = both-true (countsFit (s .query .block) (s .rows .field .0) (s .depth .field .0)) r2 (p1 .1) in
-    let p3 = both-true (countsFit (s .query .block) (s .rows .trim .0) (s .depth .trim .0)) r3 (p2 .1) in
-    let p4 = both-true (leb (s .out + s .held) (s .query .k)) r4 (p3 .1) in
-    let p5 = both-true (every (pairFits s) (heldPairs s)) r5 (p4 .1) in
-    let p6 = both-true (ranked ahead (heldPairs s)) r6 (p5 .1) in
+    let p1 = and-out (eqb (queryCode (s .query)) 0) r1 (accepted-fits f t s e) in
+    let p2 = and-out (countsFit (s .query .block) (s .rows .field .0) (s .depth .field .0)) r2 (p1 .1) in
+    let p3 = and-out (countsFit (s .query .block) (s .rows .trim .0) (s .depth .trim .0)) r3 (p2 .1) in
+    let p4 = and-out (leb (s .out + s .held) (s .query .k)) r4 (p3 .1) in
+    let p5 = and-out (every (pairFits s) (heldPairs s)) r5 (p4 .1) in
+    let p6 = and-out (ranked ahead (heldPairs s)) r6 (p5 .1) in
     let field = counts-parts (s .query .block) (s .rows .field .0) (s .depth .field .0) (p2 .0) in
     let trim = counts-parts (s .query .block) (s .rows .trim .0) (s .depth .trim .0) (p3 .0) in
     record {

@@ -10,7 +10,7 @@ use lib.ListN.{length, take, replicate}
 use lib.Seq.{take-append-seam}
 use borrow.Author.Tests.{eqb-true, ltb-true}
 use Rattle.lists.specs.Lists.{sort, ranked}
-use Rattle.lists.specs.Bools.{both-true}
+use Rattle.lists.specs.Bools.{and-out}
 use Rattle.join.specs.Held.{Holds}
 use Rattle.join.specs.HeldLaws.{skip-same, holds-join, held-ranked}
 use Rattle.rules.specs.declared.Pair.{Pair}
@@ -41,7 +41,7 @@ module _ (s : Session) (x y : Block) where
       → bestHeld s (qualifying (s .query .radius) x y) ≡ heldPairs s
   unfolding skipped bestHeld
   skipped-same w r low e =
-      let a = both-true (eqb (s .out + s .held) (s .query .k)) (ltb (firstScore (x .rows) + firstScore (y .rows)) (lowest (heldPairs s))) e in
+      let a = and-out (eqb (s .out + s .held) (s .query .k)) (ltb (firstScore (x .rows) + firstScore (y .rows)) (lowest (heldPairs s))) e in
       let full : s .out + s .held ≡ s .query .k = eqb-true (s .out + s .held) (s .query .k) (a .0) in
       let under : firstScore (x .rows) + firstScore (y .rows) < lowest (heldPairs s) =
       ltb-true (firstScore (x .rows) + firstScore (y .rows)) (lowest (heldPairs s)) (a .1) in

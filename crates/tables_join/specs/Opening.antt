@@ -7,7 +7,7 @@ use native.Mathlib.Omega.{arith}
 use lib.Dec.{eqb, leb}
 use lib.IntN.{ℤ}
 use borrow.Author.Tests.{eqb-true, leb-true}
-use Rattle.lists.specs.Bools.{both-true}
+use Rattle.lists.specs.Bools.{and-out}
 use Rattle.rules.specs.declared.Query.{Query}
 use Rattle.rules.specs.declared.Answer.the-variants.{Refused, Opened}
 use Rattle.rules.specs.Tables.{rowCount, legal}
@@ -46,7 +46,7 @@ query-wanted q e =
     let block : ℕ = unless (between 1 1024 (q .block)) 2 in
     let a = first-passed (unless (between 1 64 (q .k)) 1) (first block radius) e in
     let b = first-passed block radius (a .1) in (
-      leb-true 1 (q .k) (both-true (leb 1 (q .k)) (leb (q .k) 64) (unless-passed (between 1 64 (q .k)) 1 (omega arith) (a .0)) .0),
+      leb-true 1 (q .k) (and-out (leb 1 (q .k)) (leb (q .k) 64) (unless-passed (between 1 64 (q .k)) 1 (omega arith) (a .0)) .0),
       leb-true 1 (q .block)
-          (both-true (leb 1 (q .block)) (leb (q .block) 1024) (unless-passed (between 1 1024 (q .block)) 2 (omega arith) (b .0)) .0),
+          (and-out (leb 1 (q .block)) (leb (q .block) 1024) (unless-passed (between 1 1024 (q .block)) 2 (omega arith) (b .0)) .0),
     )

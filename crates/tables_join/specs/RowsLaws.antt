@@ -13,7 +13,7 @@ use lib.ListN.{length, getD, take}
 use lib.Seq.{ext-getD, take-nil}
 use borrow.Author.Tests.{leb-true, le-leb, eqb-true, eq-eqb, ne-eqb, le-ltb}
 use Rattle.lists.specs.Lists.{range, every}
-use Rattle.lists.specs.Bools.{clash, both-true, one-true}
+use Rattle.lists.specs.Bools.{clash, and-out, or-out}
 use Rattle.lists.specs.Parts.{mem-range, map-range-at, length-map-range, every-at, every-of}
 use Rattle.join.specs.Join.{Laws, flip}
 use Rattle.join.specs.Plain.{PlainLegal, Matches}
@@ -25,31 +25,31 @@ use Rattle.tables_join.specs.Rows.{rowsOf, blankRow, GoodRow, rows, side
 
 pub legal-size : (t : List ℤ) → legal t ≡ true → sizeFits t ≡ true
 unfolding legal
-legal-size t g = both-true (sizeFits t) (every (λ i. rowInRange t i && rowInOrder t i) (range 0 (rowCount t))) g .0
+legal-size t g = and-out (sizeFits t) (every (λ i. rowInRange t i && rowInOrder t i) (range 0 (rowCount t))) g .0
 
 pub legal-four : (t : List ℤ) → legal t ≡ true → length t ≡ 4 * rowCount t
 unfolding sizeFits
 legal-four t g =
     let e : length t % 4 ≡ 0 =
-    eqb-true (length t % 4) 0 (both-true (eqb (length t % 4) 0) (leb (rowCount t) 65535) (legal-size t g) .0) in omega arith
+    eqb-true (length t % 4) 0 (and-out (eqb (length t % 4) 0) (leb (rowCount t) 65535) (legal-size t g) .0) in omega arith
 
 pub legal-most : (t : List ℤ) → legal t ≡ true → rowCount t ≤ 65535
 unfolding sizeFits
-legal-most t g = leb-true (rowCount t) 65535 (both-true (eqb (length t % 4) 0) (leb (rowCount t) 65535) (legal-size t g) .1)
+legal-most t g = leb-true (rowCount t) 65535 (and-out (eqb (length t % 4) 0) (leb (rowCount t) 65535) (legal-size t g) .1)
 
 module _ (t : List ℤ) (g : legal t ≡ true) (i : ℕ) (h : i < rowCount t) where
   row-legal : (rowInRange t i && rowInOrder t i) ≡ true
   unfolding legal
   row-legal =
       every-at (λ i. rowInRange t i && rowInOrder t i) i
-      (both-true (sizeFits t) (every (λ i. rowInRange t i && rowInOrder t i) (range 0 (rowCount t))) g .1)
+      (and-out (sizeFits t) (every (λ i. rowInRange t i && rowInOrder t i) (range 0 (rowCount t))) g .1)
       (mem-range i 0 (rowCount t) .1 (omega arith))
 
   pub legal-range : rowInRange t i ≡ true
-  legal-range = both-true (rowInRange t i) (rowInOrder t i) row-legal .0
+  legal-range = and-out (rowInRange t i) (rowInOrder t i) row-legal .0
 
   pub legal-order : rowInOrder t i ≡ true
-  legal-order = both-true (rowInRange t i) (rowInOrder t i) row-legal .1
+  legal-order = and-out (rowInRange t i) (rowInOrder t i) row-legal .1
 
 pub legal-of : (t : List ℤ) → length t ≡ 4 * rowCount t → rowCount t ≤ 65535
     → ((i : ℕ) → i < rowCount t → (rowInRange t i ≡ true) × (rowInOrder t i ≡ true)) → legal t ≡ true
@@ -81,8 +81,8 @@ range-parts : (p s a b : ℤ) → inRange p s a b ≡ true
 unfolding inRange
 range-parts p s a b h =
     let shades : Bool = within (negsuc 12799) (pos 12700) a && within (negsuc 12799) (pos 12700) b in
-    let c = both-true (within (pos 1) (pos 999999) p) (within (pos 0) (pos 9999) s && shades) h in
-    let d = both-true (within (pos 0) (pos 9999) s) shades (c .1) in
+    let c = and-out (within (pos 1) (pos 999999) p) (within (pos 0) (pos 9999) s && shades) h in
+    let d = and-out (within (pos 0) (pos 9999) s) shades (c .1) in
     (c .0, d .0, d .1)
 
 module _ (t : List ℤ) (i : ℕ) (h : rowInRange t i ≡ true) where
@@ -105,7 +105,7 @@ unfolding rowInRange within
 score-most t g i h =
     let a : (leZ (pos 0) (num t i 1) && leZ (num t i 1) (pos 9999)) ≡ true =
     range-parts (num t i 0) (num t i 1) (num t i 2) (num t i 3) (legal-range t g i h) .1 in
-    let b : leZ (num t i 1) (pos 9999) ≡ true = both-true (leZ (pos 0) (num t i 1)) (leZ (num t i 1) (pos 9999)) a .1 in
+    let b : leZ (num t i 1) (pos 9999) ≡ true = and-out (leZ (pos 0) (num t i 1)) (leZ (num t i 1) (pos 9999)) a .1 in
     leb-true (row t i .score) 9999 (subst (λ x. leZ x (pos 9999) ≡ true) (sym (score-kept t i (legal-range t g i h))) b)
 
 -- scores fall down a legal table
@@ -114,7 +114,7 @@ unfolding rowInOrder
 score-falls t g i h =
     let a : leZ (num t (suc i) 1) (num t (suc i - 1) 1) ≡ true =
     ⊎-elim (λ e. absurd (omega (arith, eqb-true (suc i) 0 e))) (λ e. e)
-    (one-true (eqb (suc i) 0) (leZ (num t (suc i) 1) (num t (suc i - 1) 1)) (legal-order t g (suc i) h)) in
+    (or-out (eqb (suc i) 0) (leZ (num t (suc i) 1) (num t (suc i - 1) 1)) (legal-order t g (suc i) h)) in
     let b : suc i - 1 ≡ i = omega arith in
     let c : leZ (num t (suc i) 1) (num t i 1) ≡ true = subst (λ j. leZ (num t (suc i) 1) (num t j 1) ≡ true) b a in
     leb-true (row t (suc i) .score) (row t i .score)

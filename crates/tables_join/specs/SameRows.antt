@@ -11,7 +11,7 @@ use lib.ListN.{getD, take, drop}
 use lib.Seq.{getD-take, take-take, take-nil}
 use borrow.Author.Tests.{eqb-false}
 use Rattle.lists.specs.Lists.{every}
-use Rattle.lists.specs.Bools.{none-true}
+use Rattle.lists.specs.Bools.{or-none-out}
 use Rattle.lists.specs.Parts.{every-same}
 use Rattle.rules.specs.declared.Pair.{Pair}
 use Rattle.rules.specs.declared.Session.{Session}
@@ -87,10 +87,10 @@ module _ (f t f′ t′ : List ℤ) (s : Session) (ef : SameRows (s .depth .fiel
     same-ceiling = rw (first-field, last-field, first-trim, last-trim)
 
   some-field : aDepthIsZero s ≡ false → 1 ≤ d
-  some-field z = let k = eqb-false d 0 (none-true (eqb d 0) (eqb e 0) z .0) in omega arith
+  some-field z = let k = eqb-false d 0 (or-none-out (eqb d 0) (eqb e 0) z .0) in omega arith
 
   some-trim : aDepthIsZero s ≡ false → 1 ≤ e
-  some-trim z = let k = eqb-false e 0 (none-true (eqb d 0) (eqb e 0) z .1) in omega arith
+  some-trim z = let k = eqb-false e 0 (or-none-out (eqb d 0) (eqb e 0) z .1) in omega arith
 
   pub same-secured : aTableIsEmpty s ≡ false → (p : Pair) → secured f′ t′ s p ≡ secured f t s p
   unfolding secured

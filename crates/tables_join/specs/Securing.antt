@@ -11,7 +11,7 @@ use lib.IntN.{ℤ}
 use lib.ListN.{length, take}
 use borrow.Author.Tests.{leb-true, leb-false, le-leb, lt-leb, eqb-true, eqb-false, eq-eqb, ne-eqb}
 use Rattle.lists.specs.Lists.{atLeast, every}
-use Rattle.lists.specs.Bools.{clash, none-true}
+use Rattle.lists.specs.Bools.{clash, or-none-out}
 use Rattle.lists.specs.Sorts.{all-at}
 use Rattle.lists.specs.Parts.{every-of}
 use Rattle.join.specs.Join as Join
@@ -179,8 +179,8 @@ module _ {q : Query} {f t : List ℤ} {out : List Pair} {s : Session} (a : Reach
 
           last : (eqb (s .out + s .held) (s .query .k) && every (secured f t s) (heldPairs s)) ≡ false
           last =
-              none-true (eqb (s .out) (s .query .k)) (eqb (s .out + s .held) (s .query .k) && every (secured f t s) (heldPairs s))
-              (none-true (bothReadOut s) (eqb (s .out) (s .query .k) || (eqb (s .out + s .held) (s .query .k) && every (secured f t s) (heldPairs s))) (none-true (aTableIsEmpty s) (bothReadOut s || (eqb (s .out) (s .query .k) || (eqb (s .out + s .held) (s .query .k) && every (secured f t s) (heldPairs s)))) u .1) .1) .1
+              or-none-out (eqb (s .out) (s .query .k)) (eqb (s .out + s .held) (s .query .k) && every (secured f t s) (heldPairs s))
+              (or-none-out (bothReadOut s) (eqb (s .out) (s .query .k) || (eqb (s .out + s .held) (s .query .k) && every (secured f t s) (heldPairs s))) (or-none-out (aTableIsEmpty s) (bothReadOut s || (eqb (s .out) (s .query .k) || (eqb (s .out + s .held) (s .query .k) && every (secured f t s) (heldPairs s)))) u .1) .1) .1
 
           go : (b : Bool) → leb (s .query .k) (atLeast (ceiling f t s) sums) ≡ b → atLeast (ceiling f t s) sums < s .query .k
           go true z =

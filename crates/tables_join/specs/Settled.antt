@@ -8,7 +8,7 @@ use lib.Dec.{eqb, ltb}
 use lib.IntN.{ℤ}
 use borrow.Author.Tests.{eqb-true, eqb-false, eq-eqb, ltb-true, ltb-false}
 use Rattle.lists.specs.Lists.{every}
-use Rattle.lists.specs.Bools.{clash, both-true, none-true}
+use Rattle.lists.specs.Bools.{clash, and-out, or-none-out}
 use Rattle.lists.specs.Parts.{every-at, every-same}
 use Rattle.join.specs.HeldLaws.{held-room}
 use Rattle.rules.specs.declared.Pair.{Pair}
@@ -24,8 +24,8 @@ use Rattle.tables_join.specs.Taking.{first-mem, moved-every}
 read-out-secured : (f t : List ℤ) (s : Session) (p : Pair) → aTableIsEmpty s ≡ false → bothReadOut s ≡ true → secured f t s p ≡ true
 unfolding secured
 read-out-secured f t s p e b =
-    let rows = none-true (eqb (s .rows .field .0) 0) (eqb (s .rows .trim .0) 0) e in
-    let ends = both-true (eqb (s .depth .field .0) (s .rows .field .0)) (eqb (s .depth .trim .0) (s .rows .trim .0)) b in
+    let rows = or-none-out (eqb (s .rows .field .0) 0) (eqb (s .rows .trim .0) 0) e in
+    let ends = and-out (eqb (s .depth .field .0) (s .rows .field .0)) (eqb (s .depth .trim .0) (s .rows .trim .0)) b in
     rw (
       eqb-true (s .depth .field .0) (s .rows .field .0) (ends .0),
       eqb-true (s .depth .trim .0) (s .rows .trim .0) (ends .1),
@@ -47,7 +47,7 @@ settled-take {q} {f} {t} {out} {s} a e n =
 
     full-parts : full ≡ true → (s .out + s .held ≡ s .query .k) × (every (secured f t s) (heldPairs s) ≡ true)
     full-parts w =
-        let b = both-true (eqb (s .out + s .held) (s .query .k)) (every (secured f t s) (heldPairs s)) w in
+        let b = and-out (eqb (s .out + s .held) (s .query .k)) (every (secured f t s) (heldPairs s)) w in
         (eqb-true (s .out + s .held) (s .query .k) (b .0), b .1)
 
     go : (k e b h : Bool) → eqb (s .out) (s .query .k) ≡ k → aTableIsEmpty s ≡ e → bothReadOut s ≡ b → ltb 0 (s .held) ≡ h
@@ -75,7 +75,7 @@ settled-moves {q} {f} {t} {out} {s} a some e = go (aTableIsEmpty s) (bothReadOut
 
     still-full : full ≡ true → left ≡ true
     still-full w =
-        let b = both-true (eqb (s .out + s .held) (s .query .k)) (every (secured f t s) (heldPairs s)) w in
+        let b = and-out (eqb (s .out + s .held) (s .query .k)) (every (secured f t s) (heldPairs s)) w in
         let k : s .out + s .held ≡ s .query .k = eqb-true (s .out + s .held) (s .query .k) (b .0) in
         rw (eq-eqb (s .out + 1 + (s .held - 1)) (s .query .k) (omega arith))
         (every-same (secured f t (movedOut s)) (secured f t s) (heldPairs (movedOut s)) (λ p m. unfold secured ceiling in refl)

@@ -10,7 +10,7 @@ use lib.IntN.{ℤ}
 use lib.ListN.{length, getD, take, drop, length-append, length-take}
 use lib.Seq.{take-append-le}
 use borrow.Author.Tests.{eqb-true, ltb-true}
-use Rattle.lists.specs.Bools.{both-true, one-true}
+use Rattle.lists.specs.Bools.{and-out, or-out}
 use Rattle.lists.specs.Lists.{every}
 use Rattle.join.specs.Held.{Holds}
 use Rattle.join.specs.HeldLaws.{holds-out, first-highest, held-inside, held-new, none-held}
@@ -27,11 +27,11 @@ use Rattle.tables_join.specs.Keeping.{Reached}
 -- a pair is given while one is held, and secured
 pub gives-some : (f t : List ℤ) (s : Session) → givesPair f t s ≡ true → 1 ≤ s .held
 unfolding givesPair
-gives-some f t s e = ltb-true 0 (s .held) (both-true (ltb 0 (s .held)) (secured f t s (firstHeld s)) e .0)
+gives-some f t s e = ltb-true 0 (s .held) (and-out (ltb 0 (s .held)) (secured f t s (firstHeld s)) e .0)
 
 pub gives-secured : (f t : List ℤ) (s : Session) → givesPair f t s ≡ true → secured f t s (firstHeld s) ≡ true
 unfolding givesPair
-gives-secured f t s e = both-true (ltb 0 (s .held)) (secured f t s (firstHeld s)) e .1
+gives-secured f t s e = and-out (ltb 0 (s .held)) (secured f t s (firstHeld s)) e .1
 
 -- the first of n places, and the n - 1 after it when they move up
 places-first : (n : ℕ) (l : List Pair) → length (take n l) ≡ n → 1 ≤ n
@@ -61,7 +61,7 @@ module _ {q : Query} {f t : List ℤ} {out : List Pair} {s : Session} (a : Reach
     pub moved-every : (test : Pair → Bool) → every test (heldPairs s) ≡ true → every test (heldPairs (movedOut s)) ≡ true
     unfolding every
     moved-every test e =
-        let b = both-true (test (firstHeld s)) (every test (first-held .0)) (subst (λ l. every test l ≡ true) (first-held .1) e) in
+        let b = and-out (test (firstHeld s)) (every test (first-held .0)) (subst (λ l. every test l ≡ true) (first-held .1) e) in
         subst (λ l. every test l ≡ true) (sym (first-held .2)) (b .1)
 
     -- it is a pair of the region
@@ -103,7 +103,7 @@ module _ {q : Query} {f t : List ℤ} {out : List Pair} {s : Session} (a : Reach
 
   pub read-out : bothReadOut s ≡ true → (s .depth .field .0 ≡ rowCount f) × (s .depth .trim .0 ≡ rowCount t)
   read-out e =
-      let b = both-true (fieldReadOut s) (trimReadOut s) e in (
+      let b = and-out (fieldReadOut s) (trimReadOut s) e in (
         eqb-true (s .depth .field .0) (s .rows .field .0) (b .0) ∙ a .field-rows,
         eqb-true (s .depth .trim .0) (s .rows .trim .0) (b .1) ∙ a .trim-rows,
       )
@@ -116,15 +116,15 @@ module _ {q : Query} {f t : List ℤ} {out : List Pair} {s : Session} (a : Reach
   empty-none e p h =
       ⊎-elim (λ z. omega (arith, eqb-true (s .rows .field .0) 0 z, a .field-rows, h .field-row))
       (λ z. omega (arith, eqb-true (s .rows .trim .0) 0 z, a .trim-rows, h .trim-row))
-      (one-true (eqb (s .rows .field .0) 0) (eqb (s .rows .trim .0) 0) e)
+      (or-out (eqb (s .rows .field .0) 0) (eqb (s .rows .trim .0) 0) e)
 
   pub finished-complete : finished s ≡ true → (length out ≡ q .k) ⊎ ((p : Pair) → Fits (q .radius) f t p → List·Memᴰ p out)
   unfolding finished
   finished-complete e =
       ⊎-elim (λ z. inl (sym (a .keeping .counted) ∙ eqb-true (s .out) (s .query .k) z ∙ wanted))
-      (λ z. ⊎-elim (λ n. inr (λ p h. absurd (empty-none n p h))) (λ n. none (both-true (bothReadOut s) (eqb (s .held) 0) n))
-      (one-true (aTableIsEmpty s) (bothReadOut s && eqb (s .held) 0) z))
-      (one-true (eqb (s .out) (s .query .k)) (aTableIsEmpty s || (bothReadOut s && eqb (s .held) 0)) e)
+      (λ z. ⊎-elim (λ n. inr (λ p h. absurd (empty-none n p h))) (λ n. none (and-out (bothReadOut s) (eqb (s .held) 0) n))
+      (or-out (aTableIsEmpty s) (bothReadOut s && eqb (s .held) 0) z))
+      (or-out (eqb (s .out) (s .query .k)) (aTableIsEmpty s || (bothReadOut s && eqb (s .held) 0)) e)
     where
       wanted : s .query .k ≡ q .k
       wanted = ap (λ q. q .k) (a .query)

@@ -13,7 +13,7 @@ use lib.ListN.{length, drop, replicate, length-take}
 use lib.Seq.{drop-append-seam, drop-append-le}
 use borrow.Author.Tests.{eq-eqb, le-leb, lt-ltb}
 use Rattle.lists.specs.Lists.{every}
-use Rattle.lists.specs.Bools.{both-true}
+use Rattle.lists.specs.Bools.{and-out}
 use Rattle.lists.specs.Parts.{every-of}
 use Rattle.join.specs.HeldLaws.{held-inside, held-ranked, held-room}
 use Rattle.rules.specs.declared.FieldRows.{FieldRows}
@@ -65,7 +65,7 @@ product-next x x′ y j n h k l = omega (arith, suc-mul x y, mul-le-mul-right {m
 every-append : (l m : List Pair) → every isZeros l ≡ true → every isZeros m ≡ true → every isZeros (l ++ m) ≡ true
 unfolding every
 every-append [] m a b = b
-every-append (x ∷ l) m a b = let c = both-true (isZeros x) (every isZeros l) a in rw (c .0) (every-append l m (c .1) b)
+every-append (x ∷ l) m a b = let c = and-out (isZeros x) (every isZeros l) a in rw (c .0) (every-append l m (c .1) b)
 
 every-none : (n : ℕ) → every isZeros (replicate n noPair) ≡ true
 unfolding every

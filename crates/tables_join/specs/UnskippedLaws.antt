@@ -11,7 +11,7 @@ use lib.Dec.{leb}
 use lib.IntN.{ℤ}
 use lib.ListN.{length, take, length-take}
 use Rattle.lists.specs.Lists.{sort, ranked}
-use Rattle.lists.specs.Bools.{both-true}
+use Rattle.lists.specs.Bools.{and-out}
 use Rattle.lists.specs.Parts.{append-distinct, every-at}
 use Rattle.lists.specs.Members.{mem-take, mem-sort, sort-ranked, ranked-take, ranked-distinct}
 use Rattle.rules.specs.declared.Pair.{Pair}
@@ -155,10 +155,10 @@ other-cut false f t b d e x y = omega arith
 fits-own : (field : Bool) (s : Session) (p : Pair) → pairFits s p ≡ true → ownRow field p ≤ oldDepth field s
 unfolding pairFits
 fits-own field s p e =
-    let a = both-true (between 1 (s .depth .field .0) (p .field)) (between 1 (s .depth .trim .0) (p .trim) && leb (p .sum) 19998) e in
-    let b = both-true (between 1 (s .depth .trim .0) (p .trim)) (leb (p .sum) 19998) (a .1) in
-    go field (leb-true (p .field) (s .depth .field .0) (both-true (leb 1 (p .field)) (leb (p .field) (s .depth .field .0)) (a .0) .1))
-    (leb-true (p .trim) (s .depth .trim .0) (both-true (leb 1 (p .trim)) (leb (p .trim) (s .depth .trim .0)) (b .0) .1))
+    let a = and-out (between 1 (s .depth .field .0) (p .field)) (between 1 (s .depth .trim .0) (p .trim) && leb (p .sum) 19998) e in
+    let b = and-out (between 1 (s .depth .trim .0) (p .trim)) (leb (p .sum) 19998) (a .1) in
+    go field (leb-true (p .field) (s .depth .field .0) (and-out (leb 1 (p .field)) (leb (p .field) (s .depth .field .0)) (a .0) .1))
+    (leb-true (p .trim) (s .depth .trim .0) (and-out (leb 1 (p .trim)) (leb (p .trim) (s .depth .trim .0)) (b .0) .1))
   where
     go : (field : Bool) → p .field ≤ s .depth .field .0 → p .trim ≤ s .depth .trim .0 → ownRow field p ≤ oldDepth field s
     go true h k = h

@@ -19,7 +19,7 @@ use Rattle.rules.specs.Calls.{step, between, queryCode, sizeCode, openCode, sam
 use Rattle.rules.specs.Calls as Calls
 use Rattle.rules.specs.Query.{settledSession}
 use Rattle.printing.specs.Put.{putAt}
-use Rattle.session_laws.specs.Bools.{and-right, first-none, unless-passed}
+use Rattle.lists.specs.Bools.{and-right, first-none, unless-passed}
 use Rattle.whole_query.specs.Numbers.{queryOf, lentCode, askedCode, left}
 
 unless-small : (t : Bool) (n : ℕ) → n ≤ 11 → unless t n ≤ 11

@@ -1,7 +1,7 @@
 -- `both_small` meets its contract. Assumes nothing.
 use mathlib.Core.Path.{refl}
 use borrow.Author.Needs.{needs}
-use Rattle.lists.specs.Bools.{clash, both-true}
+use Rattle.lists.specs.Bools.{clash, and-out}
 use Rattle.block.proofs.both_small.Statement.{statement}
 use Rattle.block.proofs.both_small.Tie as tie
 
@@ -22,7 +22,7 @@ returns-3 c =
     let first = c .before .all-small in
     let second = c .all-small2 in
     λ h.
-    let both = both-true (first .result) (second .result) h in
+    let both = and-out (first .result) (second .result) h in
     record { within = c .before .before .if2 .left; first = first .ensures (both .0); second = second .ensures (both .1) }
 
 pub both-small-spec : {M : Type 1} → statement M

@@ -9,7 +9,7 @@ use lib.Dec.{eqb, ltb}
 use lib.ListN.{length, getD}
 use borrow.Author.Needs.{needs}
 use borrow.Author.Tests.{not-false, eqb-true}
-use Rattle.lists.specs.Bools.{both-true}
+use Rattle.lists.specs.Bools.{and-out}
 use Rattle.block.specs.Block.{at}
 use Rattle.block.proofs.Turns as Turns
 use Rattle.block.proofs.join.Statement.{statement}
@@ -103,7 +103,7 @@ loop-again c =
     rw (w .3, w .4) (w .2 .ensures .few, w .2 .ensures .long, next))
     (λ w.
     let last = getD (v .keys) ((s .args .room + 63) % 64) 0 in
-    let both = both-true (eqb (v .g) (s .args .room)) (ltb last (key .result)) (not-false _ (w .0 .left)) in
+    let both = and-out (eqb (v .g) (s .args .room)) (ltb last (key .result)) (not-false _ (w .0 .left)) in
     let behind = ap (ltb last) (sym (key .ensures)) ∙ both .1 in
     let next : Met (v .g) (v .keys) =
     Turns.fallen (s .args .radius) (s .args .room) x y n a (v .i) (v .g) (v .keys) (near .result) (p .result)

@@ -12,7 +12,7 @@ use Rattle.rules.specs.Session.{secured}
 use Rattle.rules.specs.Take.{firstHeld, givesPair}
 use Rattle.rules.specs.Query.{wasGiven}
 use Rattle.rules.specs.Calls.{recordFits, step, takeCall}
-use Rattle.session_laws.specs.Bools.{and-left}
+use Rattle.lists.specs.Bools.{and-left}
 use Rattle.checks.proofs.Looking.{Looking, look-starts, look-on, look-stops, look-ends}
 use Rattle.checks.specs.Codes.{within}
 use borrow.Author.Needs.{needs}
