@@ -1,5 +1,5 @@
--- Document 01, "Numbers for the shed": the grounds of each refusal, the order of checks, and with them the calls: opening,
--- read, take, show. Definitions only. Assumes nothing.
+-- Document 01, "Numbers for the shed": the grounds of each refusal, the order of checks, and with them the calls:
+-- opening, read, take, show. Definitions only. Assumes nothing.
 use Prim.Native.Nat.{ℕ, zero, suc, _+_, _*_, _-_, _%_}
 use mathlib.Core.Bool.{Bool, false, cond, _&&_, _||_}
 use mathlib.Core.List.{List, [], _∷_}
@@ -17,7 +17,8 @@ use Rattle.rules.specs.Tables.{mostRows, rowCount, rowInRange, rowInOrde
 use Rattle.rules.specs.Session.{opened, zeros, heldPairs, settled}
 use Rattle.rules.specs.Read.{blockCount, fieldNext, oldDepth, newDepth, readBlock}
 use Rattle.rules.specs.Take.{firstHeld, givesPair, movedOut, finished, lastBlock, shownRows}
-use Rattle.rules.specs.Numbers.{listLength, blockSize, radiusRange, tableSize, badRecord, rowLimit, rowOrder, unless, first}
+use Rattle.rules.specs.Numbers.{listLength, blockSize, radiusRange, tableSize, badRecord, rowLimit, rowOrder}
+use Rattle.rules.specs.Numbers.{unless, first}
 
 abbrev pub between : ℕ → ℕ → ℕ → Bool
 between low high n = leb low n && leb n high
@@ -48,8 +49,8 @@ unfoldable pub rowsCode : List ℤ → ℕ → ℕ → ℕ
 rowsCode t a zero = 0
 rowsCode t a (suc n) = first (rowsCode t a n ∷ rowCode t (a + n) ∷ [])
 
--- 5, table by table: "a row count exceeds 65,535, a depth exceeds its rows or is neither a multiple of the block nor all
--- rows"
+-- 5, table by table: "a row count exceeds 65,535, a depth exceeds its rows or is neither a multiple of the block nor
+-- all rows"
 unfoldable pub countsFit : ℕ → ℕ → ℕ → Bool
 countsFit block rows depth =
     leb rows mostRows && (leb depth rows && (eqb (depth % block) 0 || eqb depth rows))
@@ -132,8 +133,8 @@ readCall f t s =
     (cond (eqb (newBlockCode f t s) 0) (step Read (readBlock f t s)) (step (Refused (newBlockCode f t s)) s)))
     (step (Refused (callCode f t s)) s)
 
--- Take. "It answers the first held pair, if secured, and moves it out. "Finished" if .. Else "not yet". Only an answered
--- pair changes the record."
+-- Take. "It answers the first held pair, if secured, and moves it out. "Finished" if .. Else "not yet". Only an
+-- answered pair changes the record."
 unfoldable pub takeCall : List ℤ → List ℤ → Session → Step
 takeCall f t s =
     cond (eqb (callCode f t s) 0)

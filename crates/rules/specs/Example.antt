@@ -4,18 +4,18 @@ use Prim.Native.Char.{code}
 use Prim.Native.String.{String, len, charAt}
 use mathlib.Core.Path.{_≡_, refl, sym, ap, _∙_}
 use mathlib.Core.Bool.{Bool, true, false, cond}
-use mathlib.Core.List.{List, [], _∷_, map}
+use mathlib.Core.List.{List, [], _∷_, _++_, map}
 use lib.IntN.{ℤ, pos, negsuc}
 use lib.ListN.{getD, List·getD-map}
 use Rattle.rules.specs.declared.Shade.{Shade}
 use Rattle.rules.specs.declared.Query.{Query}
 use Rattle.rules.specs.declared.Session.{Session}
 use Rattle.rules.specs.declared.Answer.{Answer}
-use Rattle.rules.specs.declared.Answer.the-variants.{Refused, Opened, Read, Settled, Given, NotYet, Finished}
+use Rattle.rules.specs.Numbers.{said}
 use Rattle.rules.specs.Tables.{qualifies}
 use Rattle.rules.specs.Session.{ceiling}
 use Rattle.rules.specs.Calls.{openCall, readCall, takeCall}
-use Rattle.rules.specs.File.{columnFits, columnNumber}
+use Rattle.rules.specs.File.{lineFeed, columnFits, columnNumber}
 use Rattle.rules.specs.Query.{wholeQuery, settledSession, tableOf, inputQuery}
 use Rattle.rules.specs.Run.{run}
 
@@ -27,20 +27,44 @@ bytesFrom s i (suc n) = code (charAt s i) ∷ bytesFrom s (suc i) n
 abbrev pub bytes : String → List ℕ
 bytes s = bytesFrom s 0 (len s)
 
+-- lines, each ended by LF
+abbrev pub text : List String → List ℕ
+text [] = []
+text (s ∷ l) = bytes s ++ (lineFeed ∷ text l)
+
 abbrev pub fieldFile : List ℕ
 fieldFile =
-    bytes "     5     1\n   101    90      0      0\n   102    80    100      0\n   103    60      0    300\n   104    40    500    500\n   105    10      0      0\n"
+    text
+    ("     5     1"
+    ∷ "   101    90      0      0"
+    ∷ "   102    80    100      0"
+    ∷ "   103    60      0    300"
+    ∷ "   104    40    500    500"
+    ∷ "   105    10      0      0"
+    ∷ [])
 
 abbrev pub trimFile : List ℕ
 trimFile =
-    bytes "     5     2\n   201    70    400      0\n   202    50      3      4\n   203    30    100      5\n   204    20      0    300\n   205    15    500    500\n"
+    text
+    ("     5     2"
+    ∷ "   201    70    400      0"
+    ∷ "   202    50      3      4"
+    ∷ "   203    30    100      5"
+    ∷ "   204    20      0    300"
+    ∷ "   205    15    500    500"
+    ∷ [])
 
 abbrev pub input : List ℕ
 input = bytes "     2     1     5\n"
 
 abbrev pub output : List ℕ
 output =
-    bytes "     2     1     5\n     1   140   101   202          25\n     2   110   102   203          25\n     4     4          10\n"
+    text
+    ("     2     1     5"
+    ∷ "     1   140   101   202          25"
+    ∷ "     2   110   102   203          25"
+    ∷ "     4     4          10"
+    ∷ [])
 
 -- the worked query's whole output
 pub worked : wholeQuery fieldFile trimFile input ≡ output
@@ -57,28 +81,23 @@ abbrev pub query : Query
 query = inputQuery input
 
 -- the record after n reads
-pub afterReads : ℕ → Session
+unfoldable pub afterReads : ℕ → Session
 afterReads zero = openCall query fields trims .session
 afterReads (suc n) = readCall fields trims (afterReads n) .session
 
 abbrev pub shade : ℤ → ℤ → Shade
 shade a b = record { a = a; b = b }
 
--- what an entry of the table finds: whether it holds, a number, or what a take answers (rows and sum; 0 not yet, 1 finished)
+-- what an entry of the table finds: whether it holds, a number, or what a take answers (2 and the pair's sum and rows;
+-- 4 is finished)
 abbrev pub test : Bool → List ℤ
 test b = cond b (pos 1 ∷ []) (pos 0 ∷ [])
 
 abbrev pub column : Bool → List ℕ → List ℤ
 column signed l = cond (columnFits signed l) (columnNumber signed l ∷ []) []
 
-abbrev pub taken : Answer → List ℤ
-taken (Refused n) = []
-taken Opened = []
-taken Read = []
-taken Settled = []
-taken (Given p) = pos (p .field) ∷ pos (p .trim) ∷ pos (p .sum) ∷ []
-taken NotYet = pos 0 ∷ []
-taken Finished = pos 1 ∷ []
+abbrev pub told : Answer → List ℤ
+told a = pos (said a .number) ∷ map pos (said a .values)
 
 abbrev pub account : Session → List ℤ
 account s = pos (s .depth .field .0) ∷ pos (s .depth .trim .0) ∷ pos (s .joined) ∷ []
@@ -102,9 +121,9 @@ table =
     ∷ entry (column false (bytes "  0101")) []
     ∷ entry (column true (bytes "     -0")) []
     ∷ entry (pos (ceiling fields trims (afterReads 5)) ∷ []) (pos 140 ∷ [])
-    ∷ entry (taken (takeCall fields trims (afterReads 5) .answer)) (pos 1 ∷ pos 2 ∷ pos 140 ∷ [])
+    ∷ entry (told (takeCall fields trims (afterReads 5) .answer)) (pos 2 ∷ pos 140 ∷ pos 1 ∷ pos 2 ∷ [])
     ∷ entry (account (settledSession query fields trims)) (pos 4 ∷ pos 4 ∷ pos 10 ∷ [])
-    ∷ entry (taken (takeCall [] trims (openCall query [] trims .session) .answer)) (pos 1 ∷ [])
+    ∷ entry (told (takeCall [] trims (openCall query [] trims .session) .answer)) (pos 4 ∷ [])
     ∷ []
 
 -- the whole table at once, computed

@@ -9,7 +9,8 @@ use Rattle.lists.specs.Lists.{every, range, each}
 use Rattle.rules.specs.declared.Loaded.{Loaded}
 use Rattle.rules.specs.declared.Loaded.the-variants.{Rows, Unfit}
 use Rattle.rules.specs.Tables.{mostRows, natOf}
-use Rattle.rules.specs.Numbers.{tableSize, cutFile, badColumn, wrongKind, shortSlice, unless, first, saidOf, signed}
+use Rattle.rules.specs.Numbers.{tableSize, cutFile, badColumn, wrongKind, shortSlice, unless, first, saidOf}
+use Rattle.rules.specs.Numbers.{signed}
 use Rattle.rules.specs.Calls.{between, rowCode}
 
 abbrev pub blank : ℕ

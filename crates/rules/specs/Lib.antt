@@ -12,3 +12,4 @@ pub mod Ranking
 pub mod Meaning
 pub mod Run
 pub mod Example
+pub mod Small

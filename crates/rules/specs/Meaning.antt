@@ -37,24 +37,38 @@ module _ (f t : List ℤ) (s : Session) (p : 0 < s .depth .field .0) (q : 0 < s 
 
   pub smaller-drop-field : scoreDrop f d < scoreDrop t e → fieldNext f t s ≡ true
   unfolding fieldNext
-  smaller-drop-field l = simp (ne-eqb d 0 (omega arith), ne-eqb e 0 (omega arith), h, k, lt-ltb (scoreDrop f d) (scoreDrop t e) l)
+  smaller-drop-field l =
+      simp (ne-eqb d 0 (omega arith), ne-eqb e 0 (omega arith), h, k, lt-ltb (scoreDrop f d) (scoreDrop t e) l)
 
   pub smaller-drop-trim : scoreDrop t e < scoreDrop f d → fieldNext f t s ≡ false
   unfolding fieldNext
   smaller-drop-trim l =
-      simp
-      (ne-eqb d 0 (omega arith), ne-eqb e 0 (omega arith), h, k, le-ltb (scoreDrop f d) (scoreDrop t e) (omega arith), lt-ltb (scoreDrop t e) (scoreDrop f d) l)
+      simp (
+        ne-eqb d 0 (omega arith),
+        ne-eqb e 0 (omega arith),
+        h,
+        k,
+        le-ltb (scoreDrop f d) (scoreDrop t e) (omega arith),
+        lt-ltb (scoreDrop t e) (scoreDrop f d) l,
+      )
 
   -- at equal drops the one with fewer rows read, still equal the field table
   pub equal-drops : scoreDrop f d ≡ scoreDrop t e → fieldNext f t s ≡ leb d e
   unfolding fieldNext
   equal-drops l =
-      simp
-      (ne-eqb d 0 (omega arith), ne-eqb e 0 (omega arith), h, k, le-ltb (scoreDrop f d) (scoreDrop t e) (omega arith), le-ltb (scoreDrop t e) (scoreDrop f d) (omega arith))
+      simp (
+        ne-eqb d 0 (omega arith),
+        ne-eqb e 0 (omega arith),
+        h,
+        k,
+        le-ltb (scoreDrop f d) (scoreDrop t e) (omega arith),
+        le-ltb (scoreDrop t e) (scoreDrop f d) (omega arith),
+      )
 
 -- ---- a block pair whose first scores add to just the lowest held sum is joined
 
-pub joined-at-equality : (s : Session) (x y : Block) → firstScore (x .rows) + firstScore (y .rows) ≡ lowest (heldPairs s) → skipped s x y ≡ false
+pub joined-at-equality : (s : Session) (x y : Block) → firstScore (x .rows) + firstScore (y .rows)
+    ≡ lowest (heldPairs s) → skipped s x y ≡ false
 unfolding skipped
 joined-at-equality s x y h =
     simp (le-ltb (firstScore (x .rows) + firstScore (y .rows)) (lowest (heldPairs s)) (omega arith))

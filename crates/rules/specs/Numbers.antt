@@ -56,15 +56,15 @@ first [] = 0
 first (c ∷ []) = c
 first (c ∷ d ∷ l) = cond (eqb c 0) (first (d ∷ l)) c
 
--- What an answer says: whether the call was accepted; its number, which of a refusal is that of the table above; and the
--- values that go with it.
+-- What an answer says: whether the call was accepted; its number, which of a refusal is that of the table above; and
+-- the values that go with it.
 pub record Said : Type 0 where
   pub accepted : Bool
   pub number : ℕ
   pub values : List ℕ
 
--- of a session's call: accepted, the number tells which answer it is; a pair brought out goes with it, its sum, field row
--- and trim row
+-- of a session's call: accepted, the number tells which answer it is; a pair brought out goes with it, its sum, field
+-- row and trim row
 abbrev pub said : Answer → Said
 said (Refused n) = record { accepted = false; number = n; values = [] }
 said Opened = record { accepted = true; number = 0; values = [] }
@@ -74,7 +74,8 @@ said (Given p) = record { accepted = true; number = 2; values = p .sum ∷ p .fi
 said NotYet = record { accepted = true; number = 3; values = [] }
 said Finished = record { accepted = true; number = 4; values = [] }
 
--- of a file: accepted, "it answers the row count"; "Refusals 6, 7, 9 add the row number (0 for the header); others add 0"
+-- of a file: accepted, "it answers the row count"; "Refusals 6, 7, 9 add the row number (0 for the header); others add
+-- 0"
 abbrev pub saidOf : Loaded → Said
 saidOf (Rows n) = record { accepted = true; number = n; values = [] }
 saidOf (Unfit code row) = record { accepted = false; number = code; values = row ∷ [] }

@@ -13,7 +13,8 @@ use Rattle.rules.specs.declared.Answer.{Answer}
 use Rattle.rules.specs.Tables.{natOf, row, squaredDistance}
 use Rattle.rules.specs.Numbers.{tableSize, cutFile, badColumn, unless, first, said, saidOf, refusal}
 use Rattle.rules.specs.Calls.{openCode, openCall, readCall, takeCall}
-use Rattle.rules.specs.File.{blank, lineFeed, columns, columnFits, columnNumber, endsLine, fileCount, fileTable, checkFile}
+use Rattle.rules.specs.File.{blank, lineFeed, columns, columnFits, columnNumber, endsLine, fileCount, fileTable}
+use Rattle.rules.specs.File.{checkFile}
 use Rattle.lists.specs.Lists.{all}
 
 -- the answer that a block was read

@@ -39,7 +39,8 @@ before-ahead p q w =
     or-in-right (ltb (q .sum) (p .sum)) _
     (rw (eq-eqb (p .sum) (q .sum) (s .0))
     (⊎-elim (λ a. rw (lt-ltb (p .field) (q .field) a))
-    (λ g. or-in-right (ltb (p .field) (q .field)) _ (rw (eq-eqb (p .field) (q .field) (g .0)) (lt-ltb (p .trim) (q .trim) (g .1))))
+    (λ g. or-in-right (ltb (p .field) (q .field)) _
+    (rw (eq-eqb (p .field) (q .field) (g .0)) (lt-ltb (p .trim) (q .trim) (g .1))))
     (s .1))))
     w
 
@@ -50,7 +51,8 @@ not-both p q v w =
     (λ a.
     ⊎-elim (λ b. omega arith)
     (λ b.
-    ⊎-elim (λ x. ⊎-elim (λ y. omega arith) (λ y. omega arith) (b .1)) (λ x. ⊎-elim (λ y. omega arith) (λ y. omega arith) (b .1)) (a .1))
+    ⊎-elim (λ x. ⊎-elim (λ y. omega arith) (λ y. omega arith) (b .1))
+    (λ x. ⊎-elim (λ y. omega arith) (λ y. omega arith) (b .1)) (a .1))
     w)
     v
 
@@ -93,7 +95,8 @@ ahead-tri p q h k =
     let g : p .field ≡ q .field =
     neither (p .field) (q .field) (λ l. refuted p q h (inr (s, inl l))) (λ l. refuted q p k (inr (sym s, inl l))) in
     let t : p .trim ≡ q .trim =
-    neither (p .trim) (q .trim) (λ l. refuted p q h (inr (s, inr (g, l)))) (λ l. refuted q p k (inr (sym s, inr (sym g, l)))) in
+    neither (p .trim) (q .trim) (λ l. refuted p q h (inr (s, inr (g, l))))
+    (λ l. refuted q p k (inr (sym s, inr (sym g, l)))) in
     λ i. record { sum = s i; field = g i; trim = t i }
 
 pub ahead-strict : Strict ahead
