@@ -28,16 +28,16 @@ readUntilSettled (suc n) f t s =
     let r = readCall f t s in
     elim (wasRead (r .answer)) [ true ↦ readUntilSettled n f t (r .session) | false ↦ s ]
 
--- the pair of these values
-abbrev pub pairsIn : List ℕ → List Pair
-pairsIn [] = []
-pairsIn (a ∷ []) = []
-pairsIn (a ∷ b ∷ []) = []
-pairsIn (a ∷ b ∷ c ∷ l) = record { sum = a; field = b; trim = c } ∷ []
+-- the pair that three values are
+abbrev pub asPair : List ℕ → List Pair
+asPair [] = []
+asPair (a ∷ []) = []
+asPair (a ∷ b ∷ []) = []
+asPair (a ∷ b ∷ c ∷ l) = record { sum = a; field = b; trim = c } ∷ []
 
 -- the pair that an answer brings out
 abbrev pub given : Answer → List Pair
-given a = pairsIn (said a .values)
+given a = asPair (said a .values)
 
 abbrev pub wasGiven : Answer → Bool
 wasGiven a = ltb 0 (length (given a))
