@@ -2,15 +2,17 @@
 -- two slices. Assumes nothing.
 use mathlib.Core.Path.{_≡_, refl}
 use mathlib.Core.Bool.{Bool, true}
-use mathlib.Core.List.{List}
+use mathlib.Core.List.{List, [], _∷_}
 use Prim.Native.Nat.{ℕ}
 use lib.Dec.{eqb}
 use lib.IntN.{ℤ}
+use native.Mathlib.Omega.{arith}
+use borrow.Author.Tests.{eqb-true, eq-eqb}
 use Rattle.rules.specs.declared.Counts.{Counts}
 use Rattle.rules.specs.declared.Session.{Session}
 use Rattle.rules.specs.Numbers.{badRecord, unless, first}
 use Rattle.rules.specs.Calls.{sameSizeCode, rowsCode, recordFits, recordCode, lentCode, callCode}
-use Rattle.lists.specs.Bools.{first-none, unless-passed}
+use Rattle.rules.specs.Checks.{first-out, unless-out}
 use Rattle.session_laws.specs.Record.{CountsFit, record-fits}
 use Rattle.session_laws.specs.Sizes.{SameSize, same-size}
 
@@ -25,11 +27,11 @@ within s h = let f = record-fits s h in record { field = f .field; trim = f .tri
 
 unfoldable pub lentOf : Bool → Counts → List ℤ → List ℤ → ℕ
 lentOf fits rows f t =
-    first (unless fits badRecord) (first (sameSizeCode (rows .field .0) f) (sameSizeCode (rows .trim .0) t))
+    first (unless fits badRecord ∷ sameSizeCode (rows .field .0) f ∷ sameSizeCode (rows .trim .0) t ∷ [])
 
 unfoldable pub callOf : Bool → Counts → Counts → List ℤ → List ℤ → ℕ
 callOf fits rows depth f t =
-    first (lentOf fits rows f t) (first (rowsCode f 0 (depth .field .0)) (rowsCode t 0 (depth .trim .0)))
+    first (lentOf fits rows f t ∷ rowsCode f 0 (depth .field .0) ∷ rowsCode t 0 (depth .trim .0) ∷ [])
 
 -- they are the rules'
 pub lent-is : (f t : List ℤ) (s : Session) → lentOf (recordFits s) (s .rows) f t ≡ lentCode f t s
@@ -45,6 +47,10 @@ pub lent-passed : (fits : Bool) (rows : Counts) (f t : List ℤ) → eqb (lentOf
     → (fits ≡ true) × (SameSize (rows .field .0) f × SameSize (rows .trim .0) t)
 unfolding lentOf
 lent-passed fits rows f t h =
-    let a = first-none (unless fits badRecord) (first (sameSizeCode (rows .field .0) f) (sameSizeCode (rows .trim .0) t)) h in
-    let b = first-none (sameSizeCode (rows .field .0) f) (sameSizeCode (rows .trim .0) t) (a .1) in
-    (unless-passed fits badRecord refl (a .0), (same-size (rows .field .0) f (b .0), same-size (rows .trim .0) t (b .1)))
+    let a = unless fits badRecord in
+    let b = sameSizeCode (rows .field .0) f in
+    let c = sameSizeCode (rows .trim .0) t in
+    let passes = first-out (a ∷ b ∷ c ∷ []) (eqb-true (lentOf fits rows f t) 0 h) in (
+      unless-out fits badRecord (omega arith) (passes 0),
+      (same-size (rows .field .0) f (eq-eqb b 0 (passes 1)), same-size (rows .trim .0) t (eq-eqb c 0 (passes 2))),
+    )

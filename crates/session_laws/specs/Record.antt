@@ -8,7 +8,7 @@ use lib.IntN.{ℤ}
 use native.Mathlib.Nat.{not-suc-le-zero}
 use native.Mathlib.Omega.{arith}
 use lib.ListN.{length, getD, take, drop}
-use borrow.Author.Tests.{leb-true, ltb-true}
+use borrow.Author.Tests.{eqb-true, leb-true, ltb-true}
 use Rattle.lists.specs.Lists.{every, ranked}
 use Rattle.rules.specs.declared.Pair.{Pair}
 use Rattle.rules.specs.declared.Query.{Query}
@@ -17,8 +17,10 @@ use Rattle.rules.specs.Tables.{ahead}
 use Rattle.rules.specs.Session.{noPair, heldPairs}
 use Rattle.rules.specs.Read.{blockCount}
 use Rattle.rules.specs.Numbers.{first, unless, listLength, blockSize, radiusRange, badRecord}
-use Rattle.rules.specs.Calls.{between, queryCode, countsFit, pairFits, markFits, isZeros, recordFits, recordCode, lentCode, callCode}
-use Rattle.lists.specs.Bools.{and-left, and-right, first-none, unless-passed}
+use Rattle.rules.specs.Calls.{between, queryCode, countsFit, pairFits, markFits, isZeros, recordGrounds, recordFits}
+use Rattle.rules.specs.Calls.{recordCode, sameSizeCode, lentCode, rowsCode, callCode}
+use Rattle.lists.specs.Bools.{and-left, and-right, all-out}
+use Rattle.rules.specs.Checks.{first-out, unless-out}
 
 -- what 5 says of a table's counts
 pub record CountsFit (rows depth : ℕ) : Type 0 where
@@ -48,32 +50,17 @@ pub record Grounds (s : Session) : Type 0 where
 pub grounds : (s : Session) → recordFits s ≡ true → Grounds s
 unfolding recordFits
 grounds s h =
-    let a = eqb (queryCode (s .query)) 0 in
-    let b = countsFit (s .query .block) (s .rows .field .0) (s .depth .field .0) in
-    let c = countsFit (s .query .block) (s .rows .trim .0) (s .depth .trim .0) in
-    let d = leb (s .out + s .held) (s .query .k) in
-    let e = every (pairFits s) (heldPairs s) in
-    let f = ranked ahead (heldPairs s) in
-    let g = markFits s in
-    let i = every isZeros (drop (s .held) (s .pairs)) in
-    let j = leb (s .joined) (blockCount (s .query .block) (s .depth .field .0) * blockCount (s .query .block) (s .depth .trim .0)) in
-    let after-a = and-right a (b && (c && (d && (e && (f && (g && (i && j))))))) h in
-    let after-b = and-right b (c && (d && (e && (f && (g && (i && j)))))) after-a in
-    let after-c = and-right c (d && (e && (f && (g && (i && j))))) after-b in
-    let after-d = and-right d (e && (f && (g && (i && j)))) after-c in
-    let after-e = and-right e (f && (g && (i && j))) after-d in
-    let after-f = and-right f (g && (i && j)) after-e in
-    let after-g = and-right g (i && j) after-f in
+    let passes = all-out (recordGrounds s) h in
     record {
-      query = and-left a (b && (c && (d && (e && (f && (g && (i && j))))))) h;
-      field = and-left b (c && (d && (e && (f && (g && (i && j)))))) after-a;
-      trim = and-left c (d && (e && (f && (g && (i && j))))) after-b;
-      room = and-left d (e && (f && (g && (i && j)))) after-c;
-      pairs = and-left e (f && (g && (i && j))) after-d;
-      rank = and-left f (g && (i && j)) after-e;
-      mark = and-left g (i && j) after-f;
-      zeros = and-left i j after-g;
-      joined = and-right i j after-g;
+      query = passes 0;
+      field = passes 1;
+      trim = passes 2;
+      room = passes 3;
+      pairs = passes 4;
+      rank = passes 5;
+      mark = passes 6;
+      zeros = passes 7;
+      joined = passes 8;
     }
 
 -- what a query that is not refused keeps
@@ -89,15 +76,15 @@ is-between low high n h =
 pub query-fits : (q : Query) → eqb (queryCode q) 0 ≡ true → QueryFits q
 unfolding queryCode
 query-fits q h =
-    let a = unless (between 1 64 (q .k)) listLength in
-    let b = unless (between 1 1024 (q .block)) blockSize in
-    let c = unless (leb (q .radius) 40000) radiusRange in
-    let after-a = first-none a (first b c) h in
-    let after-b = first-none b c (after-a .1) in
+    let a = between 1 64 (q .k) in
+    let b = between 1 1024 (q .block) in
+    let c = leb (q .radius) 40000 in
+    let passes =
+    first-out (unless a listLength ∷ unless b blockSize ∷ unless c radiusRange ∷ []) (eqb-true (queryCode q) 0 h) in
     record {
-      k = is-between 1 64 (q .k) (unless-passed (between 1 64 (q .k)) listLength refl (after-a .0));
-      block = is-between 1 1024 (q .block) (unless-passed (between 1 1024 (q .block)) blockSize refl (after-b .0));
-      radius = leb-true (q .radius) 40000 (unless-passed (leb (q .radius) 40000) radiusRange refl (after-b .1));
+      k = is-between 1 64 (q .k) (unless-out a listLength (omega arith) (passes 0));
+      block = is-between 1 1024 (q .block) (unless-out b blockSize (omega arith) (passes 1));
+      radius = leb-true (q .radius) 40000 (unless-out c radiusRange (omega arith) (passes 2));
     }
 
 -- what a record that is not refused by 5 keeps
@@ -131,8 +118,10 @@ record-fits s h =
 pub call-fits : (f t : List ℤ) (s : Session) → eqb (callCode f t s) 0 ≡ true → recordFits s ≡ true
 unfolding callCode lentCode recordCode
 call-fits f t s h =
-    unless-passed (recordFits s) badRecord refl
-    (first-none (recordCode s) _ (first-none (lentCode f t s) _ h .0) .0)
+    let sizes = sameSizeCode (s .rows .field .0) f ∷ sameSizeCode (s .rows .trim .0) t ∷ [] in
+    let rows = rowsCode f 0 (s .depth .field .0) ∷ rowsCode t 0 (s .depth .trim .0) ∷ [] in
+    let lent = first-out (lentCode f t s ∷ rows) (eqb-true (callCode f t s) 0 h) 0 in
+    unless-out (recordFits s) badRecord (omega arith) (first-out (recordCode s ∷ sizes) lent 0)
 
 -- a pair that fits has rows of both tables, so rows of both were read
 pair-reached : (s : Session) (p : Pair) → pairFits s p ≡ true → (0 < s .depth .field .0) × (0 < s .depth .trim .0)

@@ -1,62 +1,53 @@
 -- Over legal tables the checks of rows and sizes pass, so only the record could be refused; and what accepted calls give. Assumes nothing.
 use mathlib.Core.Path.{_≡_, refl, sym, subst}
 use mathlib.Core.Bool.{Bool, true, false, cond}
-use mathlib.Core.List.{List}
+use mathlib.Core.List.{List, [], _∷_}
 use Prim.Native.Nat.{ℕ, zero, suc, _+_, _-_, _≤_, _<_, min}
 use native.Mathlib.Omega.{arith}
 use native.Mathlib.Decide.{decLe}
 use lib.Dec.{eqb}
 use lib.IntN.{ℤ}
-use borrow.Author.Tests.{eqb-true, eqb-false, eq-eqb}
+use lib.ListN.{getD}
+use borrow.Author.Tests.{eq-eqb}
 use Rattle.rules.specs.declared.Session.{Session}
 use Rattle.rules.specs.Tables.{rowCount, rowInRange, rowInOrder, legal}
 use Rattle.rules.specs.declared.Answer.the-variants.{Read, Settled, Given, NotYet, Finished}
 use Rattle.rules.specs.Session.{settled}
 use Rattle.rules.specs.Read.{fieldNext, oldDepth, newDepth, readBlock}
 use Rattle.rules.specs.Take.{firstHeld, givesPair, movedOut, finished}
-use Rattle.rules.specs.Numbers.{unless, first, badRecord, rowLimit, rowOrder}
+use Rattle.rules.specs.Numbers.{unless, first, rowLimit, rowOrder}
 use Rattle.rules.specs.Calls.{rowCode, rowsCode, sameSizeCode, recordFits, recordCode, lentCode, callCode, newBlockCode, step, readCall, takeCall}
+use Rattle.rules.specs.Checks.{first-out, first-in, unless-out}
+use Rattle.session_laws.specs.Record.{call-fits}
 use Rattle.tables_join.specs.RowsLaws.{legal-size, legal-range, legal-order}
-
--- two checks in order
-
-pub first-none : (c d : ℕ) → c ≡ 0 → d ≡ 0 → first c d ≡ 0
-first-none c d e h = rw (eq-eqb c 0 e) h
-
-pub first-passed : (c d : ℕ) → first c d ≡ 0 → (c ≡ 0) × (d ≡ 0)
-first-passed c d e = go (eqb c 0) refl e
-  where
-    go : (b : Bool) → eqb c 0 ≡ b → cond b d c ≡ 0 → (c ≡ 0) × (d ≡ 0)
-    go true z e = (eqb-true c 0 z, e)
-    go false z e = absurd (eqb-false c 0 z e)
-
-pub unless-passed : (b : Bool) (n : ℕ) → 1 ≤ n → unless b n ≡ 0 → b ≡ true
-unless-passed true n h e = refl
-unless-passed false n h e = absurd (omega arith)
 
 -- rows of a legal table are not refused
 pub rows-accepted : (t : List ℤ) → legal t ≡ true → (a n : ℕ) → a + n ≤ rowCount t → rowsCode t a n ≡ 0
 unfolding rowsCode rowCode
 rows-accepted t g a zero h = refl
 rows-accepted t g a (suc n) h =
-    first-none (rowsCode t a n) (first (unless (rowInRange t (a + n)) rowLimit) (unless (rowInOrder t (a + n)) rowOrder))
-    (rows-accepted t g a n (omega arith)) (rw (legal-range t g (a + n) (omega arith), legal-order t g (a + n) (omega arith)))
+    first-in (rowsCode t a n) (rowCode t (a + n) ∷ []) (rows-accepted t g a n (omega arith))
+    (rw (legal-range t g (a + n) (omega arith), legal-order t g (a + n) (omega arith)))
 
 -- rows that are not refused keep ranges and order
 pub rows-passed : (t : List ℤ) (a n : ℕ) → rowsCode t a n ≡ 0 → (i : ℕ) → a ≤ i → i < a + n → (rowInRange t i ≡ true) × (rowInOrder t i ≡ true)
 unfolding rowsCode rowCode
 rows-passed t a zero e i h k = absurd (omega arith)
-rows-passed t a (suc n) e i h k = go (decLe (a + n) i) (first-passed (rowsCode t a n) (rowCode t (a + n)) e) (rows-passed t a n)
+rows-passed t a (suc n) e i h k =
+    go (decLe (a + n) i) (λ l. rows-passed t a n (first-out (rowsCode t a n ∷ rowCode t (a + n) ∷ []) e 0) i h l)
   where
-    go : Dec (a + n ≤ i) → (rowsCode t a n ≡ 0) × (rowCode t (a + n) ≡ 0)
-        → (rowsCode t a n ≡ 0 → (i : ℕ) → a ≤ i → i < a + n → (rowInRange t i ≡ true) × (rowInOrder t i ≡ true))
+    row : (j : ℕ) → getD (unless (rowInRange t (a + n)) rowLimit ∷ unless (rowInOrder t (a + n)) rowOrder ∷ []) j 0 ≡ 0
+    row =
+        first-out (unless (rowInRange t (a + n)) rowLimit ∷ unless (rowInOrder t (a + n)) rowOrder ∷ [])
+        (first-out (rowsCode t a n ∷ rowCode t (a + n) ∷ []) e 1)
+
+    go : Dec (a + n ≤ i) → (i < a + n → (rowInRange t i ≡ true) × (rowInOrder t i ≡ true))
         → (rowInRange t i ≡ true) × (rowInOrder t i ≡ true)
-    go (yes l) c before =
+    go (yes l) before =
         let same : a + n ≡ i = omega arith in
-        let d = first-passed (unless (rowInRange t (a + n)) rowLimit) (unless (rowInOrder t (a + n)) rowOrder) (c .1) in
         subst (λ i. (rowInRange t i ≡ true) × (rowInOrder t i ≡ true)) same
-        (unless-passed (rowInRange t (a + n)) rowLimit (omega arith) (d .0), unless-passed (rowInOrder t (a + n)) rowOrder (omega arith) (d .1))
-    go (no l) c before = before (c .0) i h (omega arith)
+        (unless-out (rowInRange t (a + n)) rowLimit (omega arith) (row 0), unless-out (rowInOrder t (a + n)) rowOrder (omega arith) (row 1))
+    go (no l) before = before (omega arith)
 
 size-accepted : (t : List ℤ) (n : ℕ) → legal t ≡ true → n ≡ rowCount t → sameSizeCode n t ≡ 0
 unfolding sameSizeCode
@@ -67,21 +58,16 @@ pub call-accepted : (f t : List ℤ) (s : Session) → legal f ≡ true → lega
     → s .depth .field .0 ≤ rowCount f → s .depth .trim .0 ≤ rowCount t → recordFits s ≡ true → callCode f t s ≡ 0
 unfolding callCode lentCode recordCode
 call-accepted f t s g h a b c d r =
-    let sizes : first (sameSizeCode (s .rows .field .0) f) (sameSizeCode (s .rows .trim .0) t) ≡ 0 =
-    first-none (sameSizeCode (s .rows .field .0) f) (sameSizeCode (s .rows .trim .0) t) (size-accepted f (s .rows .field .0) g a)
-    (size-accepted t (s .rows .trim .0) h b) in
-    let rows : first (rowsCode f 0 (s .depth .field .0)) (rowsCode t 0 (s .depth .trim .0)) ≡ 0 =
-    first-none (rowsCode f 0 (s .depth .field .0)) (rowsCode t 0 (s .depth .trim .0)) (rows-accepted f g 0 (s .depth .field .0) (omega arith))
-    (rows-accepted t h 0 (s .depth .trim .0) (omega arith)) in
+    let sizes : first (sameSizeCode (s .rows .field .0) f ∷ sameSizeCode (s .rows .trim .0) t ∷ []) ≡ 0 =
+    first-in (sameSizeCode (s .rows .field .0) f) (sameSizeCode (s .rows .trim .0) t ∷ [])
+    (size-accepted f (s .rows .field .0) g a) (size-accepted t (s .rows .trim .0) h b) in
+    let rows : first (rowsCode f 0 (s .depth .field .0) ∷ rowsCode t 0 (s .depth .trim .0) ∷ []) ≡ 0 =
+    first-in (rowsCode f 0 (s .depth .field .0)) (rowsCode t 0 (s .depth .trim .0) ∷ [])
+    (rows-accepted f g 0 (s .depth .field .0) (omega arith)) (rows-accepted t h 0 (s .depth .trim .0) (omega arith)) in
     rw (r, sizes, rows)
 
 pub accepted-fits : (f t : List ℤ) (s : Session) → callCode f t s ≡ 0 → recordFits s ≡ true
-unfolding callCode lentCode recordCode
-accepted-fits f t s e =
-    let sizes : ℕ = first (sameSizeCode (s .rows .field .0) f) (sameSizeCode (s .rows .trim .0) t) in
-    let rows : ℕ = first (rowsCode f 0 (s .depth .field .0)) (rowsCode t 0 (s .depth .trim .0)) in
-    unless-passed (recordFits s) badRecord (omega arith)
-    (first-passed (unless (recordFits s) badRecord) sizes (first-passed (first (unless (recordFits s) badRecord) sizes) rows e .0) .0)
+accepted-fits f t s e = call-fits f t s (eq-eqb (callCode f t s) 0 e)
 
 -- nor is a new block
 own-new : (field : Bool) (f t : List ℤ) (d e size m n : ℕ) → d ≤ rowCount f → e ≤ rowCount t → m ≡ rowCount f → n ≡ rowCount t

@@ -1,27 +1,23 @@
 -- The rows that an accepted call has looked at are legal tables by themselves. Assumes nothing.
 use mathlib.Core.Path.{_≡_, sym}
-use mathlib.Core.Bool.{Bool, true, false, cond, _&&_, _||_}
-use mathlib.Core.List.{List}
-use Prim.Native.Nat.{ℕ, _+_, _*_, _-_, _%_, _≤_, _<_}
+use mathlib.Core.Bool.{Bool, true, false, cond}
+use mathlib.Core.List.{List, [], _∷_}
+use Prim.Native.Nat.{ℕ, _+_, _*_, _-_, _≤_, _<_}
 use native.Mathlib.Omega.{arith}
 use native.Mathlib.Decide.{decLe}
-use lib.Dec.{leb, eqb, lit≤}
+use lib.Dec.{lit≤}
 use lib.IntN.{ℤ}
-use lib.ListN.{length, take, drop}
+use lib.ListN.{length, take}
 use lib.Seq.{take-take, length-take-le}
-use borrow.Author.Tests.{leb-true, eqb-true}
-use Rattle.lists.specs.Lists.{every, ranked}
-use Rattle.lists.specs.Bools.{and-out}
-use Rattle.rules.specs.declared.Query.{Query}
+use borrow.Author.Tests.{eq-eqb}
 use Rattle.rules.specs.declared.Session.{Session}
-use Rattle.rules.specs.Tables.{rowCount, rowInRange, rowInOrder, sizeFits, legal, ahead}
-use Rattle.rules.specs.Session.{heldPairs}
-use Rattle.rules.specs.Read.{blockCount}
-use Rattle.rules.specs.Numbers.{unless, first, tableSize}
-use Rattle.rules.specs.Calls.{between, queryCode, sameSizeCode, rowsCode, countsFit, pairFits, markFits, isZeros, recordFits, recordCode, lentCode, callCode}
+use Rattle.rules.specs.Tables.{rowCount, rowInRange, rowInOrder, legal}
+use Rattle.rules.specs.Checks.{first-out}
+use Rattle.rules.specs.Calls.{rowsCode, lentCode, callCode}
+use Rattle.session_laws.specs.Sizes.{call-lent}
 use Rattle.tables_join.specs.Passed.{GoodAt, Passed}
 use Rattle.tables_join.specs.RowsLaws.{legal-of}
-use Rattle.tables_join.specs.Accepting.{first-passed, unless-passed, rows-passed, accepted-fits}
+use Rattle.tables_join.specs.Accepting.{rows-passed}
 use Rattle.tables_join.specs.SameRows.{SameRows, same-num}
 
 module _ (t : List ℤ) (n : ℕ) (fits : n ≤ rowCount t) where
@@ -58,62 +54,25 @@ module _ (t : List ℤ) (n : ℕ) (fits : n ≤ rowCount t) where
 
 -- What the checks have seen
 
-counts-parts : (size rows d : ℕ) → countsFit size rows d ≡ true → (rows ≤ 65535) × (d ≤ rows)
-unfolding countsFit
-counts-parts size rows d e =
-    let a = and-out (leb rows 65535) (leb d rows && (eqb (d % size) 0 || eqb d rows)) e in
-    (leb-true rows 65535 (a .0), leb-true d rows (and-out (leb d rows) (eqb (d % size) 0 || eqb d rows) (a .1) .0))
-
-size-parts : (n : ℕ) (t : List ℤ) → sameSizeCode n t ≡ 0 → n ≡ rowCount t
-unfolding sameSizeCode
-size-parts n t e =
-    sym
-    (eqb-true (rowCount t) n
-    (and-out (sizeFits t) (eqb (rowCount t) n) (unless-passed (sizeFits t && eqb (rowCount t) n) tableSize (omega arith) e) .1))
-
-query-most : (q : Query) → queryCode q ≡ 0 → q .k ≤ 64
-unfolding queryCode
-query-most q e =
-    leb-true (q .k) 64
-    (and-out (leb 1 (q .k)) (leb (q .k) 64)
-    (unless-passed (between 1 64 (q .k)) 1 (omega arith) (first-passed (unless (between 1 64 (q .k)) 1) (first (unless (between 1 1024 (q .block)) 2) (unless (leb (q .radius) 40000) 3)) e .0)) .1)
-
 pub passed : (f t : List ℤ) (s : Session) → callCode f t s ≡ 0 → Passed f t s
-unfolding callCode lentCode recordFits
+unfolding callCode
 passed f t s e =
-    let sizes : ℕ = first (sameSizeCode (s .rows .field .0) f) (sameSizeCode (s .rows .trim .0) t) in
-    let checked = first-passed (first (recordCode s) sizes) (first (rowsCode f 0 (s .depth .field .0)) (rowsCode t 0 (s .depth .trim .0))) e in
-    let size =
-    first-passed (sameSizeCode (s .rows .field .0) f) (sameSizeCode (s .rows .trim .0) t) (first-passed (recordCode s) sizes (checked .0) .1) in
-    let rows = first-passed (rowsCode f 0 (s .depth .field .0)) (rowsCode t 0 (s .depth .trim .0)) (checked .1) in
-    let joined : Bool = leb (s .joined) (blockCount (s .query .block) (s .depth .field .0) * blockCount (s .query .block) (s .depth .trim .0)) in
-    let r6 : Bool = markFits s && (every isZeros (drop (s .held) (s .pairs)) && joined) in
-    let r5 : Bool = ranked ahead (heldPairs s) && r6 in
-    let r4 : Bool = every (pairFits s) (heldPairs s) && r5 in
-    let r3 : Bool = leb (s .out + s .held) (s .query .k) && r4 in
-    let r2 : Bool = countsFit (s .query .block) (s .rows .trim .0) (s .depth .trim .0) && r3 in
-    let r1 : Bool = countsFit (s .query .block) (s .rows .field .0) (s .depth .field .0) && r2 in
-    let p1 = and-out (eqb (queryCode (s .query)) 0) r1 (accepted-fits f t s e) in
-    let p2 = and-out (countsFit (s .query .block) (s .rows .field .0) (s .depth .field .0)) r2 (p1 .1) in
-    let p3 = and-out (countsFit (s .query .block) (s .rows .trim .0) (s .depth .trim .0)) r3 (p2 .1) in
-    let p4 = and-out (leb (s .out + s .held) (s .query .k)) r4 (p3 .1) in
-    let p5 = and-out (every (pairFits s) (heldPairs s)) r5 (p4 .1) in
-    let p6 = and-out (ranked ahead (heldPairs s)) r6 (p5 .1) in
-    let field = counts-parts (s .query .block) (s .rows .field .0) (s .depth .field .0) (p2 .0) in
-    let trim = counts-parts (s .query .block) (s .rows .trim .0) (s .depth .trim .0) (p3 .0) in
+    let l = call-lent f t s (eq-eqb (callCode f t s) 0 e) in
+    let rows =
+    first-out (lentCode f t s ∷ rowsCode f 0 (s .depth .field .0) ∷ rowsCode t 0 (s .depth .trim .0) ∷ []) e in
     record {
-      field-count = size-parts (s .rows .field .0) f (size .0);
-      trim-count = size-parts (s .rows .trim .0) t (size .1);
-      field-most = field .0;
-      trim-most = trim .0;
-      field-depth = field .1;
-      trim-depth = trim .1;
-      wanted = query-most (s .query) (eqb-true (queryCode (s .query)) 0 (p1 .0));
-      room = leb-true (s .out + s .held) (s .query .k) (p4 .0);
-      pairs = p5 .0;
-      in-rank = p6 .0;
-      field-rows = rows .0;
-      trim-rows = rows .1;
+      field-count = sym (l .field .count);
+      trim-count = sym (l .trim .count);
+      field-most = l .fits .field .few;
+      trim-most = l .fits .trim .few;
+      field-depth = l .fits .field .within;
+      trim-depth = l .fits .trim .within;
+      wanted = l .fits .query .k .1;
+      room = l .fits .room;
+      pairs = l .fits .pairs;
+      in-rank = l .fits .rank;
+      field-rows = rows 1;
+      trim-rows = rows 2;
     }
 
 -- every row down to the new depth was looked at

@@ -1,21 +1,21 @@
 -- What an accepted opening says of its query, and that an accepted query opens any two legal tables. Assumes nothing.
 use mathlib.Core.Path.{_≡_, refl, ap}
 use mathlib.Core.Bool.{Bool, true, false, cond}
-use mathlib.Core.List.{List}
-use Prim.Native.Nat.{ℕ, _≤_}
-use native.Mathlib.Omega.{arith}
-use lib.Dec.{eqb, leb}
+use mathlib.Core.List.{List, [], _∷_}
+use Prim.Native.Nat.{_≤_}
+use lib.Dec.{eqb}
 use lib.IntN.{ℤ}
-use borrow.Author.Tests.{eqb-true, leb-true}
-use Rattle.lists.specs.Bools.{and-out}
+use borrow.Author.Tests.{eqb-true, eq-eqb}
 use Rattle.rules.specs.declared.Query.{Query}
+use Rattle.rules.specs.declared.Answer.{Answer}
 use Rattle.rules.specs.declared.Answer.the-variants.{Refused, Opened}
 use Rattle.rules.specs.Tables.{rowCount, legal}
 use Rattle.rules.specs.Session.{opened, zeros}
-use Rattle.rules.specs.Numbers.{unless, first, number}
-use Rattle.rules.specs.Calls.{between, queryCode, sizeCode, step, openCode, openCall}
+use Rattle.rules.specs.Numbers.{said, refusal}
+use Rattle.rules.specs.Checks.{first-out}
+use Rattle.rules.specs.Calls.{queryCode, sizeCode, step, openCode, openCall}
 use Rattle.tables_join.specs.RowsLaws.{legal-size}
-use Rattle.tables_join.specs.Accepting.{first-passed, unless-passed}
+use Rattle.session_laws.specs.Record.{query-fits}
 
 module _ (q : Query) (f t : List ℤ) where
   opened-code : openCall q f t .answer ≡ Opened → openCode q f t ≡ 0
@@ -27,11 +27,11 @@ module _ (q : Query) (f t : List ℤ) where
           ≡ Opened
           → openCode q f t ≡ 0
       go true z e = eqb-true (openCode q f t) 0 z
-      go false z e = ap number e
+      go false z e = ap (λ (a : Answer). refusal (said a)) e
 
   pub opened-query : openCall q f t .answer ≡ Opened → queryCode q ≡ 0
   unfolding openCode
-  opened-query e = first-passed (queryCode q) (first (sizeCode f) (sizeCode t)) (opened-code e) .0
+  opened-query e = first-out (queryCode q ∷ sizeCode f ∷ sizeCode t ∷ []) (opened-code e) 0
 
   -- a query that is accepted opens any two legal tables
   pub legal-opened : queryCode q ≡ 0 → legal f ≡ true → legal t ≡ true
@@ -40,13 +40,4 @@ module _ (q : Query) (f t : List ℤ) where
   legal-opened e g h = rw (e, legal-size f g, legal-size t h)
 
 pub query-wanted : (q : Query) → queryCode q ≡ 0 → (1 ≤ q .k) × (1 ≤ q .block)
-unfolding queryCode
-query-wanted q e =
-    let radius : ℕ = unless (leb (q .radius) 40000) 3 in
-    let block : ℕ = unless (between 1 1024 (q .block)) 2 in
-    let a = first-passed (unless (between 1 64 (q .k)) 1) (first block radius) e in
-    let b = first-passed block radius (a .1) in (
-      leb-true 1 (q .k) (and-out (leb 1 (q .k)) (leb (q .k) 64) (unless-passed (between 1 64 (q .k)) 1 (omega arith) (a .0)) .0),
-      leb-true 1 (q .block)
-          (and-out (leb 1 (q .block)) (leb (q .block) 1024) (unless-passed (between 1 1024 (q .block)) 2 (omega arith) (b .0)) .0),
-    )
+query-wanted q e = let fits = query-fits q (eq-eqb (queryCode q) 0 e) in (fits .k .0, fits .block .0)

@@ -8,6 +8,7 @@ use lib.ListN.{length, length-map}
 use borrow.Author.Tests.{eq-eqb}
 use Rattle.lists.specs.Bools.{clash}
 use Rattle.rules.specs.Session.{settled}
+use Rattle.rules.specs.declared.Step.{Step}
 use Rattle.rules.specs.Query.{wasRead}
 use Rattle.session_laws.specs.Record.{call-fits}
 use Rattle.rules.specs.Calls.{recordFits, step, readCall}
@@ -197,7 +198,10 @@ returns c =
     simp (told, ← is) at (ended (block .before .before .before .before))
 
 returns-2 : tie.Need-returns-2 Inv-loop μ-loop Inv-loop2 μ-loop2
-returns-2 c = simp (not-read (c .before .read-answer .result) (c .match .keys2)) at (ended (c .before))
+returns-2 c =
+    let a = given (c .before .before .before .before .before .before) .args in
+    let is = ap (λ (r : Step). r .answer) (ended (c .before)) in
+    simp (not-read (a .f .now) (a .t .now) (a .s) (c .before .read-answer .result) is (c .match .keys2)) at (ended (c .before))
 
 pub read-spec : {M : Type 1} → statement M
 read-spec =
