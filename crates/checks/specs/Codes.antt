@@ -3,14 +3,17 @@
 use mathlib.Core.Path.{_≡_, refl}
 use mathlib.Core.Bool.{Bool, true}
 use mathlib.Core.List.{List, [], _∷_}
-use Prim.Native.Nat.{ℕ}
+use Prim.Native.Nat.{ℕ, _-_, _<_}
 use lib.Dec.{eqb}
 use lib.IntN.{ℤ}
+use lib.ListN.{getD}
 use native.Mathlib.Omega.{arith}
 use borrow.Author.Tests.{eqb-true, eq-eqb}
 use Rattle.rules.specs.declared.Counts.{Counts}
+use Rattle.rules.specs.declared.Pair.{Pair}
 use Rattle.rules.specs.declared.Session.{Session}
 use Rattle.rules.specs.Numbers.{badRecord, unless, first}
+use Rattle.rules.specs.Session.{noPair}
 use Rattle.rules.specs.Calls.{sameSizeCode, rowsCode, recordFits, recordCode, lentCode, callCode}
 use Rattle.rules.specs.Checks.{first-out, unless-out}
 use Rattle.session_laws.specs.Record.{CountsFit, record-fits}
@@ -54,3 +57,7 @@ lent-passed fits rows f t h =
       unless-out fits badRecord (omega arith) (passes 0),
       (same-size (rows .field .0) f (eq-eqb b 0 (passes 1)), same-size (rows .trim .0) t (eq-eqb c 0 (passes 2))),
     )
+
+-- the pair in the last held place, where one is held
+abbrev pub LastHeld : Session → Pair → Type 0
+LastHeld s p = 0 < s .held → p ≡ getD (s .pairs) (s .held - 1) noPair

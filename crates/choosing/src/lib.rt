@@ -1,0 +1,113 @@
+// What a read decides before it reads: whether anything unread can matter, which table is next, and what 6 and 7 say of its
+// new block.
+use rules::Pair;
+use rules::Session;
+ghost use mathlib.Core.Path.{_≡_};
+ghost use mathlib.Core.Bool.{false, cond};
+ghost use Prim.Native.Nat.{_+_, _*_, _-_, _≤_, _<_};
+ghost use lib.ListN.{length};
+ghost use Rattle.rules.specs.Session.{settled};
+ghost use Rattle.rules.specs.Read.{scoreDrop, fieldNext, nextDepth};
+ghost use Rattle.rules.specs.Calls.{newBlockCode};
+ghost use Rattle.session_laws.specs.Sizes.{Lent};
+ghost use Rattle.checks.specs.Codes.{LastHeld};
+
+// How far a table's score has dropped from its first row to the last row read.
+fn drop_of(t: &[i32], depth: u32) -> u32
+    requires { ⌜ (0 < depth) × (4 * depth ≤ length (now t)) ⌝ }
+    ensures { λ r. ⌜ r ≡ scoreDrop (now (t .entry)) depth ⌝ }
+{
+    let high = tables::score(t, 0);
+    let low = tables::score(t, depth as usize - 1);
+    if high <= low {
+        return 0;
+    }
+    high - low
+}
+
+// Whether the field table is read next.
+pub fn field_next(f: &[i32], t: &[i32], s: Session) -> bool
+    requires { ⌜ Lent (now f) (now t) s ⌝ }
+    ensures { λ r. ⌜ r ≡ fieldNext (now (f .entry)) (now (t .entry)) s ⌝ }
+{
+    let d = s.depth.field.0;
+    let e = s.depth.trim.0;
+    if d == 0 {
+        return true;
+    }
+    if e == 0 {
+        return false;
+    }
+    if e == s.rows.trim.0 {
+        return true;
+    }
+    if d == s.rows.field.0 {
+        return false;
+    }
+    let x = drop_of(f, d);
+    let y = drop_of(t, e);
+    if x < y {
+        return true;
+    }
+    if y < x {
+        return false;
+    }
+    d <= e
+}
+
+// Whether nothing unread can matter. `last` is the last held pair: of ranked pairs it decides.
+pub fn is_settled(f: &[i32], t: &[i32], s: Session, last: Pair) -> bool
+    requires { ⌜ Lent (now f) (now t) s × LastHeld s last ⌝ }
+    ensures { λ r. ⌜ r ≡ settled (now (f .entry)) (now (t .entry)) s ⌝ }
+{
+    let m = s.rows.field.0;
+    let n = s.rows.trim.0;
+    if (m == 0) | (n == 0) {
+        return true;
+    }
+    if (s.depth.field.0 == m) & (s.depth.trim.0 == n) {
+        return true;
+    }
+    if s.out == s.query.k {
+        return true;
+    }
+    if s.out + s.held != s.query.k {
+        return false;
+    }
+    ceiling::is_secured(f, t, s, last)
+}
+
+// Of two numbers the first where the flag says so, else the second.
+pub fn pick(t: bool, a: u32, b: u32) -> u32
+    ensures { λ r. ⌜ r ≡ cond t a b ⌝ }
+{
+    if t { a } else { b }
+}
+
+// The depth that a read leads to: one block further, or all rows.
+pub fn next_depth(block: u32, rows: u32, depth: u32) -> u32
+    requires { ⌜ (block ≤ 1024) × (depth ≤ 65535) ⌝ }
+    ensures { λ r. ⌜ r ≡ nextDepth block rows depth ⌝ }
+{
+    if depth + block <= rows {
+        return depth + block;
+    }
+    rows
+}
+
+// What 6 and 7 say of the new block, of the table that is read next.
+pub fn new_block_code(f: &[i32], t: &[i32], s: Session) -> u32
+    requires { ⌜ Lent (now f) (now t) s × (settled (now f) (now t) s ≡ false) ⌝ }
+    ensures { λ r. ⌜ r ≡ newBlockCode (now (f .entry)) (now (t .entry)) s ⌝ }
+{
+    let field = field_next(f, t, s);
+    let rows = pick(field, s.rows.field.0, s.rows.trim.0);
+    let d = pick(field, s.depth.field.0, s.depth.trim.0);
+    let e = next_depth(s.query.block, rows, d);
+    let from = d as usize;
+    let n = (e - d) as usize;
+    if field {
+        return tables::rows_code(f, from, n);
+    }
+    tables::rows_code(t, from, n)
+}

@@ -1,0 +1,136 @@
+-- `read_on` meets its contract: the new block and the other table's blocks are the rule's. Assumes nothing.
+use mathlib.Core.Bool.{cond}
+use Prim.Native.Nat.{_+_, _*_, _-_, _<_, _≤_}
+use native.Mathlib.Nat.{div-mul-le-self}
+use native.Mathlib.Omega.{arith}
+use Rattle.rules.specs.declared.Session.{Session}
+use Rattle.rules.specs.Read.{meetBlocks, rowsBetween, oldDepth, newDepth, blockCount, readTable}
+use Rattle.session_laws.specs.Read.{blocks-keep}
+use Rattle.choosing.specs.Ready.{Ready}
+use Rattle.choosing.specs.Due.{otherDepth}
+use Rattle.meeting.specs.Meets.{blocks-ready}
+use Rattle.meeting.specs.Stands.{Stands, read-is}
+use borrow.Author.Needs.{needs}
+use Rattle.meeting.proofs.read_on.Statement.{statement}
+use Rattle.meeting.proofs.read_on.Tie as tie
+
+pick-requires : tie.Need-pick-requires
+pick-requires c κs = search needs
+
+pick-requires-2 : tie.Need-pick-requires-2
+pick-requires-2 c κs = search needs
+
+pick-requires-3 : tie.Need-pick-requires-3
+pick-requires-3 c κs = search needs
+
+next-depth-requires : tie.Need-next-depth-requires
+next-depth-requires c κs = search needs
+
+block-count-requires : tie.Need-block-count-requires
+block-count-requires c κs = search needs
+
+cast-meet-blocks : tie.Need-cast-meet-blocks
+cast-meet-blocks c = search needs
+
+cast-meet-blocks-2 : tie.Need-cast-meet-blocks-2
+cast-meet-blocks-2 c = search needs
+
+cast-meet-blocks-3 : tie.Need-cast-meet-blocks-3
+cast-meet-blocks-3 c = search needs
+
+meet-blocks-requires : tie.Need-meet-blocks-requires
+meet-blocks-requires c κs =
+    let s = c .before .before .before .before .before .before in
+    let due = s .pre .0 in
+    let n = c .before .block-count in
+    let pick3 = c .before .before .before .pick3 in
+    let deep = div-mul-le-self (pick3 .result + s .args .s .query .block - 1) (s .args .s .query .block) in
+    let e = c .before .before .next-depth .ensures in
+    let p = c .before .before .before .before .before .pick .ensures in
+    let q = c .before .before .before .before .pick2 .ensures in
+    let r = pick3 .ensures in
+    let blocks : n .result * s .args .s .query .block < pick3 .result + s .args .s .query .block =
+    rw (n .ensures .0) (omega (arith, due .ready .query .block .0)) in (
+      (due .ready, omega (arith, due .joined, n .ensures .1), s .pre .1),
+      (
+        record {
+          some = omega (arith, due .left, due .ready .query .block .0);
+          few = omega (arith, due .few);
+          within = omega (arith, due .rows);
+        },
+        (omega (arith, due .other-few), omega (arith, due .other-rows), blocks),
+      ),
+    )
+
+down-to-requires : tie.Need-down-to-requires
+down-to-requires c κs = search needs
+
+pick-requires-4 : tie.Need-pick-requires-4
+pick-requires-4 c κs = search needs
+
+-- the record that has met the other table's blocks, by the rule
+abbrev met : tie.Start → Session
+met s =
+    let a = s .args in
+    let depth = otherDepth (a .field) (a .s) in
+    meetBlocks (a .field) (a .s) (rowsBetween (cond (a .field) (a .f .now) (a .t .now)) (oldDepth (a .field) (a .s)) (newDepth (a .field) (a .s))) (cond (a .field) (a .t .now) (a .f .now)) depth (blockCount (a .s .query .block) depth)
+
+ready : (s : tie.Start) → Ready (met s)
+ready s = blocks-ready (s .args .field) (s .args .s) _ _ _ _ (s .pre .0 .ready)
+
+-- the numbers and keys stand for it
+stands : (c : tie.After-meet-blocks) → Stands (met (c .before .before .before .before .before .before .before)) (c .meet-blocks .result) (c .meet-blocks .last .1 .1 .1 .1 .1 .1 .1 .0)
+stands c =
+    simp (
+      c .before .before .block-count .ensures .0,
+      c .before .before .before .next-depth .ensures,
+      c .before .before .before .before .pick3 .ensures,
+      c .before .before .before .before .before .pick2 .ensures,
+      c .before .before .before .before .before .before .pick .ensures,
+    )
+    at (c .meet-blocks .ensures)
+
+few : (c : tie.After-meet-blocks) → c .meet-blocks .result .held ≤ 64
+few c =
+    let k = ready (c .before .before .before .before .before .before .before) in
+    omega (arith, stands c .held, k .room, k .query .k .1)
+
+cast-t19 : tie.Need-cast-t19
+cast-t19 c = record { fits = omega (arith, few (c .before .before .before)) }
+
+returns : tie.Need-returns
+unfolding readTable
+returns c =
+    let m = c .before .before .before in
+    let s = m .before .before .before .before .before .before .before in
+    let a = s .args in
+    let is = read-is (a .field) (newDepth (a .field) (a .s)) (a .s) (met s) (blocks-keep (a .field) (a .s) _ _ _ _) (ready s) (m .meet-blocks .result) (m .meet-blocks .last .1 .1 .1 .1 .1 .1 .1 .0) (stands m) in (
+      simp (
+        c .before .pick4 .ensures,
+        c .before .before .down-to .ensures,
+        m .before .before .before .next-depth .ensures,
+        m .before .before .before .before .before .pick2 .ensures,
+        m .before .before .before .before .before .before .pick .ensures,
+      )
+          is,
+      few m,
+      stands m .pairs .long,
+    )
+
+pub read-on-spec : {M : Type 1} → statement M
+read-on-spec =
+    tie.close
+    (tie.spec
+    pick-requires
+    pick-requires-2
+    pick-requires-3
+    next-depth-requires
+    block-count-requires
+    cast-meet-blocks
+    cast-meet-blocks-2
+    cast-meet-blocks-3
+    meet-blocks-requires
+    down-to-requires
+    pick-requires-4
+    cast-t19
+    returns)

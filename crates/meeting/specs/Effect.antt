@@ -1,0 +1,122 @@
+-- What a block pair comes to before it is looked at pair by pair: skipped, or joined with no qualifying pair. Such a pair
+-- changes nothing but the joined count. Assumes nothing.
+use mathlib.Core.Path.{_≡_, refl, sym, ap, _∙_}
+use mathlib.Core.Bool.{Bool, true, false, cond, _&&_}
+use mathlib.Core.List.{List, [], append-nil}
+use Prim.Native.Nat.{ℕ, zero, suc, _+_, _-_, _≤_}
+use native.Mathlib.Omega.{arith}
+use lib.Dec.{ltb}
+use lib.IntN.{ℤ}
+use lib.ListN.{take}
+use lib.Seq.{take-all}
+use Rattle.lists.specs.Lists.{sort}
+use Rattle.lists.specs.Sorts.{ordered-sort}
+use Rattle.rules.specs.declared.Pair.{Pair}
+use Rattle.rules.specs.declared.Session.{Session}
+use Rattle.rules.specs.Tables.{Block, rowCount, qualifying, ahead}
+use Rattle.rules.specs.Session.{heldPairs, firstScore}
+use Rattle.rules.specs.Read.{skipped, bestHeld, holding, meet}
+use Rattle.block.specs.Near.{anyNear, none-qualify}
+use Rattle.choosing.specs.Ready.{Ready}
+
+abbrev pub skips : Bool → ℕ → List ℤ → List ℤ → Bool
+skips full low x y = full && ltb (firstScore x + firstScore y) low
+
+pub record Effect (full : Bool) (low radius : ℕ) (x y : List ℤ) (r : ℕ) : Type 0 where
+  pub skip : r ≡ 0 → skips full low x y ≡ true
+  pub quiet : r ≡ 1 → (skips full low x y ≡ false) × (anyNear radius x y (rowCount x) ≡ false)
+  pub joined : r ≡ 2 → skips full low x y ≡ false
+  pub most : r ≤ 2
+
+module _ (full : Bool) (low radius : ℕ) (x y : List ℤ) where
+  pub effect-skip : skips full low x y ≡ true → Effect full low radius x y 0
+  effect-skip h = record { skip = λ e. h; quiet = λ e. absurd (omega (arith, e)); joined = λ e. absurd (omega (arith, e)); most = omega arith }
+
+  pub effect-quiet : skips full low x y ≡ false → anyNear radius x y (rowCount x) ≡ false → Effect full low radius x y 1
+  effect-quiet h k =
+      record { skip = λ e. absurd (omega (arith, e)); quiet = λ e. (h, k); joined = λ e. absurd (omega (arith, e)); most = omega arith }
+
+  pub effect-open : skips full low x y ≡ false → Effect full low radius x y 2
+  effect-open h =
+      record { skip = λ e. absurd (omega (arith, e)); quiet = λ e. absurd (omega (arith, e)); joined = λ e. h; most = omega arith }
+
+-- a block pair is joined and counted
+abbrev pub joinedPair : Session → Block → Block → Session
+joinedPair s x y = holding s (bestHeld s (qualifying (s .query .radius) x y))
+
+-- so many block pairs more are joined
+unfoldable pub counted : Session → ℕ → Session
+counted s w =
+    record {
+      query = s .query;
+      rows = s .rows;
+      depth = s .depth;
+      last = s .last;
+      out = s .out;
+      held = s .held;
+      pairs = s .pairs;
+      joined = s .joined + w;
+    }
+
+module _ (s : Session) (r : Ready s) where
+  -- no qualifying pair: the same pairs are held
+  same-held : bestHeld s [] ≡ heldPairs s
+  unfolding bestHeld
+  same-held =
+      ap (take (s .query .k - s .out)) (ap (sort ahead) (append-nil (heldPairs s)) ∙ ordered-sort ahead (heldPairs s) (r .order))
+      ∙ take-all (s .query .k - s .out) (heldPairs s) (omega (arith, r .count, r .room))
+
+  holding-same : holding s (heldPairs s) ≡ counted s 1
+  unfolding holding counted
+  holding-same =
+      λ i.
+      record {
+        query = s .query;
+        rows = s .rows;
+        depth = s .depth;
+        last = s .last;
+        out = s .out;
+        held = r .count i;
+        pairs = sym (r .zeros) i;
+        joined = s .joined + 1;
+      }
+
+  counted-none : counted s 0 ≡ s
+  unfolding counted
+  counted-none =
+      let e : s .joined + 0 ≡ s .joined = omega arith in
+      λ i.
+      record {
+        query = s .query;
+        rows = s .rows;
+        depth = s .depth;
+        last = s .last;
+        out = s .out;
+        held = s .held;
+        pairs = s .pairs;
+        joined = e i;
+      }
+
+  -- `full` and `low` are the code's numbers: whether k pairs are held or out, and the lowest held sum
+  module _ (full : Bool) (low : ℕ) (x y : Block) (test : skips full low (x .rows) (y .rows) ≡ skipped s x y) (w : ℕ) (f : Effect full low (s .query .radius) (x .rows) (y .rows) w) where
+    abbrev met : Bool → Session
+    met skip = cond skip s (joinedPair s x y)
+
+    pub effect-joins : w ≡ 2 → joinedPair s x y ≡ meet s x y
+    unfolding meet
+    effect-joins e = sym (ap met (sym test ∙ f .joined e))
+
+    pub effect-counts : (w ≡ 2 → ⊥) → counted s w ≡ meet s x y
+    unfolding meet
+    effect-counts h = go w f h
+      where
+        go : (w : ℕ) → Effect full low (s .query .radius) (x .rows) (y .rows) w → (w ≡ 2 → ⊥) → counted s w ≡ meet s x y
+        go zero f h = counted-none ∙ sym (ap met (sym test ∙ f .skip refl))
+        go (suc zero) f h =
+            let q = f .quiet refl in
+            sym
+            (ap met (sym test ∙ q .0)
+            ∙ ap (λ (l : List Pair). holding s (bestHeld s l)) (none-qualify (s .query .radius) x y (q .1))
+            ∙ ap (holding s) same-held
+            ∙ holding-same)
+        go (suc (suc w)) f h = absurd (h (omega (arith, f .most)))

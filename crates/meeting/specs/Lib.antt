@@ -1,0 +1,4 @@
+pub mod Side
+pub mod Effect
+pub mod Stands
+pub mod Meets

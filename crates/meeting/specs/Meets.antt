@@ -1,0 +1,118 @@
+-- Block pairs met by a record that is ready: it stays ready. Assumes nothing.
+use mathlib.Core.Path.{_≡_, refl, sym, ap, ap₂, _∙_}
+use mathlib.Core.Bool.{Bool, true, false, cond}
+use mathlib.Core.List.{List, _++_}
+use Prim.Native.Nat.{ℕ, zero, suc, _+_, _*_, _-_, _≤_, _<_, min}
+use native.Mathlib.Nat.{mul-le-mul-right, suc-mul}
+use native.Mathlib.Numerals.{add-one}
+use native.Mathlib.Omega.{arith}
+use lib.IntN.{ℤ}
+use lib.ListN.{length, take, drop, length-take, length-drop}
+use lib.Seq.{length-take-le}
+use Rattle.lists.specs.Lists.{sort}
+use Rattle.lists.specs.Words.{Ordered}
+use Rattle.lists.specs.Sorts.{sort-ordered, take-ordered}
+use Rattle.rules.specs.declared.Pair.{Pair}
+use Rattle.rules.specs.declared.Session.{Session}
+use Rattle.rules.specs.Tables.{Block, qualifying, ahead}
+use Rattle.rules.specs.Ranking.{ahead-strict}
+use Rattle.rules.specs.Session.{places, heldPairs}
+use Rattle.rules.specs.Read.{skipped, bestHeld, holding, meet, rowsBetween, meetBlocks}
+use Rattle.keys.specs.Places.{list-of-places}
+use Rattle.block.specs.Block.{at, Rows}
+use Rattle.meeting.specs.declared.Span.{Span}
+use Rattle.choosing.specs.Ready.{Ready}
+use Rattle.meeting.specs.Side.{Inside, rowsOf}
+
+-- the best of the pairs held and met are in order, and not too many
+best-ordered : (s : Session) (met : List Pair) → Ordered ahead (bestHeld s met)
+unfolding bestHeld
+best-ordered s met = take-ordered ahead (s .query .k - s .out) (sort ahead (heldPairs s ++ met)) (sort-ordered ahead ahead-strict (heldPairs s ++ met))
+
+best-few : (s : Session) (met : List Pair) → length (bestHeld s met) ≤ s .query .k - s .out
+unfolding bestHeld
+best-few s met = omega (arith, length-take (s .query .k - s .out) (sort ahead (heldPairs s ++ met)))
+
+holding-ready : (s : Session) (l : List Pair) → Ready s → Ordered ahead l → length l ≤ s .query .k - s .out → Ready (holding s l)
+unfolding holding
+holding-ready s l r o h =
+    let e : take (length l) (places l) ≡ l = list-of-places l in
+    record {
+      query = r .query;
+      room = omega (arith, r .room);
+      wanted = r .wanted;
+      count = ap length e;
+      zeros = ap places (sym e);
+      order = rw e o;
+    }
+
+pub meet-ready : (s : Session) (x y : Block) → Ready s → Ready (meet s x y)
+unfolding meet
+meet-ready s x y r = go (skipped s x y)
+  where
+    go : (b : Bool) → Ready (cond b s (holding s (bestHeld s (qualifying (s .query .radius) x y))))
+    go true = r
+    go false = holding-ready s (bestHeld s (qualifying (s .query .radius) x y)) r (best-ordered s _) (best-few s _)
+
+pub blocks-ready : (field : Bool) (s : Session) (new : Block) (t : List ℤ) (depth n : ℕ) → Ready s → Ready (meetBlocks field s new t depth n)
+unfolding meetBlocks
+blocks-ready field s new t depth zero r = r
+blocks-ready field s new t depth (suc n) r = meet-ready _ _ _ (blocks-ready field s new t depth n r)
+
+-- ---- Parts of a table as blocks
+
+-- the numbers from row a + 1 to row e of a table, as the code cuts them out
+pub part-is : (t : List ℤ) (a e : ℕ) → at a (take (4 * e - 4 * a) (drop (4 * a) t)) ≡ rowsBetween t a e
+part-is t a e =
+    let n : 4 * e - 4 * a ≡ 4 * (e - a) = omega arith in
+    ap (λ (m : ℕ). at a (take m (drop (4 * a) t))) n
+
+-- they are whole rows, within a table's 65,535
+pub part-rows : (t : List ℤ) (a e : ℕ) → a ≤ e → e ≤ 65535 → 4 * e ≤ length t → Rows a (take (4 * e - 4 * a) (drop (4 * a) t))
+part-rows t a e h k l =
+    let n : length (take (4 * e - 4 * a) (drop (4 * a) t)) ≡ 4 * e - 4 * a =
+    length-take-le (4 * e - 4 * a) (drop (4 * a) t) (omega (arith, length-drop (4 * a) t)) in
+    record { whole = omega arith; few = omega arith }
+
+-- ---- A new block and an old one, as field and trim
+
+module _ (f t : List ℤ) (new old : Span) where
+  pub inside-field : (b : Bool) → Inside new (cond b f t) → Inside old (cond b t f) → Inside (cond b new old) f
+  inside-field true x y = x
+  inside-field false x y = y
+
+  pub inside-trim : (b : Bool) → Inside new (cond b f t) → Inside old (cond b t f) → Inside (cond b old new) t
+  inside-trim true x y = y
+  inside-trim false x y = x
+
+  pub parts-meet : (b : Bool) (r : Session) → meet r (rowsOf f (cond b new old)) (rowsOf t (cond b old new))
+      ≡ meet r (cond b (rowsOf (cond b f t) new) (rowsOf (cond b t f) old)) (cond b (rowsOf (cond b t f) old) (rowsOf (cond b f t) new))
+  parts-meet true r = refl
+  parts-meet false r = refl
+
+-- ---- The blocks of a table, one after the other
+
+-- block i + 1 begins above the depth, if blocks up to the n-th do
+pub block-begins : (n block depth i : ℕ) → n * block < depth + block → i < n → i * block < depth
+block-begins n block depth i h k = omega (arith, mul-le-mul-right block k, suc-mul i block)
+
+pub block-next : (block i c : ℕ) → c ≡ i * block → c + block ≡ (i + 1) * block
+block-next block i c e =
+    let s : (i + 1) * block ≡ i * block + block = ap (λ (j : ℕ). j * block) (add-one i) ∙ suc-mul i block in
+    omega arith
+
+-- one turn: the next block is met
+pub blocks-next : (field : Bool) (s : Session) (new : Block) (t : List ℤ) (depth i c g block : ℕ) (r r′ : Session) →
+    block ≡ s .query .block →
+    c ≡ i * block →
+    r ≡ meetBlocks field s new t depth i →
+    g ≡ min (c + block) depth →
+    r′ ≡ meet r (cond field new (rowsBetween t c g)) (cond field (rowsBetween t c g) new) →
+    r′ ≡ meetBlocks field s new t depth (i + 1)
+unfolding meetBlocks
+blocks-next field s new t depth i c g block r r′ eb ec er eg h =
+    let c-is : c ≡ i * s .query .block = ec ∙ ap (λ (b : ℕ). i * b) eb in
+    let g-is : g ≡ min (i * s .query .block + s .query .block) depth = eg ∙ ap₂ (λ (x y : ℕ). min (x + y) depth) c-is eb in
+    h
+    ∙ ap₂ (λ (x : Session) (y : Block). meet x (cond field new y) (cond field y new)) er (ap₂ (λ (x y : ℕ). rowsBetween t x y) c-is g-is)
+    ∙ sym (rw add-one)

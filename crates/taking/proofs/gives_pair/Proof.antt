@@ -1,0 +1,34 @@
+-- `gives_pair` meets its contract: a held pair shows that rows of both tables were read. Assumes nothing.
+use mathlib.Core.Path.{_≡_, refl, sym, _∙_}
+use Prim.Native.Nat.{_<_}
+use native.Mathlib.Omega.{arith}
+use lib.ListN.{length, length-map}
+use borrow.Author.Tests.{lt-ltb}
+use Rattle.rules.specs.Take.{givesPair}
+use Rattle.ceiling.specs.Last.{held-then-reached}
+use borrow.Author.Needs.{needs}
+use Rattle.taking.proofs.gives_pair.Statement.{statement}
+use Rattle.taking.proofs.gives_pair.Tie as tie
+
+returns : tie.Need-returns
+unfolding givesPair
+returns c = simp (c .if1 .taken) refl
+
+element-copy-out-p : tie.Need-element-copy-out-p
+element-copy-out-p c = search needs
+
+is-secured-requires : tie.Need-is-secured-requires
+is-secured-requires c κs =
+    let s = c .before .before in
+    let long : length (s .args .t3 .pairs) ≡ 64 = sym (length-map (s .args .t3 .pairs) _) ∙ s .good .1 .1 .0 .1 .1 .1 .1 .1 .1 .1 .1 .0 .1 .0 .1 in
+    held-then-reached (s .args .f .now) (s .args .t .now) (s .args .t3) (s .pre) (omega (arith, long)) (omega (arith, c .before .if1 .left))
+
+returns-2 : tie.Need-returns-2
+unfolding givesPair
+returns-2 c =
+    let s = c .before .before .before .args .t3 in
+    let some : 0 < s .held = omega (arith, c .before .before .if1 .left) in
+    simp (lt-ltb 0 (s .held) some, c .is-secured .ensures) refl
+
+pub gives-pair-spec : {M : Type 1} → statement M
+gives-pair-spec = tie.close (tie.spec returns element-copy-out-p is-secured-requires returns-2)
