@@ -1,10 +1,10 @@
--- Demand 3: what is promised of a whole sequence of calls. Definitions only; the proof is in Proved.antt. Assumes nothing.
+-- Demand 3: what is promised of a whole sequence of calls. Definitions only; the proof is in Proved.antt, and Uses.antt
+-- says what the parts come to. Assumes nothing.
 use Prim.Native.Nat.{ℕ, _+_, _*_, _-_, _≤_, max}
 use mathlib.Core.Path.{_≡_}
 use mathlib.Core.Bool.{Bool, true, cond}
 use mathlib.Core.List.{List, [], _∷_, _++_, map}
 use mathlib.Core.Logic.{_⊎_}
-use lib.Dec.{eqb}
 use lib.IntN.{ℤ}
 use lib.ListN.{length, take}
 use Rattle.rules.specs.declared.FieldRows.{FieldRows}
@@ -17,7 +17,7 @@ use Rattle.rules.specs.declared.Answer.{Answer}
 use Rattle.rules.specs.declared.Answer.the-variants.{Refused, Opened, Read, Settled, Given, NotYet, Finished}
 use Rattle.rules.specs.Tables.{rowCount, legal, row, qualifies, pairSum}
 use Rattle.rules.specs.Sure.{Sure}
-use Rattle.rules.specs.Numbers.{number}
+use Rattle.rules.specs.Numbers.{said}
 use Rattle.rules.specs.Calls.{openCall, readCall, takeCall}
 
 -- ---- A sequence of calls, as a transcript
@@ -39,7 +39,7 @@ promised reading f t s = readCall f t s
 promised taking f t s = takeCall f t s
 
 abbrev pub isAccepted : Line → Bool
-isAccepted l = eqb (number (l .gave .answer)) 0
+isAccepted l = said (l .gave .answer) .accepted
 
 -- "Each call gets the record that the call before it gave", the first one s, and gives what is promised of it. "Each
 -- accepted call is lent those two tables; one that is refused may have been lent other slices."
@@ -117,6 +117,10 @@ over f t l =
       gave = l .gave;
     }
 
+-- the answers that document 01 gives over those
+abbrev pub answersOver : Query → List ℤ → List ℤ → List Line → List Answer
+answersOver q f t lines = map (λ g. g .answer) (byRules (openCall q f t .session) (map (over f t) lines))
+
 -- "legal tables with the same row counts and the same rows up to those depths"
 pub record Alike (t u : List ℤ) (depth : ℕ) : Type 0 where
   pub lawful : legal u ≡ true
@@ -156,7 +160,7 @@ pub record Demand3 (q : Query) (f t : List ℤ) (opening : Step) (lines : List L
       Alike f f′ (lastRecord (opening .session) lines .depth .field .0) →
       Alike t t′ (lastRecord (opening .session) lines .depth .trim .0) →
       (openCall q f′ t′ .answer ≡ opening .answer)
-      × (map (λ g. g .answer) (byRules (openCall q f′ t′ .session) (map (over f′ t′) lines)) ≡ map (λ l. l .gave .answer) lines)
+      × (answersOver q f′ t′ lines ≡ map (λ l. l .gave .answer) lines)
   -- "Each answer and record, the opening's included, is the one that document 01 gives."
   pub by-rules : (opening ≡ openCall q f t) × (map (λ l. l .gave) lines ≡ byRules (openCall q f t .session) lines)
 

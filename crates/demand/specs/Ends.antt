@@ -1,10 +1,10 @@
--- Fact 6, proved: over the two tables no call is refused, reads are few, and a settled session's take has an answer. Assumes legal tables.
+-- Fact 6, proved: over the two tables no call is refused, reads are few, and a settled session's take has an answer.
+-- Assumes legal tables.
 use mathlib.Core.Path.{_≡_, refl, sym, ap, ap₂, subst, _∙_}
 use mathlib.Core.Bool.{Bool, true, false, cond}
 use mathlib.Core.List.{List, [], _∷_, _++_}
 use Prim.Native.Nat.{_+_, _≤_}
 use native.Mathlib.Omega.{arith}
-use lib.Dec.{eqb}
 use lib.IntN.{ℤ}
 use borrow.Author.Tests.{eq-eqb}
 use Rattle.lists.specs.Words.{total}
@@ -18,10 +18,10 @@ use Rattle.rules.specs.Tables.{rowCount, legal}
 use Rattle.rules.specs.Session.{settled}
 use Rattle.rules.specs.Read.{readBlock}
 use Rattle.rules.specs.Take.{firstHeld, givesPair, movedOut, finished}
-use Rattle.rules.specs.Numbers.{number}
+use Rattle.rules.specs.Numbers.{said}
 use Rattle.rules.specs.Calls.{queryCode, callCode, newBlockCode, step, openCall, readCall, takeCall}
 use Rattle.tables_join.specs.Keeping.{Reached}
-use Rattle.tables_join.specs.Opening.{legal-opened, query-wanted}
+use Rattle.tables_join.specs.Opening.{legal-opened}
 use Rattle.tables_join.specs.Sound.{Sound}
 use Rattle.tables_join.specs.Taking.{gives-some}
 use Rattle.tables_join.specs.Unrefused.{sound-open, sound-read, sound-take, reached-fits}
@@ -30,50 +30,61 @@ use Rattle.tables_join.specs.Depths.{depths, read-deeper}
 use Rattle.tables_join.specs.Accepting.{call-accepted, new-block-accepted}
 use Rattle.demand.specs.Demand.{Call, reading, taking, Line, promised, isAccepted, Sequence, Follows, lastRecord}
 use Rattle.demand.specs.GetsThere.{GetsThere, runOf}
-use Rattle.demand.specs.Steps.{Happened, readsOf, Changed, kept, deeper, fewer}
+use Rattle.demand.specs.Steps.{readsOf, Changed, kept, deeper, fewer}
 use Rattle.demand.specs.Outcomes.{said-not-yet}
 use Rattle.demand.specs.Openings.{opening-query, opening-is}
-use Rattle.demand.specs.Sequences.{follows-before, line-changed, next-reached, lines-reached, lines-keep, reached, reached-before}
+use Rattle.demand.specs.Sequences.{line-changed, next-reached, lines-reached, lines-keep}
+use Rattle.demand.specs.Sequences.{reached, some-block, calls-before, reached-before, happened-then}
 
 -- No call is refused
 
 module _ (f t : List ℤ) (s : Session) (a : callCode f t s ≡ 0) where
-  read-accepted : newBlockCode f t s ≡ 0 → eqb (number (readCall f t s .answer)) 0 ≡ true
+  read-accepted : newBlockCode f t s ≡ 0 → said (readCall f t s .answer) .accepted ≡ true
   unfolding readCall
   read-accepted b = rw (eq-eqb (callCode f t s) 0 a, eq-eqb (newBlockCode f t s) 0 b) (go (settled f t s))
     where
-      go : (b : Bool) → eqb (number (cond b (step Settled s) (step Read (readBlock f t s)) .answer)) 0 ≡ true
+      go : (b : Bool) → said (cond b (step Settled s) (step Read (readBlock f t s)) .answer) .accepted ≡ true
       go true = refl
       go false = refl
 
-  take-accepted : eqb (number (takeCall f t s .answer)) 0 ≡ true
+  take-accepted : said (takeCall f t s .answer) .accepted ≡ true
   unfolding takeCall
   take-accepted = rw (eq-eqb (callCode f t s) 0 a) (go (givesPair f t s) (finished s))
     where
-      go : (x y : Bool) → eqb (number (cond x (step (Given (firstHeld s)) (movedOut s)) (cond y (step Finished s) (step NotYet s)) .answer)) 0 ≡ true
+      given : Step
+      given = step (Given (firstHeld s)) (movedOut s)
+
+      go : (x y : Bool) → said (cond x given (cond y (step Finished s) (step NotYet s)) .answer) .accepted ≡ true
       go true y = refl
       go false true = refl
       go false false = refl
 
 module _ (q : Query) (f t : List ℤ) (g : legal f ≡ true) (h : legal t ≡ true) (size : 1 ≤ q .block) where
   call-unrefused : queryCode q ≡ 0 → {out : List Pair} {s : Session} → Reached q f t out s → Sound s → (c : Call)
-      → eqb (number (promised c f t s .answer)) 0 ≡ true
+      → said (promised c f t s .answer) .accepted ≡ true
   call-unrefused k {out} {s} a b c = go c
     where
       accepted : callCode f t s ≡ 0
-      accepted = call-accepted f t s g h (a .field-rows) (a .trim-rows) (a .field-depth) (a .trim-depth) (reached-fits a b g h k)
+      accepted =
+          call-accepted f t s g h (a .field-rows) (a .trim-rows) (a .field-depth) (a .trim-depth)
+          (reached-fits a b g h k)
 
-      go : (c : Call) → eqb (number (promised c f t s .answer)) 0 ≡ true
-      go reading = read-accepted f t s accepted (new-block-accepted f t s g h (a .field-rows) (a .trim-rows) (a .field-depth) (a .trim-depth))
+      new-accepted : newBlockCode f t s ≡ 0
+      new-accepted = new-block-accepted f t s g h (a .field-rows) (a .trim-rows) (a .field-depth) (a .trim-depth)
+
+      go : (c : Call) → said (promised c f t s .answer) .accepted ≡ true
+      go reading = read-accepted f t s accepted new-accepted
       go taking = take-accepted f t s accepted
 
-  line-sound : {out : List Pair} {s : Session} (x : Step) → Reached q f t out s → Sound s → Changed f t s x → Sound (x .session)
-  line-sound x a b (kept e o r) = subst Sound (sym e) b
-  line-sound x a b (deeper d e) = subst (λ y. Sound (y .session)) (sym e) (sound-read a b size d)
-  line-sound {s = s} x a b (fewer d e) = subst (λ y. Sound (y .session)) (sym e) (sound-take a b (gives-some f t s d))
+  line-sound : (out : List Pair) (s : Session) (x : Step) → Reached q f t out s → Sound s → Changed f t s x
+      → Sound (x .session)
+  line-sound out s x a b (kept e o r) = subst Sound (sym e) b
+  line-sound out s x a b (deeper d e) = subst (λ y. Sound (y .session)) (sym e) (sound-read a b size d)
+  line-sound out s x a b (fewer d e) = subst (λ y. Sound (y .session)) (sym e) (sound-take a b (gives-some f t s d))
 
-  lines-sound : (lines : List Line) {out : List Pair} {s : Session} → Reached q f t out s → Sound s → Follows f t s lines → Sound (lastRecord s lines)
-  lines-sound lines a b w = lines-keep q f t g h size Sound (λ out s. line-sound {out = out} {s = s}) lines a b w
+  lines-sound : (lines : List Line) {out : List Pair} {s : Session} → Reached q f t out s → Sound s
+      → Follows f t s lines → Sound (lastRecord s lines)
+  lines-sound = lines-keep q f t g h size Sound line-sound
 
   -- Reads are few
 
@@ -83,7 +94,8 @@ module _ (q : Query) (f t : List ℤ) (g : legal f ≡ true) (h : legal t ≡ tr
   line-reads x a (kept e o r) = omega (arith, r, ap depths e)
   line-reads {s = s} x a (deeper d e) =
       subst (λ y. depths s + readsOf (y .answer) ≤ depths (y .session)) (sym e) (omega (arith, read-deeper a size d))
-  line-reads {s = s} x a (fewer d e) = subst (λ y. depths s + readsOf (y .answer) ≤ depths (y .session)) (sym e) (omega arith)
+  line-reads {s = s} x a (fewer d e) =
+      subst (λ y. depths s + readsOf (y .answer) ≤ depths (y .session)) (sym e) (omega arith)
 
   lines-reads : (lines : List Line) {out : List Pair} {s : Session} → Reached q f t out s → Follows f t s lines
       → depths s + total (λ l. readsOf (l .gave .answer)) lines ≤ depths (lastRecord s lines)
@@ -94,44 +106,47 @@ module _ (q : Query) (f t : List ℤ) (g : legal f ≡ true) (h : legal t ≡ tr
       let y = lines-reads lines (next-reached q f t g h size a l lines w) (w .2) in
       omega arith
 
--- In a settled session
-
-call-waits : {q : Query} {f t : List ℤ} {out : List Pair} {s : Session} → Reached q f t out s → (c : Call) (x : Step) → settled f t s ≡ true
-    → x .answer ≡ NotYet → Happened f t s c x → ⊥
-call-waits {f = f} {t = t} {s = s} a c x e w o = let d = said-not-yet f t s c x w o in clash (settled-take a e (d .0)) (d .1)
-
 -- Of the whole sequence
 
-pub gets-there : (q : Query) (f t : List ℤ) (opening : Step) (lines : List Line) → Sequence q f t opening lines → GetsThere q f t opening lines
-gets-there q f t opening lines w = record {
-  unrefused = unrefused;
+module _ {q : Query} {f t : List ℤ} {opening : Step} {lines : List Line} (w : Sequence q f t opening lines) where
+  begun-sound : Sound (opening .session)
+  begun-sound =
+      subst (λ x. Sound (x .session)) (sym (opening-is w))
+      (sound-open q (record { 0 = rowCount f }) (record { 0 = rowCount t }))
+
+  few-reads : total (λ l. readsOf (l .gave .answer)) lines ≤ rowCount f + rowCount t
   few-reads =
-      let x = lines-reads q f t g h size lines (reached w) (w .calls) in
-      let y = lines-reached q f t g h size lines (reached w) (w .calls) in
-      omega (arith, y .field-depth, y .trim-depth);
-  never-waits = λ before after l e s y. let r = reached-before w before after l e in call-waits (r .0) (l .call) (l .gave) s y (r .1);
-}
-  where
-    g : legal f ≡ true
-    g = w .field-legal
+      let x = lines-reads q f t (w .field-legal) (w .trim-legal) (some-block w) lines (reached w) (w .calls) in
+      let y = lines-reached q f t (w .field-legal) (w .trim-legal) (some-block w) lines (reached w) (w .calls) in
+      omega (arith, y .field-depth, y .trim-depth)
 
-    h : legal t ≡ true
-    h = w .trim-legal
+  module _ (before after : List Line) (l : Line) (e : lines ≡ before ++ l ∷ after) where
+    abbrev given : Session
+    given = lastRecord (opening .session) before
 
-    size : 1 ≤ q .block
-    size = query-wanted q (opening-query w) .1
+    sound-before : Sound given
+    sound-before =
+        lines-sound q f t (w .field-legal) (w .trim-legal) (some-block w) before (reached w) begun-sound
+        (calls-before w before after l e .0)
 
-    sound : Sound (opening .session)
-    sound = subst (λ x. Sound (x .session)) (sym (opening-is w)) (sound-open q (record { 0 = rowCount f }) (record { 0 = rowCount t }))
+    unrefused : l .field ≡ f → l .trim ≡ t → isAccepted l ≡ true
+    unrefused u v =
+        let gave : l .gave ≡ promised (l .call) f t given =
+        calls-before w before after l e .1 .0 ∙ ap₂ (λ f t. promised (l .call) f t given) u v in
+        ap (λ x. said (x .answer) .accepted) gave
+        ∙ call-unrefused q f t (w .field-legal) (w .trim-legal) (some-block w) (opening-query w)
+        (reached-before w before after l e) sound-before (l .call)
 
-    unrefused : (before after : List Line) (l : Line) → lines ≡ before ++ l ∷ after → l .field ≡ f → l .trim ≡ t → isAccepted l ≡ true
-    unrefused before after l e u v =
-        let s : Session = lastRecord (opening .session) before in
-        let c = follows-before f t before (l ∷ after) (opening .session) (subst (Follows f t (opening .session)) e (w .calls)) in
-        let gave : l .gave ≡ promised (l .call) f t s = c .1 .0 ∙ ap₂ (λ f t. promised (l .call) f t s) u v in
-        ap (λ x. eqb (number (x .answer)) 0) gave
-        ∙ call-unrefused q f t g h size (opening-query w) (reached-before w before after l e .0)
-        (lines-sound q f t g h size before (reached w) sound (c .0)) (l .call)
+    -- in a settled session a take has an answer
+    never-waits : settled f t given ≡ true → l .gave .answer ≡ NotYet → ⊥
+    never-waits z y =
+        let d = said-not-yet f t given (l .call) (l .gave) y (happened-then w before after l e) in
+        clash (settled-take (reached-before w before after l e) z (d .0)) (d .1)
+
+pub gets-there : (q : Query) (f t : List ℤ) (opening : Step) (lines : List Line) → Sequence q f t opening lines
+    → GetsThere q f t opening lines
+gets-there q f t opening lines w =
+    record { unrefused = unrefused w; few-reads = few-reads w; never-waits = never-waits w }
 
 -- There are such sequences: any calls whatever, over any two legal tables
 

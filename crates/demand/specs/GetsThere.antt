@@ -1,4 +1,5 @@
--- Fact 6, said of a whole sequence: it is never refused, and it gets to its end. Definitions only; the proof is in Ends.antt. Assumes nothing.
+-- Fact 6, said of a whole sequence: it is never refused, and it gets to its end. Definitions only; the proof is in
+-- Ends.antt. Assumes nothing.
 use Prim.Native.Nat.{_+_, _≤_}
 use mathlib.Core.Path.{_≡_}
 use mathlib.Core.Bool.{true}
@@ -16,12 +17,13 @@ use Rattle.demand.specs.Steps.{readsOf}
 
 pub record GetsThere (q : Query) (f t : List ℤ) (opening : Step) (lines : List Line) : Type 0 where
   -- a call that is lent the two tables is not refused
-  pub unrefused : (before after : List Line) (l : Line) → lines ≡ before ++ l ∷ after → l .field ≡ f → l .trim ≡ t → isAccepted l ≡ true
+  pub unrefused : (before after : List Line) (l : Line) → lines ≡ before ++ l ∷ after → l .field ≡ f → l .trim ≡ t
+      → isAccepted l ≡ true
   -- no more blocks are read than there are rows
   pub few-reads : total (λ l. readsOf (l .gave .answer)) lines ≤ rowCount f + rowCount t
   -- in a settled session no take says "not yet"
-  pub never-waits : (before after : List Line) (l : Line) → lines ≡ before ++ l ∷ after → settled f t (lastRecord (opening .session) before) ≡ true
-      → l .gave .answer ≡ NotYet → ⊥
+  pub never-waits : (before after : List Line) (l : Line) → lines ≡ before ++ l ∷ after
+      → settled f t (lastRecord (opening .session) before) ≡ true → l .gave .answer ≡ NotYet → ⊥
 
 -- the transcript of these calls, each lent the two tables
 unfoldable pub runOf : List ℤ → List ℤ → Session → List Call → List Line

@@ -3,7 +3,12 @@ pub mod Steps
 pub mod Outcomes
 pub mod Openings
 pub mod Sequences
+pub mod Named
 pub mod Proved
 pub mod GetsThere
 pub mod Ends
+pub mod Transcript
+pub mod Uses
 pub mod FinishedBest
+pub mod Worked
+pub mod Edge

@@ -14,14 +14,18 @@ use Rattle.rules.specs.Take.{firstHeld, givesPair, movedOut, finished}
 use Rattle.rules.specs.Calls.{callCode, newBlockCode, step}
 use Rattle.demand.specs.Demand.{Call, reading, taking, broughtBy}
 
--- the call c, given record s, gave g: refused it gave s back; else it was lent tables f and t, and did one of five things
+-- the call c, given record s, gave g: refused it gave s back; else it was lent tables f and t, and did one of five
 pub data Happened (f t : List ℤ) (s : Session) (c : Call) (g : Step) : Type 0 where
-  refused : (n : ℕ) → (n ≡ 0 → ⊥) → g ≡ step (Refused n) s → Happened f t s c g
+  refused : (n : ℕ) → g ≡ step (Refused n) s → Happened f t s c g
   settling : c ≡ reading → callCode f t s ≡ 0 → settled f t s ≡ true → g ≡ step Settled s → Happened f t s c g
-  going : c ≡ reading → callCode f t s ≡ 0 → settled f t s ≡ false → newBlockCode f t s ≡ 0 → g ≡ step Read (readBlock f t s) → Happened f t s c g
-  giving : c ≡ taking → callCode f t s ≡ 0 → givesPair f t s ≡ true → g ≡ step (Given (firstHeld s)) (movedOut s) → Happened f t s c g
-  finishing : c ≡ taking → callCode f t s ≡ 0 → givesPair f t s ≡ false → finished s ≡ true → g ≡ step Finished s → Happened f t s c g
-  waiting : c ≡ taking → callCode f t s ≡ 0 → givesPair f t s ≡ false → finished s ≡ false → g ≡ step NotYet s → Happened f t s c g
+  going : c ≡ reading → callCode f t s ≡ 0 → settled f t s ≡ false → newBlockCode f t s ≡ 0
+      → g ≡ step Read (readBlock f t s) → Happened f t s c g
+  giving : c ≡ taking → callCode f t s ≡ 0 → givesPair f t s ≡ true → g ≡ step (Given (firstHeld s)) (movedOut s)
+      → Happened f t s c g
+  finishing : c ≡ taking → callCode f t s ≡ 0 → givesPair f t s ≡ false → finished s ≡ true → g ≡ step Finished s
+      → Happened f t s c g
+  waiting : c ≡ taking → callCode f t s ≡ 0 → givesPair f t s ≡ false → finished s ≡ false → g ≡ step NotYet s
+      → Happened f t s c g
 
 -- 1 for a call that read a block
 abbrev pub readsOf : Answer → ℕ

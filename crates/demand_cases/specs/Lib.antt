@@ -1,4 +1,1 @@
-pub mod Transcript
-pub mod Worked
-pub mod Edge
 pub mod Wrong

@@ -4,11 +4,10 @@ use mathlib.Core.Path.{_≡_, refl}
 use mathlib.Core.Bool.{Bool, true, false, cond}
 use mathlib.Core.List.{List, []}
 use Prim.Native.Nat.{ℕ, zero, suc, _+_, _-_, _≤_, _<_, max}
+use native.Mathlib.Omega.{arith}
 use lib.Dec.{eqb, ltb, leb, lit<, lit≤}
 use lib.IntN.{ℤ, pos}
 use Rattle.lists.specs.Lists.{atLeast}
-use Rattle.rules.specs.declared.FieldRows.{FieldRows}
-use Rattle.rules.specs.declared.TrimRows.{TrimRows}
 use Rattle.rules.specs.declared.Query.{Query}
 use Rattle.rules.specs.declared.Session.{Session}
 use Rattle.rules.specs.Session.{lastScore, fieldReadOut, trimReadOut, settled}
@@ -19,8 +18,8 @@ use Rattle.rules.specs.Calls.{openCall, readCall}
 use Rattle.rules.specs.Run.{run}
 use Rattle.tables_join.specs.SureTest.{isSure, ceilingAt}
 use Rattle.tables_join.specs.SureTestLaws.{sure-is-test}
-use Rattle.demand.specs.Demand.{Qualifying, sumOf}
-use Rattle.demand_cases.specs.Transcript.{row}
+use Rattle.demand.specs.Demand.{Qualifying, Brought}
+use Rattle.demand.specs.Transcript.{rowThen, topOne, fieldRows, trimRows}
 
 -- ---- Rules for the table that is read next
 
@@ -56,53 +55,43 @@ rowsBy rule q f t =
     let s = readBy 12 rule f t (openCall q f t .session) in
     max (s .depth .field .0) (s .depth .trim .0)
 
-abbrev two : FieldRows
-two = record { 0 = 2 }
-
-abbrev twoTrim : TrimRows
-twoTrim = record { 0 = 2 }
-
-abbrev best : Query
-best = record { k = 1; block = 1; radius = 0 }
-
 -- the pair that matters is field row 1 with trim row 2, and trim scores lie below all field scores
 abbrev highFields : List ℤ
-highFields = row (pos 100) (pos 0) (row (pos 90) (pos 7) (row (pos 80) (pos 7) (row (pos 70) (pos 7) [])))
+highFields =
+    rowThen (pos 100) (pos 0) (rowThen (pos 90) (pos 7) (rowThen (pos 80) (pos 7) (rowThen (pos 70) (pos 7) [])))
 
 abbrev lowTrims : List ℤ
-lowTrims = row (pos 10) (pos 9) (row (pos 9) (pos 0) (row (pos 8) (pos 9) []))
+lowTrims = rowThen (pos 10) (pos 9) (rowThen (pos 9) (pos 0) (rowThen (pos 8) (pos 9) []))
 
-sure-low : Sure 1 0 highFields lowTrims two twoTrim
+sure-low : Sure 1 0 highFields lowTrims (fieldRows 2) (trimRows 2)
 unfolding run isSure ceilingAt qualifyingSums atLeast
-sure-low = sure-is-test highFields lowTrims refl refl two twoTrim 1 0 (lit≤ tt) .1 refl
+sure-low = sure-is-test highFields lowTrims refl refl (fieldRows 2) (trimRows 2) 1 0 (lit≤ tt) .1 refl
 
 -- the row limit, here 2, is broken by the last-score rule and kept by document 01's
-pub last-score-breaks-limit : Sure 1 0 highFields lowTrims two twoTrim × (max 2 2 + 1 - 1 < rowsBy byLastScore best highFields lowTrims) × (rowsBy byDrops best highFields lowTrims ≡ 2)
+pub last-score-breaks-limit : Sure 1 0 highFields lowTrims (fieldRows 2) (trimRows 2)
+    × (max 2 2 + 1 - 1 < rowsBy byLastScore (topOne 1) highFields lowTrims)
+    × (rowsBy byDrops (topOne 1) highFields lowTrims ≡ 2)
 unfolding run
 last-score-breaks-limit = (sure-low, lit< tt, refl)
 
 -- a plateau of equal scores in the field table
 abbrev plateau : List ℤ
-plateau = row (pos 5) (pos 0) (row (pos 5) (pos 7) (row (pos 5) (pos 7) (row (pos 5) (pos 7) [])))
+plateau = rowThen (pos 5) (pos 0) (rowThen (pos 5) (pos 7) (rowThen (pos 5) (pos 7) (rowThen (pos 5) (pos 7) [])))
 
 abbrev level : List ℤ
-level = row (pos 5) (pos 9) (row (pos 5) (pos 0) (row (pos 5) (pos 9) []))
+level = rowThen (pos 5) (pos 9) (rowThen (pos 5) (pos 0) (rowThen (pos 5) (pos 9) []))
 
-sure-level : Sure 1 0 plateau level two twoTrim
+sure-level : Sure 1 0 plateau level (fieldRows 2) (trimRows 2)
 unfolding run isSure ceilingAt qualifyingSums atLeast
-sure-level = sure-is-test plateau level refl refl two twoTrim 1 0 (lit≤ tt) .1 refl
+sure-level = sure-is-test plateau level refl refl (fieldRows 2) (trimRows 2) 1 0 (lit≤ tt) .1 refl
 
-pub equal-drops-break-limit : Sure 1 0 plateau level two twoTrim × (max 2 2 + 1 - 1 < rowsBy equalDropsField best plateau level) × (rowsBy byDrops best plateau level ≡ 2)
+pub equal-drops-break-limit : Sure 1 0 plateau level (fieldRows 2) (trimRows 2)
+    × (max 2 2 + 1 - 1 < rowsBy equalDropsField (topOne 1) plateau level)
+    × (rowsBy byDrops (topOne 1) plateau level ≡ 2)
 unfolding run
 equal-drops-break-limit = (sure-level, lit< tt, refl)
 
 -- ---- Reading everything at the first read
-
-abbrev one : FieldRows
-one = record { 0 = 1 }
-
-abbrev oneTrim : TrimRows
-oneTrim = record { 0 = 1 }
 
 -- all rows that remain in place of one block: the field depth after the first read
 abbrev readsAll : Query → List ℤ → List ℤ → ℕ
@@ -110,30 +99,36 @@ readsAll q f t =
     let s = openCall q f t .session in
     readTo (fieldNext f t s) (s .rows .field .0) s .depth .field .0
 
-sure-first : Sure 1 0 plateau plateau one oneTrim
+sure-first : Sure 1 0 plateau plateau (fieldRows 1) (trimRows 1)
 unfolding run isSure ceilingAt qualifyingSums atLeast
-sure-first = sure-is-test plateau plateau refl refl one oneTrim 1 0 (lit≤ tt) .1 refl
+sure-first = sure-is-test plateau plateau refl refl (fieldRows 1) (trimRows 1) 1 0 (lit≤ tt) .1 refl
 
-pub reading-all-breaks-limit : Sure 1 0 plateau plateau one oneTrim × (max 1 1 + 1 - 1 < readsAll best plateau plateau) × (rowsBy byDrops best plateau plateau ≡ 1)
+pub reading-all-breaks-limit : Sure 1 0 plateau plateau (fieldRows 1) (trimRows 1)
+    × (max 1 1 + 1 - 1 < readsAll (topOne 1) plateau plateau)
+    × (rowsBy byDrops (topOne 1) plateau plateau ≡ 1)
 unfolding run
 reading-all-breaks-limit = (sure-first, lit< tt, refl)
 
 -- ---- Taking the best held pair before the ceiling is down to it
 
 abbrev crossed : List ℤ
-crossed = row (pos 10) (pos 1) (row (pos 1) (pos 2) [])
+crossed = rowThen (pos 10) (pos 1) (rowThen (pos 1) (pos 2) [])
 
 abbrev crossing : List ℤ
-crossing = row (pos 10) (pos 2) (row (pos 9) (pos 1) [])
+crossing = rowThen (pos 10) (pos 2) (rowThen (pos 9) (pos 1) [])
 
 abbrev after : Session → Session
 after s = readCall crossed crossing s .session
 
 abbrev read3 : Session
-read3 = after (after (after (openCall best crossed crossing .session)))
+read3 = after (after (after (openCall (topOne 1) crossed crossing .session)))
 
 -- after three reads the best held pair has sum 11, and a qualifying pair that is not out has sum 19
-pub too-early-breaks-highest : Qualifying best crossed crossing 1 2 × (firstHeld read3 .sum < sumOf crossed crossing 1 2)
+higher : Qualifying (topOne 1) crossed crossing 1 2
 unfolding run
-too-early-breaks-highest =
-    (record { field-row = (lit≤ tt, lit≤ tt); trim-row = (lit≤ tt, lit≤ tt); near = refl }, lit< tt)
+higher = record { field-row = (lit≤ tt, lit≤ tt); trim-row = (lit≤ tt, lit≤ tt); near = refl }
+
+pub too-early-breaks-highest : Brought (topOne 1) crossed crossing [] (firstHeld read3) → ⊥
+unfolding run
+too-early-breaks-highest b =
+    let k : 19 ≤ 11 = b .highest 1 2 higher (λ o. o) in omega arith

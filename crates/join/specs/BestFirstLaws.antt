@@ -21,24 +21,33 @@ use Rattle.join.specs.HeldLaws.{count-inside, count-among}
 use Rattle.join.specs.BestFirst.{BestFirst}
 
 module _ {P : Type 0} {ahead : P → P → Bool} {sum : P → ℕ} (rank : Rank ahead sum) (Fits : P → Type 0) where
+  -- l has all that fit and pass c
+  abbrev HasPassed : ℕ → List P → Type 0
+  HasPassed c l = (x : P) → Fits x → c ≤ sum x → List·Memᴰ x l
+
   -- of a list brought out best first, all pass c, or all that pass c are in it or were out
   passed-or-all : (c : ℕ) (out l : List P) → BestFirst sum Fits out l
-      → ((x : P) → Fits x → c ≤ sum x → List·Memᴰ x (out ++ l)) ⊎ (length l ≤ atLeast c (map sum l))
+      → HasPassed c (out ++ l) ⊎ (length l ≤ atLeast c (map sum l))
   passed-or-all c out [] b = inr (omega arith)
   passed-or-all c out (p ∷ l) b = go (decLe c (sum p)) (passed-or-all c (out ++ p ∷ []) l (b .1))
     where
-      go : Dec (c ≤ sum p) → ((x : P) → Fits x → c ≤ sum x → List·Memᴰ x ((out ++ p ∷ []) ++ l)) ⊎ (length l ≤ atLeast c (map sum l))
-          → ((x : P) → Fits x → c ≤ sum x → List·Memᴰ x (out ++ p ∷ l)) ⊎ (suc (length l) ≤ atLeast c (sum p ∷ map sum l))
+      go : Dec (c ≤ sum p) → HasPassed c ((out ++ p ∷ []) ++ l) ⊎ (length l ≤ atLeast c (map sum l))
+          → HasPassed c (out ++ p ∷ l) ⊎ (suc (length l) ≤ atLeast c (sum p ∷ map sum l))
       go (yes h) (inl w) = inl (λ x k i. subst (List·Memᴰ x) (append-assoc out (p ∷ []) l) (w x k i))
       go (yes h) (inr w) = inr (omega (arith, count-cons c (sum p) (map sum l), ap one (le-leb c (sum p) h)))
-      go (no h) w = inl (λ x k i. ⊎-elim (Memᴰ·append-left (p ∷ l)) (λ new. absurd (omega (arith, b .0 x k new))) (member ahead (rank .order) x out))
+      go (no h) w =
+          inl
+          (λ x k i. ⊎-elim (Memᴰ·append-left (p ∷ l)) (λ new. absurd (omega (arith, b .0 x k new)))
+          (member ahead (rank .order) x out))
 
   -- its sums fall
   first-falls : (out l : List P) → Distinct (out ++ l) → ((x : P) → List·Memᴰ x l → Fits x) → BestFirst sum Fits out l
       → Ordered (λ x y. ltb y x) (map sum l)
   first-falls out [] d h b = tt
-  first-falls out (p ∷ l) d h b =
-      (all-of (λ y. ltb (sum p) y ≡ false) (map sum l) later, first-falls (out ++ p ∷ []) l rest (λ x m. h x (List·Memᴰ·tail m)) (b .1))
+  first-falls out (p ∷ l) d h b = (
+    all-of (λ y. ltb (sum p) y ≡ false) (map sum l) later,
+    first-falls (out ++ p ∷ []) l rest (λ x m. h x (List·Memᴰ·tail m)) (b .1),
+  )
     where
       rest : Distinct ((out ++ p ∷ []) ++ l)
       rest = subst Distinct (sym (append-assoc out (p ∷ []) l)) d
@@ -51,14 +60,19 @@ module _ {P : Type 0} {ahead : P → P → Bool} {sum : P → ℕ} (rank : Rank 
 
   -- complete: k are in it, or all there are
   module _ (k : ℕ) (all l : List P) (d : Distinct all) (e : (x : P) → Fits x ↔ List·Memᴰ x all) (once : Distinct l)
-      (fit : (x : P) → List·Memᴰ x l → Fits x)
-      (b : BestFirst sum Fits [] l) (room : length l ≤ k) (complete : (length l ≡ k) ⊎ ((x : P) → Fits x → List·Memᴰ x l)) where
+      (fit : (x : P) → List·Memᴰ x l → Fits x) (b : BestFirst sum Fits [] l) (room : length l ≤ k)
+      (complete : (length l ≡ k) ⊎ ((x : P) → Fits x → List·Memᴰ x l)) where
     first-counts : (c : ℕ) → min k (atLeast c (map sum l)) ≡ min k (atLeast c (map sum all))
-    first-counts c =
-        let few : atLeast c (map sum l) ≤ atLeast c (map sum all) = count-inside rank c l all once (λ x m. e x .0 (fit x m)) in
-        ⊎-elim (λ w. let k = count-among rank c all l d (λ x m i. w x (e x .1 m) i) in omega arith)
-        (λ w. ⊎-elim (λ z. omega arith) (λ z. let k = count-inside rank c all l d (λ x m. z x (e x .1 m)) in omega arith) complete)
-        (passed-or-all c [] l b)
+    first-counts c = ⊎-elim has-passed (λ w. ⊎-elim (λ z. omega (arith, few)) has-all complete) (passed-or-all c [] l b)
+      where
+        few : atLeast c (map sum l) ≤ atLeast c (map sum all)
+        few = count-inside rank c l all once (λ x m. e x .0 (fit x m))
+
+        has-passed : HasPassed c l → min k (atLeast c (map sum l)) ≡ min k (atLeast c (map sum all))
+        has-passed w = omega (arith, few, count-among rank c all l d (λ x m i. w x (e x .1 m) i))
+
+        has-all : ((x : P) → Fits x → List·Memᴰ x l) → min k (atLeast c (map sum l)) ≡ min k (atLeast c (map sum all))
+        has-all z = omega (arith, few, count-inside rank c all l d (λ x m. z x (e x .1 m)))
 
     -- its sums are the k highest of all
     pub best-first-sums : map sum l ≡ best k (map sum all)

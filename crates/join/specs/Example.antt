@@ -35,10 +35,22 @@ same-place m n = rw (gap-same m, gap-same n)
     gap-same n = omega arith
 
 match : Matches rows rows near
-match = record { like = λ x y. row (x .score) (y .a) (y .b); good = λ x y g h. tt; level = λ x y g h. refl; fits = λ x y g h. same-place (y .a) (y .b) }
+match =
+    record {
+      like = λ x y. row (x .score) (y .a) (y .b);
+      good = λ x y g h. tt;
+      level = λ x y g h. refl;
+      fits = λ x y g h. same-place (y .a) (y .b);
+    }
 
 match′ : Matches rows rows (flip near)
-match′ = record { like = λ y x. row (y .score) (x .a) (x .b); good = λ y x g h. tt; level = λ y x g h. refl; fits = λ y x g h. same-place (x .a) (x .b) }
+match′ =
+    record {
+      like = λ y x. row (y .score) (x .a) (x .b);
+      good = λ y x g h. tt;
+      level = λ y x g h. refl;
+      fits = λ y x g h. same-place (x .a) (x .b);
+    }
 
 laws : Laws (plain rows) (plain rows) near
 laws = plain-laws rows rows near match match′ (lit≤ tt) (lit≤ tt) (row 0 0 0) (row 0 0 0) tt tt

@@ -13,13 +13,15 @@ pub record Rank {P : Type 0} (ahead : P → P → Bool) (sum : P → ℕ) : Type
   pub order : Strict ahead
   pub higher : (p q : P) → sum q < sum p → ahead p q ≡ true
 
--- fact 4: the pairs of the region that are not out, ranked, are `rest`, and the held pairs are the first of them, at most k
+-- fact 4: the pairs of the region that are not out, ranked, are `rest`, and the held pairs are the first of them, at
+-- most k
 -- less those out
-pub record Holds {P : Type 0} (ahead : P → P → Bool) (k : ℕ) (Region : P → Type 0) (out rest held : List P) : Type 0 where
-  pub in-rank : ranked ahead rest ≡ true
-  pub front : held ≡ take (k - length out) rest
-  pub room : length out ≤ k
-  pub once : Distinct out
-  pub apart : (p : P) → List·Memᴰ p out → List·Memᴰ p rest → ⊥
-  pub inside : (p : P) → List·Memᴰ p out ⊎ List·Memᴰ p rest → Region p
-  pub known : (p : P) → Region p → List·Memᴰ p out ⊎ List·Memᴰ p rest
+pub record Holds {P : Type 0} (ahead : P → P → Bool) (k : ℕ) (Region : P → Type 0) (out rest held : List P) : Type 0
+  where
+    pub in-rank : ranked ahead rest ≡ true
+    pub front : held ≡ take (k - length out) rest
+    pub room : length out ≤ k
+    pub once : Distinct out
+    pub apart : (p : P) → List·Memᴰ p out → List·Memᴰ p rest → ⊥
+    pub inside : (p : P) → List·Memᴰ p out ⊎ List·Memᴰ p rest → Region p
+    pub known : (p : P) → Region p → List·Memᴰ p out ⊎ List·Memᴰ p rest

@@ -1,4 +1,5 @@
--- Two tables read from the top, a test on their rows, and what a reading of p and q rows says of the highest sums. Definitions only. Assumes nothing.
+-- Two tables read from the top, a test on their rows, and what a reading of p and q rows says of the highest sums.
+-- Definitions only. Assumes nothing.
 use Prim.Native.Nat.{ℕ, suc, _+_, _-_, _≤_, _<_, max}
 use mathlib.Core.Path.{_≡_}
 use mathlib.Core.Bool.{Bool, true, false, cond, _&&_, _||_}
@@ -39,7 +40,8 @@ last S l n = weightAt S l (n - 1)
 abbrev pub dropAt : {A : Type 0} → Side A → List A → ℕ → ℕ
 dropAt S l n = first S l - last S l n
 
--- l′ is a legal table that begins with the first n rows of l; where the last row of l is within these, l′ is known to end there
+-- l′ is a legal table that begins with the first n rows of l; where the last row of l is within these, l′ is known to
+-- end there
 pub record Begins {A : Type 0} (S : Side A) (n : ℕ) (l l′ : List A) : Type 0 where
   pub legal : S .Legal l′
   pub rows : take n l ≡ take n l′
@@ -48,30 +50,44 @@ pub record Begins {A : Type 0} (S : Side A) (n : ℕ) (l l′ : List A) : Type 0
 module _ {A B : Type 0} (S : Side A) (U : Side B) where
   -- document 01's ceiling at depths p and q: the higher of HF + LT, if trim is not ended, and LF + HT, if field is not
   unfoldable pub ceiling : List A → ℕ → List B → ℕ → ℕ
-  ceiling F p T q = max (cond (U .ended T q) 0 (first S F + last U T q)) (cond (S .ended F p) 0 (last S F p + first U T))
+  ceiling F p T q =
+      max (cond (U .ended T q) 0 (first S F + last U T q)) (cond (S .ended F p) 0 (last S F p + first U T))
+
+  -- of two tables that were read, the field table not to its end, it goes first: the other is ended, or its own drop is
+  -- smaller, or the drops are equal and it has not more rows read
+  abbrev pub Preferred : List A → ℕ → List B → ℕ → Type 0
+  Preferred F d T e =
+      (U .ended T e ≡ true) ⊎ ((dropAt S F d < dropAt U T e) ⊎ ((dropAt S F d ≤ dropAt U T e) × (d ≤ e)))
 
   -- the reading rule takes the field table at depths d and e
   abbrev pub Chosen : List A → ℕ → List B → ℕ → Type 0
-  Chosen F d T e = (d ≡ 0) ⊎ ((1 ≤ e) × (S .ended F d ≡ false) × ((U .ended T e ≡ true) ⊎ ((dropAt S F d < dropAt U T e) ⊎ ((dropAt S F d ≤ dropAt U T e) × (d ≤ e)))))
+  Chosen F d T e = (d ≡ 0) ⊎ ((1 ≤ e) × (S .ended F d ≡ false) × Preferred F d T e)
 
 module _ {A B : Type 0} (S : Side A) (U : Side B) (qual : A → B → Bool) where
   -- the sums of all pairs that qualify
   unfoldable pub sumsOf : List A → List B → List ℕ
   sumsOf F T = each (λ x. map (λ y. S .weight x + U .weight y) (keep (qual x) T)) F
 
-  -- how many sums of the region are at least c; the region: the pairs of the first p field rows and the first q trim rows
+  -- how many sums of the region are at least c; the region: the pairs of the first p field rows and the first q trim
+  -- rows
   abbrev pub region : ℕ → List A → ℕ → List B → ℕ → ℕ
   region c F p T q = atLeast c (sumsOf (take p F) (take q T))
 
   -- document 01's sure reading: all legal tables that begin with these rows have the same k highest sums
   pub record Sure (k : ℕ) (F : List A) (p : ℕ) (T : List B) (q : ℕ) : Type 0 where
-    pub same : (F₁ F₂ : List A) (T₁ T₂ : List B) → Begins S p F F₁ → Begins S p F F₂ → Begins U q T T₁ → Begins U q T T₂ → best k (sumsOf F₁ T₁) ≡ best k (sumsOf F₂ T₂)
+    pub same : (F₁ F₂ : List A) (T₁ T₂ : List B) → Begins S p F F₁ → Begins S p F F₂ → Begins U q T T₁
+        → Begins U q T T₂ → best k (sumsOf F₁ T₁) ≡ best k (sumsOf F₂ T₂)
 
   -- whether a reading is sure of k, found from the rows read
   unfoldable pub sureTest : ℕ → List A → ℕ → List B → ℕ → Bool
-  sureTest k F p T q = S .empty F p || (U .empty T q || ((S .ended F p && U .ended T q) || (leb 1 p && (leb 1 q && leb k (region (ceiling S U F p T q) F p T q)))))
+  sureTest k F p T q =
+      S .empty F p
+      || (U .empty T q
+      || ((S .ended F p && U .ended T q)
+      || (leb 1 p && (leb 1 q && leb k (region (ceiling S U F p T q) F p T q)))))
 
-  -- a row that may stand after the first n rows of l, as high as the last of them, and qualifies with the first row of m
+  -- a row that may stand after the first n rows of l, as high as the last of them, and qualifies with the first row of
+  -- m
   pub record Partner (l : List A) (n : ℕ) (m : List B) : Type 0 where
     pub row : A
     pub level : 1 ≤ n → S .weight row ≡ last S l n
@@ -85,15 +101,18 @@ module _ {A B : Type 0} (S : Side A) (U : Side B) (qual : A → B → Bool) wher
     pub ended-all : (l : List A) (n : ℕ) → length l ≤ n → S .ended l n ≡ true
     pub ended-more : (l : List A) (n m : ℕ) → n ≤ m → S .ended l n ≡ true → S .ended l m ≡ true
     -- no row past the end qualifies with anything
-    pub ended-dead : (l l′ : List A) (n : ℕ) → S .Legal l → Begins S n l l′ → S .ended l n ≡ true → (i : ℕ) → n ≤ i → i < length l′ → (y : B) → qual (rowAt S l′ i) y ≡ false
+    pub ended-dead : (l l′ : List A) (n : ℕ) → S .Legal l → Begins S n l l′ → S .ended l n ≡ true → (i : ℕ)
+        → n ≤ i → i < length l′ → (y : B) → qual (rowAt S l′ i) y ≡ false
     -- no row of a table that counts as empty does
-    pub empty-dead : (l l′ : List A) (n : ℕ) → S .Legal l → Begins S n l l′ → S .empty l n ≡ true → (i : ℕ) → i < length l′ → (y : B) → qual (rowAt S l′ i) y ≡ false
+    pub empty-dead : (l l′ : List A) (n : ℕ) → S .Legal l → Begins S n l l′ → S .empty l n ≡ true → (i : ℕ)
+        → i < length l′ → (y : B) → qual (rowAt S l′ i) y ≡ false
     pub empty-ended : (l : List A) (n : ℕ) → S .empty l n ≡ true → S .ended l n ≡ true
     pub ended-zero : (l : List A) → S .ended l 0 ≡ true → S .empty l 0 ≡ true
     pub empty-more : (l : List A) (n m : ℕ) → n ≤ m → S .empty l n ≡ true → S .empty l m ≡ true
     -- one row shows it
     pub empty-first : (l : List A) (n m : ℕ) → 1 ≤ m → S .empty l n ≡ true → S .empty l m ≡ true
-    pub partner : (l : List A) (n : ℕ) (m : List B) (j : ℕ) → S .Legal l → U .Legal m → S .ended l n ≡ false → 1 ≤ j → U .empty m j ≡ false → Partner l n m
+    pub partner : (l : List A) (n : ℕ) (m : List B) (j : ℕ) → S .Legal l → U .Legal m → S .ended l n ≡ false → 1 ≤ j
+        → U .empty m j ≡ false → Partner l n m
 
   -- two rows that qualify, each a legal table
   pub record Seed : Type 0 where

@@ -1,4 +1,5 @@
--- Tables that end with their last row, and count as empty when they have none: how both tables are today. Definitions only. Assumes nothing.
+-- Tables that end with their last row, and count as empty when they have none: how both tables are today. Definitions
+-- only. Assumes nothing.
 use Prim.Native.Nat.{ℕ, suc, _≤_, _<_}
 use mathlib.Core.Path.{_≡_}
 use mathlib.Core.Bool.{Bool, true}
@@ -7,7 +8,8 @@ use lib.Dec.{leb}
 use lib.ListN.{length, getD}
 use Rattle.join.specs.Join.{Side}
 
--- what rows such a table has: what stands past the end, a row's weight, the rows that are good by themselves, and at most how many there are
+-- what rows such a table has: what stands past the end, a row's weight, the rows that are good by themselves, and at
+-- most how many there are
 pub record Rows (A : Type 0) : Type 1 where
   pub blank : A
   pub weight : A → ℕ
@@ -21,7 +23,14 @@ pub record PlainLegal {A : Type 0} (R : Rows A) (l : List A) : Type 0 where
   pub falls : (i : ℕ) → suc i < length l → R .weight (getD l (suc i) (R .blank)) ≤ R .weight (getD l i (R .blank))
 
 abbrev pub plain : {A : Type 0} → Rows A → Side A
-plain R = record { blank = R .blank; weight = R .weight; Legal = PlainLegal R; ended = λ l n. leb (length l) n; empty = λ l n. leb (length l) 0 }
+plain R =
+    record {
+      blank = R .blank;
+      weight = R .weight;
+      Legal = PlainLegal R;
+      ended = λ l n. leb (length l) n;
+      empty = λ l n. leb (length l) 0;
+    }
 
 -- a good row as high as x that qualifies with y, for any good x and y; today: a row of x's score at y's place
 pub record Matches {A B : Type 0} (R : Rows A) (Q : Rows B) (qual : A → B → Bool) : Type 0 where

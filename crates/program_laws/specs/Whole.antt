@@ -1,11 +1,9 @@
 -- What the pairing program prints on accepted input: the best pairs of the two files' tables. Assumes nothing.
 use mathlib.Core.Path.{_≡_, refl, sym, ap, subst, _∙_}
 use mathlib.Core.Bool.{true}
-use mathlib.Core.List.{List, map, List·Memᴰ}
-use Prim.Native.Nat.{ℕ, _+_, _-_, _≤_, max}
-use lib.Dec.{eqb}
+use mathlib.Core.List.{List, [], _∷_, map, List·Memᴰ}
+use Prim.Native.Nat.{ℕ, _+_, _-_, max}
 use lib.IntN.{ℤ, pos}
-use borrow.Author.Tests.{eqb-true, eq-eqb}
 use Rattle.lists.specs.Lists.{best}
 use Rattle.lists.specs.Words.{Distinct}
 use Rattle.rules.specs.declared.FieldRows.{FieldRows}
@@ -15,16 +13,18 @@ use Rattle.rules.specs.declared.Loaded.the-variants.{Rows, Unfit}
 use Rattle.rules.specs.declared.Pair.{Pair}
 use Rattle.rules.specs.declared.Query.{Query}
 use Rattle.rules.specs.Tables.{legal}
-use Rattle.rules.specs.Numbers.{first}
+use Rattle.rules.specs.Checks.{first-out}
 use Rattle.rules.specs.Calls.{queryCode, sizeCode, openCode}
 use Rattle.rules.specs.File.{fileTable, loadedCode}
-use Rattle.rules.specs.Query.{list, listing, settledSession, programFileCode, inputCode, inputQuery, tableOf, refusalLine, wholeQueryCode, wholeQuery}
+use Rattle.rules.specs.Query.{list, listing, settledSession, programFileCode, inputCode, inputQuery, tableOf}
+use Rattle.rules.specs.Query.{refusalLine, wholeQueryCode, wholeQuery}
 use Rattle.rules.specs.Sure.{Sure, qualifyingSums}
-use Rattle.lists.specs.Bools.{first-none}
 use Rattle.file_laws.specs.Legal.{accepted-legal}
 use Rattle.tables_join.specs.Pairs.{Fits}
 use Rattle.tables_join.specs.WholeList.{list-best, list-listed}
-use Rattle.program.specs.Program.{orRefusal, refusal-none, refusal-some, programFile, program-code, program-rows, Numbered, program-numbered}
+use Rattle.program.specs.Program.{orRefusal, refusal-none, refusal-some, programFile, program-code, program-rows}
+use Rattle.program.specs.Program.{Numbered, program-numbered}
+use Rattle.demand.specs.Sequences.{DepthsUpTo}
 use Rattle.program_laws.specs.Depths.{settled-within}
 
 -- of a query over two tables: what is listed, and how far it was read
@@ -38,9 +38,8 @@ pub record Answered (q : Query) (f t : List ℤ) : Type 0 where
   pub pairs : (p : Pair) → List·Memᴰ p (list q f t) → Fits (q .radius) f t p
   pub once : Distinct (list q f t)
   -- the row limit
-  pub row-limit : (m : FieldRows) (n : TrimRows) → Sure (q .k) (q .radius) f t m n →
-      (settledSession q f t .depth .field .0 ≤ max (m .0) (n .0) + q .block - 1)
-      × (settledSession q f t .depth .trim .0 ≤ max (m .0) (n .0) + q .block - 1)
+  pub row-limit : (m : FieldRows) (n : TrimRows) → Sure (q .k) (q .radius) f t m n
+      → DepthsUpTo (max (m .0) (n .0) + q .block - 1) (settledSession q f t)
 
 -- and of what the program prints
 pub record Whole (field trim input : List ℕ) : Type 0 where
@@ -61,19 +60,16 @@ query-answered q f t g h k =
     }
 
 -- a file that passes has a legal table
-file-legal : (bytes : List ℕ) (kind : ℤ) → eqb (programFileCode bytes kind) 0 ≡ true → legal (tableOf bytes) ≡ true
+file-legal : (bytes : List ℕ) (kind : ℤ) → programFileCode bytes kind ≡ 0 → legal (tableOf bytes) ≡ true
 file-legal bytes kind h = go (programFile bytes kind) refl
   where
-    none : loadedCode (programFile bytes kind) ≡ 0
-    none = program-code bytes kind ∙ eqb-true (programFileCode bytes kind) 0 h
-
     go : (x : Loaded) → programFile bytes kind ≡ x → legal (tableOf bytes) ≡ true
     go (Rows n) e =
         let small = program-rows bytes kind n e in
         ap (λ (k : ℕ). legal (fileTable bytes k)) (small .count) ∙ accepted-legal bytes kind n (small .checked)
     go (Unfit code row) e =
-        absurd
-        (subst (λ (x : Loaded). Numbered x) e (program-numbered bytes kind) (ap (λ (x : Loaded). loadedCode x) (sym e) ∙ none))
+        let numbered : Numbered (Unfit code row) = subst (λ (x : Loaded). Numbered x) e (program-numbered bytes kind) in
+        absurd (numbered (ap (λ (x : Loaded). loadedCode x) (sym e) ∙ program-code bytes kind ∙ h))
 
 -- accepted input
 pub whole-query : (field trim input : List ℕ) → wholeQueryCode field trim input ≡ 0 → Whole field trim input
@@ -82,18 +78,13 @@ whole-query field trim input h =
     let q = inputQuery input in
     let f = tableOf field in
     let t = tableOf trim in
-    let a = programFileCode field (pos 1) in
-    let b = programFileCode trim (pos 2) in
-    let c = inputCode input in
-    let d = openCode q f t in
-    let passed-a = first-none a (first b (first c d)) (eq-eqb (wholeQueryCode field trim input) 0 h) in
-    let passed-b = first-none b (first c d) (passed-a .1) in
-    let passed-c = first-none c d (passed-b .1) in
-    let passed-d = first-none (queryCode q) (first (sizeCode f) (sizeCode t)) (passed-c .1) in
+    let codes = programFileCode field (pos 1) ∷ programFileCode trim (pos 2) ∷ inputCode input ∷ openCode q f t ∷ [] in
+    let passed = first-out codes h in
+    let opens = first-out (queryCode q ∷ sizeCode f ∷ sizeCode t ∷ []) (passed 3) in
     record {
       printed = refusal-none (wholeQueryCode field trim input) (listing q f t) h;
       answered =
-          query-answered q f t (file-legal field (pos 1) (passed-a .0)) (file-legal trim (pos 2) (passed-b .0)) (eqb-true (queryCode q) 0 (passed-d .0));
+          query-answered q f t (file-legal field (pos 1) (passed 0)) (file-legal trim (pos 2) (passed 1)) (opens 0);
     }
 
 -- refused input: its number alone
