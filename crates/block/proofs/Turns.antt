@@ -34,27 +34,35 @@ module _ (radius room : ℕ) (x y : Block) (n : ℕ) (a : List ℕ) where
 
     -- a near pair is put
     pub joined : (k r : ℕ) (b′ : List ℕ) (p : Pair) → Met i k g b
-        → qualifies radius (row (x .rows) i .shade) (row (y .rows) k .shade) ≡ true → p ≡ pairAt x y i k → Put g room p b r b′ → Met i (k + 1) r b′
+        → qualifies radius (row (x .rows) i .shade) (row (y .rows) k .shade) ≡ true → p ≡ pairAt x y i k
+        → Put g room p b r b′ → Met i (k + 1) r b′
     joined k r b′ p met q e put =
-        λ l h o. subst (λ (m : List Pair). Keyed m (take r b′)) (row-joins radius room x y i k (metRows radius room x y l i) p q e)
+        λ l h o.
+        subst (λ (m : List Pair). Keyed m (take r b′))
+        (row-joins radius room x y i k (metRows radius room x y l i) p q e)
         (put .held (metTo radius room x y l i k) (met l h o))
 
     -- a near pair would fall off
-    pub fallen : (k : ℕ) (p : Pair) → Met i k g b → qualifies radius (row (x .rows) i .shade) (row (y .rows) k .shade) ≡ true → p ≡ pairAt x y i k → Narrow p
+    pub fallen : (k : ℕ) (p : Pair) → Met i k g b
+        → qualifies radius (row (x .rows) i .shade) (row (y .rows) k .shade) ≡ true → p ≡ pairAt x y i k → Narrow p
         → length b ≡ 64 → room ≤ 64 → g ≡ room → ltb (getD b ((room + 63) % 64) 0) (keyOf p) ≡ true → Met i (k + 1) g b
     fallen k p met q e narrow long fits full last =
         λ l h o.
         let m = metTo radius room x y l i k in
         let same = off b m g room p long (met l h o) narrow (to-ordered radius room x y l i k o) fits full last in
-        subst (λ (m : List Pair). Keyed m (take g b)) (sym same ∙ row-joins radius room x y i k (metRows radius room x y l i) p q e) (met l h o)
+        subst (λ (m : List Pair). Keyed m (take g b))
+        (sym same ∙ row-joins radius room x y i k (metRows radius room x y l i) p q e) (met l h o)
 
     -- row i + 1 of x has met all of y
     pub next : (k : ℕ) → k ≡ rowCount (y .rows) → Met i k g b → Met (i + 1) 0 g b
     next k e met =
-        λ l h o. subst (λ (m : List Pair). Keyed m (take g b)) (ap (metTo radius room x y l i) e ∙ to-next radius room x y l i) (met l h o)
+        λ l h o.
+        subst (λ (m : List Pair). Keyed m (take g b)) (ap (metTo radius room x y l i) e ∙ to-next radius room x y l i)
+        (met l h o)
 
     -- all rows of x have
-    pub all-met : i ≡ rowCount (x .rows) → Met i 0 g b → n ≤ room → g ≤ room → length b ≡ 64 → Joined radius room x y n a g b
+    pub all-met : i ≡ rowCount (x .rows) → Met i 0 g b → n ≤ room → g ≤ room → length b ≡ 64
+        → Joined radius room x y n a g b
     unfolding metRow
     all-met e met few few-after long =
         record {
@@ -63,5 +71,6 @@ module _ (radius room : ℕ) (x y : Block) (n : ℕ) (a : List ℕ) where
           held =
               λ l h o.
               let short : length l ≤ room = omega (arith, keyed-length l (take n a) h, length-take n a) in
-              subst (λ (m : List Pair). Keyed m (take g b)) (ap (metRows radius room x y l) e ∙ met-is radius room x y l o short) (met l h o);
+              subst (λ (m : List Pair). Keyed m (take g b))
+              (ap (metRows radius room x y l) e ∙ met-is radius room x y l o short) (met l h o);
         }

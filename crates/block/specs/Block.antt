@@ -1,4 +1,5 @@
--- The block join: what it makes of the pairs held, and the same in the code's own shape, pair by pair. Definitions only. Assumes nothing.
+-- The block join: what it makes of the pairs held, and the same in the code's own shape, pair by pair. Definitions
+-- only. Assumes nothing.
 use Prim.Native.Nat.{ℕ, zero, suc, _+_, _*_, _≤_}
 use mathlib.Core.Path.{_≡_}
 use mathlib.Core.Bool.{Bool, cond}
@@ -25,7 +26,8 @@ pub record Rows (a : ℕ) (rows : List ℤ) : Type 0 where
 pub record Joined (radius room : ℕ) (x y : Block) (n : ℕ) (a : List ℕ) (r : ℕ) (a′ : List ℕ) : Type 0 where
   pub few : r ≤ room
   pub long : length a′ ≡ 64
-  pub held : (l : List Pair) → Keyed l (take n a) → Ordered ahead l → Keyed (take room (sort ahead (l ++ qualifying radius x y))) (take r a′)
+  pub held : (l : List Pair) → Keyed l (take n a) → Ordered ahead l
+      → Keyed (take room (sort ahead (l ++ qualifying radius x y))) (take r a′)
 
 -- p among the pairs held, of which at most `room` are kept, if it qualifies
 abbrev pub putIf : Bool → ℕ → Pair → List Pair → List Pair

@@ -19,7 +19,8 @@ use Rattle.keys.specs.Keys.{all-getD, key-order, key-at, keyed-length}
 use Rattle.block.specs.Block.{putIf, metRow, metRows}
 
 -- p falls off behind a list whose last pair stands ahead of it
-falls-off : (p : Pair) (l : List Pair) → Ordered ahead l → ahead (getD l (length l - 1) noPair) p ≡ true → take (length l) (ins ahead p l) ≡ l
+falls-off : (p : Pair) (l : List Pair) → Ordered ahead l → ahead (getD l (length l - 1) noPair) p ≡ true
+    → take (length l) (ins ahead p l) ≡ l
 unfolding ins
 falls-off p [] o h = refl
 falls-off p (q ∷ []) o h = ap (λ (b : Bool). take 1 (cond b (q ∷ p ∷ []) (p ∷ q ∷ []))) h
@@ -30,18 +31,21 @@ falls-off p (q ∷ r ∷ m) o h =
     let z = getD (r ∷ m) n noPair in
     let k : ahead z p ≡ true = sym (ap (λ (e : ℕ). ahead (getD (q ∷ r ∷ m) e noPair) p) i) ∙ h in
     let before : ahead z q ≡ false = all-getD (λ y. ahead y q ≡ false) (r ∷ m) n (o .0) (omega arith) in
-    let first : ahead q p ≡ true = Sorts.between ahead ahead-strict p q z k before in
+    let first : ahead q p ≡ true = Sorts.between-ahead ahead ahead-strict p q z k before in
     let rest = falls-off p (r ∷ m) (o .1) (ap (λ (e : ℕ). ahead (getD (r ∷ m) e noPair) p) j ∙ k) in
-    ap (λ (b : Bool). take (suc (suc n)) (cond b (q ∷ ins ahead p (r ∷ m)) (p ∷ q ∷ r ∷ m))) first ∙ ap (λ (l : List Pair). q ∷ l) rest
+    ap (λ (b : Bool). take (suc (suc n)) (cond b (q ∷ ins ahead p (r ∷ m)) (p ∷ q ∷ r ∷ m))) first
+    ∙ ap (λ (l : List Pair). q ∷ l) rest
 
 empty : (l : List Pair) → length l ≡ 0 → [] ≡ l
 empty [] h = refl
 empty (q ∷ l) h = absurd (omega arith)
 
 -- the same of keys in 64 places, of which the last that there is room for is looked at
-pub off : (ks : List ℕ) (l : List Pair) (g room : ℕ) (p : Pair) → length ks ≡ 64 → Keyed l (take g ks) → Narrow p → Ordered ahead l → room ≤ 64 → g ≡ room
+pub off : (ks : List ℕ) (l : List Pair) (g room : ℕ) (p : Pair) → length ks ≡ 64 → Keyed l (take g ks) → Narrow p
+    → Ordered ahead l → room ≤ 64 → g ≡ room
     → ltb (getD ks ((room + 63) % 64) 0) (keyOf p) ≡ true → take room (ins ahead p l) ≡ l
-off ks l g zero p long k narrow o h e t = empty l (sym (keyed-length l (take g ks) k) ∙ length-take-le g ks (omega arith) ∙ e)
+off ks l g zero p long k narrow o h e t =
+    empty l (sym (keyed-length l (take g ks) k) ∙ length-take-le g ks (omega arith) ∙ e)
 off ks l g (suc n) p long k narrow o h e t =
     let few : g ≤ length ks = omega arith in
     let full : length l ≡ suc n = sym (keyed-length l (take g ks) k) ∙ length-take-le g ks few ∙ e in
@@ -53,7 +57,9 @@ off ks l g (suc n) p long k narrow o h e t =
     ∙ sym (getD-take g ks (length l - 1) 0 in-front)
     ∙ key-at l (take g ks) (length l - 1) k (omega arith) in
     let behind : ahead q p ≡ true =
-    sym (key-order q p (all-getD Narrow l (length l - 1) (k .narrow) (omega arith)) narrow) ∙ ap (λ (i : ℕ). ltb i (keyOf p)) (sym at) ∙ t in
+    sym (key-order q p (all-getD Narrow l (length l - 1) (k .narrow) (omega arith)) narrow)
+    ∙ ap (λ (i : ℕ). ltb i (keyOf p)) (sym at)
+    ∙ t in
     ap (λ (i : ℕ). take i (ins ahead p l)) (sym full) ∙ falls-off p l o behind
 
 -- the pairs held stay in order
@@ -61,16 +67,22 @@ put-ordered : (b : Bool) (room : ℕ) (p : Pair) (l : List Pair) → Ordered ahe
 put-ordered true room p l o = Sorts.take-ordered ahead room (ins ahead p l) (Sorts.ins-ordered ahead ahead-strict p l o)
 put-ordered false room p l o = o
 
-row-ordered : (radius room : ℕ) (x y : Block) (i : ℕ) (l : List Pair) (j : ℕ) → Ordered ahead l → Ordered ahead (metRow radius room x y i l j)
+row-ordered : (radius room : ℕ) (x y : Block) (i : ℕ) (l : List Pair) (j : ℕ) → Ordered ahead l
+    → Ordered ahead (metRow radius room x y i l j)
 unfolding metRow
 row-ordered radius room x y i l zero o = o
 row-ordered radius room x y i l (suc j) o =
-    put-ordered (qualifies radius (row (x .rows) i .shade) (row (y .rows) j .shade)) room (pairAt x y i j) _ (row-ordered radius room x y i l j o)
+    put-ordered (qualifies radius (row (x .rows) i .shade) (row (y .rows) j .shade)) room (pairAt x y i j) _
+    (row-ordered radius room x y i l j o)
 
-rows-ordered : (radius room : ℕ) (x y : Block) (l : List Pair) (i : ℕ) → Ordered ahead l → Ordered ahead (metRows radius room x y l i)
+rows-ordered : (radius room : ℕ) (x y : Block) (l : List Pair) (i : ℕ) → Ordered ahead l
+    → Ordered ahead (metRows radius room x y l i)
 unfolding metRows
 rows-ordered radius room x y l zero o = o
-rows-ordered radius room x y l (suc i) o = row-ordered radius room x y i _ (rowCount (y .rows)) (rows-ordered radius room x y l i o)
+rows-ordered radius room x y l (suc i) o =
+    row-ordered radius room x y i _ (rowCount (y .rows)) (rows-ordered radius room x y l i o)
 
-pub to-ordered : (radius room : ℕ) (x y : Block) (l : List Pair) (i j : ℕ) → Ordered ahead l → Ordered ahead (metRow radius room x y i (metRows radius room x y l i) j)
-to-ordered radius room x y l i j o = row-ordered radius room x y i (metRows radius room x y l i) j (rows-ordered radius room x y l i o)
+pub to-ordered : (radius room : ℕ) (x y : Block) (l : List Pair) (i j : ℕ) → Ordered ahead l
+    → Ordered ahead (metRow radius room x y i (metRows radius room x y l i) j)
+to-ordered radius room x y l i j o =
+    row-ordered radius room x y i (metRows radius room x y l i) j (rows-ordered radius room x y l i o)

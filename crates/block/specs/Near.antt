@@ -45,7 +45,9 @@ module _ (radius : ℕ) (x y : Block) where
   unfolding anyNear each range
   none-of zero h = refl
   none-of (suc n) h =
-      let both = or-none-out (anyNear radius (x .rows) (y .rows) n) (rowNear radius (x .rows) (y .rows) n (rowCount (y .rows))) h in
+      let both =
+      or-none-out (anyNear radius (x .rows) (y .rows) n)
+      (rowNear radius (x .rows) (y .rows) n (rowCount (y .rows))) h in
       let e : 0 + n ≡ n = omega arith in
       ap (each ofRow) (range-end 0 n ∙ ap (λ (m : ℕ). range 0 n ++ m ∷ []) e)
       ∙ each-append ofRow (range 0 n) (n ∷ [])

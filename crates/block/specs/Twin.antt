@@ -31,14 +31,18 @@ putAll-append room l [] n = refl
 putAll-append room l (p ∷ m) n = putAll-append room (take room (ins ahead p l)) m n
 
 -- putting one by one, and keeping `room` of them each time, is ranking all and keeping `room`
-putAll-sort : (room : ℕ) (l m : List Pair) → Ordered ahead l → length l ≤ room → putAll room l m ≡ take room (sort ahead (l ++ m))
+putAll-sort : (room : ℕ) (l m : List Pair) → Ordered ahead l → length l ≤ room
+    → putAll room l m ≡ take room (sort ahead (l ++ m))
 unfolding putAll sort
 putAll-sort room l [] o h =
-    sym (ap (λ (r : List Pair). take room (sort ahead r)) (append-nil l) ∙ ap (take room) (Sorts.ordered-sort ahead l o) ∙ take-all room l h)
+    sym
+    (ap (λ (r : List Pair). take room (sort ahead r)) (append-nil l) ∙ ap (take room) (Sorts.ordered-sort ahead l o)
+    ∙ take-all room l h)
 putAll-sort room l (p ∷ m) o h =
     let next = take room (ins ahead p l) in
     let sorted : sort ahead (p ∷ l) ≡ ins ahead p l = ap (ins ahead p) (Sorts.ordered-sort ahead l o) in
-    putAll-sort room next m (Sorts.take-ordered ahead room (ins ahead p l) (Sorts.ins-ordered ahead ahead-strict p l o)) (few room (ins ahead p l))
+    putAll-sort room next m (Sorts.take-ordered ahead room (ins ahead p l) (Sorts.ins-ordered ahead ahead-strict p l o))
+    (few room (ins ahead p l))
     ∙ ap (λ (r : List Pair). take room (sort ahead (take room r ++ m))) (sym sorted)
     ∙ Sorts.take-sort-append ahead ahead-strict room (p ∷ l) m
     ∙ ap (take room) (moved l m)
@@ -59,7 +63,8 @@ module _ (radius room : ℕ) (x y : Block) where
   pairsOf : ℕ → ℕ → List Pair
   pairsOf i j = map (pairAt x y i) (keep (test i) (range 0 j))
 
-  put-one : (b : Bool) (i j : ℕ) (l : List Pair) → putIf b room (pairAt x y i j) l ≡ putAll room l (map (pairAt x y i) (consIf b j []))
+  put-one : (b : Bool) (i j : ℕ) (l : List Pair)
+      → putIf b room (pairAt x y i j) l ≡ putAll room l (map (pairAt x y i) (consIf b j []))
   unfolding putAll consIf
   put-one true i j l = refl
   put-one false i j l = refl
@@ -67,7 +72,8 @@ module _ (radius room : ℕ) (x y : Block) where
   pairs-suc : (i j : ℕ) → pairsOf i (suc j) ≡ pairsOf i j ++ map (pairAt x y i) (consIf (test i j) j [])
   unfolding pairsOf keep
   pairs-suc i j =
-      ap (λ (r : List ℕ). map (pairAt x y i) (keep (test i) r)) (range-end 0 j ∙ ap (λ (b : ℕ). range 0 j ++ b ∷ []) (zero-add j))
+      ap (λ (r : List ℕ). map (pairAt x y i) (keep (test i) r))
+      (range-end 0 j ∙ ap (λ (b : ℕ). range 0 j ++ b ∷ []) (zero-add j))
       ∙ ap (map (pairAt x y i)) (keep-append (test i) (range 0 j) (j ∷ []))
       ∙ map-append (pairAt x y i) (keep (test i) (range 0 j)) (consIf (test i j) j [])
 
@@ -118,7 +124,8 @@ module _ (radius room : ℕ) (x y : Block) where
       p ≡ pairAt x y i j →
       take room (ins ahead p (metRow radius room x y i l j)) ≡ metRow radius room x y i l (j + 1)
   unfolding metRow
-  row-joins i j l p q e = ap (λ (r : Pair). take room (ins ahead r (metRow radius room x y i l j))) e ∙ sym (rw (add-one, q))
+  row-joins i j l p q e =
+      ap (λ (r : Pair). take room (ins ahead r (metRow radius room x y i l j))) e ∙ sym (rw (add-one, q))
 
   -- rows of y that do not lie near row i + 1 of x leave the pairs held
   pub row-skips : (i : ℕ) (l : List Pair) (j r : ℕ) → j ≤ r
@@ -129,7 +136,9 @@ module _ (radius room : ℕ) (x y : Block) where
   row-skips i l j (suc r) h none = go (eqb j (suc r)) refl (row-skips i l j r)
     where
       go : (t : Bool) → eqb j (suc r) ≡ t
-          → (j ≤ r → ((k : ℕ) → j ≤ k → k < r → qualifies radius (row (x .rows) i .shade) (row (y .rows) k .shade) ≡ false) → metRow radius room x y i l j ≡ metRow radius room x y i l r)
+          → (j ≤ r →
+          ((k : ℕ) → j ≤ k → k < r → qualifies radius (row (x .rows) i .shade)
+          (row (y .rows) k .shade) ≡ false) → metRow radius room x y i l j ≡ metRow radius room x y i l r)
           → metRow radius room x y i l j ≡ metRow radius room x y i l (suc r)
       go true e before = ap (metRow radius room x y i l) (eqb-true j (suc r) e)
       go false e before =

@@ -82,8 +82,8 @@ fn all_small(x: &[i32]) -> bool
     true
 }
 
-// Whether the pairs of two blocks are to be tested at 32 bits. Rows that passed 6 may be; it is asked where it pays: of long
-// blocks, and of a radius at which a first gap within it is not rare, so that the branch on it is hard to foresee.
+// Whether the pairs of two blocks are to be tested at 32 bits. Rows that passed 6 may be; it is asked where it pays: of
+// long blocks, and of a radius at which a first gap within it is not rare, so that the branch on it is hard to foresee.
 fn both_small(radius: u32, x: &[i32], y: &[i32]) -> bool
     ensures { λ r. ⌜ (r ≡ true → SmallPairs radius (now (x .entry)) (now (y .entry))) ⌝ }
 {
@@ -143,7 +143,8 @@ pub fn join(
 ) -> usize
     requires { ⌜ (held ≤ room) × (room ≤ 64) × (length (now keys) ≡ 64) ⌝ }
     requires { ⌜ Rows a (now x) × Rows c (now y) ⌝ }
-    ensures { λ r. ⌜ Joined radius room (at a (now (x .entry))) (at c (now (y .entry))) held (now (keys .entry)) r (now (keys .exit)) ⌝ }
+    ensures { λ r. ⌜ Joined radius room (at a (now (x .entry))) (at c (now (y .entry))) held
+        (now (keys .entry)) r (now (keys .exit)) ⌝ }
 {
     let m = x.len() / 4;
     let n = y.len() / 4;

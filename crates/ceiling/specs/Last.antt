@@ -12,7 +12,7 @@ use lib.ListN.{length, getD, take}
 use lib.Seq.{length-take-le, getD-take}
 use borrow.Author.Tests.{leb-true, leb-false, le-leb, ne-eqb}
 use Rattle.lists.specs.Lists.{every}
-use Rattle.lists.specs.Bools.{clash}
+use Rattle.lists.specs.Bools.{clash, and-true, and-false}
 use Rattle.lists.specs.Words.{All, Ordered}
 use Rattle.lists.specs.Sorts.{all-map, ranked-ordered}
 use Rattle.rules.specs.declared.Pair.{Pair}
@@ -21,9 +21,9 @@ use Rattle.rules.specs.Tables.{ahead}
 use Rattle.rules.specs.Ranking.{Before, before-ahead, ahead-strict}
 use Rattle.rules.specs.Session.{noPair, heldPairs, bothReadOut, aDepthIsZero, aTableIsEmpty, ceiling, secured}
 use Rattle.rules.specs.Read.{lowest}
-use Rattle.session_laws.specs.Record.{Fits, held-reached}
-use Rattle.session_laws.specs.Sizes.{Lent}
-use Rattle.ceiling.specs.Reached.{Reached}
+use Rattle.session_laws.specs.Record.{RecordFits, first-fits}
+use Rattle.session_laws.specs.Calls.{Lent}
+use Rattle.ceiling.specs.BothRead.{BothRead}
 
 -- what is not ahead has no higher sum
 pub not-higher : (p q : Pair) → ahead q p ≡ false → q .sum ≤ p .sum
@@ -50,7 +50,9 @@ all-last P q (r ∷ l) h = rw (last-cons q r l) (all-last P r l (h .1))
 -- the last of ranked pairs has the lowest sum
 last-low : (p q : Pair) (l : List Pair) → Ordered ahead (p ∷ q ∷ l) → lastOf (p ∷ q ∷ l) .sum ≤ p .sum
 last-low p q l o =
-    rw (last-cons p q l) (all-last (λ y. y .sum ≤ p .sum) q l (all-map (λ y. ahead y p ≡ false) (λ y. y .sum ≤ p .sum) (λ y h. not-higher p y h) (q ∷ l) (o .0)))
+    rw (last-cons p q l)
+    (all-last (λ y. y .sum ≤ p .sum) q l
+    (all-map (λ y. ahead y p ≡ false) (λ y. y .sum ≤ p .sum) (λ y h. not-higher p y h) (q ∷ l) (o .0)))
 
 pub lowest-is-last : (l : List Pair) → 0 < length l → Ordered ahead l → lowest l ≡ lastOf l .sum
 unfolding lowest
@@ -67,53 +69,47 @@ every-last : (test : Pair → Bool) → ((p q : Pair) → q .sum ≤ p .sum → 
     (l : List Pair) → 0 < length l → Ordered ahead l → every test l ≡ test (lastOf l)
 unfolding every
 every-last test mono [] h o = absurd (not-suc-le-zero h)
-every-last test mono (p ∷ []) h o = go (test p)
-  where
-    go : (b : Bool) → b && true ≡ b
-    go true = refl
-    go false = refl
+every-last test mono (p ∷ []) h o = and-true (test p)
 every-last test mono (p ∷ q ∷ l) h o =
     ap (λ (b : Bool). test p && b) (every-last test mono (q ∷ l) (omega arith) (o .1) ∙ ap test (sym (last-cons p q l)))
     ∙ go (test (lastOf (p ∷ q ∷ l))) refl
   where
     go : (b : Bool) → test (lastOf (p ∷ q ∷ l)) ≡ b → test p && b ≡ b
     go true e = rw (mono p (lastOf (p ∷ q ∷ l)) (last-low p q l o) e)
-    go false e = none (test p)
-      where
-        none : (a : Bool) → a && false ≡ false
-        none true = refl
-        none false = refl
+    go false e = and-false (test p)
 
 module _ (f t : List ℤ) (s : Session) where
   secured-higher : (p q : Pair) → q .sum ≤ p .sum → secured f t s q ≡ true → secured f t s p ≡ true
   unfolding secured
   secured-higher p q h = go (aDepthIsZero s && not (aTableIsEmpty s)) (bothReadOut s)
     where
-      go : (a b : Bool) → cond a false (cond b true (leb (ceiling f t s) (q .sum))) ≡ true → cond a false (cond b true (leb (ceiling f t s) (p .sum))) ≡ true
+      go : (a b : Bool) → cond a false (cond b true (leb (ceiling f t s) (q .sum))) ≡ true
+          → cond a false (cond b true (leb (ceiling f t s) (p .sum))) ≡ true
       go true b k = k
       go false true k = refl
       go false false k = le-leb (ceiling f t s) (p .sum) (let c = leb-true (ceiling f t s) (q .sum) k in omega arith)
 
   -- every held pair is secured where the last one is
-  pub all-secured : (l : List Pair) → 0 < length l → Ordered ahead l → every (secured f t s) l ≡ secured f t s (lastOf l)
+  pub all-secured : (l : List Pair) → 0 < length l → Ordered ahead l
+      → every (secured f t s) l ≡ secured f t s (lastOf l)
   all-secured l h o = every-last (secured f t s) secured-higher l h o
 
 -- once rows of both tables were read, only the read-out tables and the ceiling decide
-pub reached-secured : (f t : List ℤ) (s : Session) (p : Pair) → Reached f t s →
+pub read-secured : (f t : List ℤ) (s : Session) (p : Pair) → BothRead f t s →
     secured f t s p ≡ cond (bothReadOut s) true (leb (ceiling f t s) (p .sum))
 unfolding secured
-reached-secured f t s p r =
+read-secured f t s p r =
     let d : s .depth .field .0 ≡ 0 → ⊥ = omega (arith, r .field-read) in
     let e : s .depth .trim .0 ≡ 0 → ⊥ = omega (arith, r .trim-read) in
     rw (ne-eqb (s .depth .field .0) 0 d, ne-eqb (s .depth .trim .0) 0 e)
 
 -- a record with a pair held, over its tables
-pub held-then-reached : (f t : List ℤ) (s : Session) → Lent f t s → 0 < length (s .pairs) → 0 < s .held → Reached f t s
-held-then-reached f t s l n h =
-    let r = held-reached s (l .fits) n h in
+pub held-then-read : (f t : List ℤ) (s : Session) → Lent f t s → 0 < length (s .pairs) → 0 < s .held → BothRead f t s
+held-then-read f t s l n h =
+    let p = first-fits s (l .fits) n h in
     record {
-      field-read = r .0;
-      trim-read = r .1;
+      field-read = omega (arith, p .field-row);
+      trim-read = omega (arith, p .trim-row);
       field-rows = omega (arith, l .field .size .whole, l .field .count, l .fits .field .within);
       trim-rows = omega (arith, l .trim .size .whole, l .trim .count, l .fits .trim .within);
     }
@@ -124,7 +120,7 @@ last-taken a n h k =
     ap (λ (i : ℕ). getD (take n a) (i - 1) noPair) (length-take-le n a k) ∙ getD-take n a (n - 1) noPair (omega arith)
 
 -- every held pair is secured where the one in the last held place is
-pub held-secured : (f t : List ℤ) (s : Session) → Fits s → s .held ≤ length (s .pairs) → 0 < s .held →
+pub held-secured : (f t : List ℤ) (s : Session) → RecordFits s → s .held ≤ length (s .pairs) → 0 < s .held →
     every (secured f t s) (heldPairs s) ≡ secured f t s (getD (s .pairs) (s .held - 1) noPair)
 held-secured f t s fits k h =
     let some : 0 < length (heldPairs s) = omega (arith, length-take-le (s .held) (s .pairs) k) in

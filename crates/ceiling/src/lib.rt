@@ -5,7 +5,7 @@ ghost use mathlib.Core.Path.{_≡_};
 ghost use mathlib.Core.Bool.{cond};
 ghost use Prim.Native.Nat.{_+_, _<_, max};
 ghost use Rattle.rules.specs.Session.{ceiling, secured};
-ghost use Rattle.ceiling.specs.Reached.{Reached};
+ghost use Rattle.ceiling.specs.BothRead.{BothRead};
 
 fn pick(t: bool, a: u32, b: u32) -> u32
     ensures { λ r. ⌜ r ≡ cond t a b ⌝ }
@@ -21,7 +21,7 @@ fn higher(a: u32, b: u32) -> u32
 
 // The ceiling: the higher of HF + LT, if trim rows are unread, and LF + HT, if field rows are unread.
 pub fn threshold(f: &[i32], t: &[i32], s: Session) -> u32
-    requires { ⌜ Reached (now f) (now t) s ⌝ }
+    requires { ⌜ BothRead (now f) (now t) s ⌝ }
     ensures { λ r. ⌜ r ≡ ceiling (now (f .entry)) (now (t .entry)) s ⌝ }
 {
     let d = s.depth.field.0;
@@ -37,7 +37,7 @@ pub fn threshold(f: &[i32], t: &[i32], s: Session) -> u32
 
 // Whether a held pair is secured.
 pub fn is_secured(f: &[i32], t: &[i32], s: Session, p: Pair) -> bool
-    requires { ⌜ Reached (now f) (now t) s ⌝ }
+    requires { ⌜ BothRead (now f) (now t) s ⌝ }
     ensures { λ r. ⌜ r ≡ secured (now (f .entry)) (now (t .entry)) s p ⌝ }
 {
     let d = s.depth.field.0;

@@ -26,8 +26,10 @@ no-key : (x : ℕ) (ks : List ℕ) → every (λ k. not (eqb x k)) ks ≡ true �
 unfolding every
 no-key x [] e h = h
 no-key x (k ∷ []) e h = eqb-false x k (not-true (eqb x k) (and-out (not (eqb x k)) true e .0)) h
-no-key x (k ∷ j ∷ ks) e (inl h) = eqb-false x k (not-true (eqb x k) (and-out (not (eqb x k)) (every (λ k. not (eqb x k)) (j ∷ ks)) e .0)) h
-no-key x (k ∷ j ∷ ks) e (inr h) = no-key x (j ∷ ks) (and-out (not (eqb x k)) (every (λ k. not (eqb x k)) (j ∷ ks)) e .1) h
+no-key x (k ∷ j ∷ ks) e (inl h) =
+    eqb-false x k (not-true (eqb x k) (and-out (not (eqb x k)) (every (λ k. not (eqb x k)) (j ∷ ks)) e .0)) h
+no-key x (k ∷ j ∷ ks) e (inr h) =
+    no-key x (j ∷ ks) (and-out (not (eqb x k)) (every (λ k. not (eqb x k)) (j ∷ ks)) e .1) h
 
 -- a read never answers that a session was opened
 not-opened : (f t : List ℤ) (s : Session) → eqb (tagOf the-type (readCall f t s .answer)) 1 ≡ false
@@ -39,7 +41,8 @@ not-opened f t s = go (eqb (callCode f t s) 0) (settled f t s) (eqb (newBlockCod
 
     go : (a b c : Bool) → eqb
         (tagOf the-type
-        (cond a (cond b (step Settled s) (cond c (step Read (readBlock f t s)) unread)) (step (Refused (callCode f t s)) s) .answer))
+        (cond a (cond b (step Settled s) (cond c (step Read (readBlock f t s)) unread))
+        (step (Refused (callCode f t s)) s) .answer))
         1
         ≡ false
     go true true c = refl
@@ -53,7 +56,8 @@ pub not-read : (f t : List ℤ) (s : Session) (a : Answer) → a ≡ readCall f 
 unfolding every
 not-read f t s a e = go a (ap (λ (x : Answer). eqb (tagOf the-type x) 1) e ∙ not-opened f t s)
   where
-    go : (a : Answer) → eqb (tagOf the-type a) 1 ≡ false → OneOf (0 ∷ 1 ∷ 3 ∷ 4 ∷ 5 ∷ 6 ∷ []) (tagOf the-type a) → wasRead a ≡ false
+    go : (a : Answer) → eqb (tagOf the-type a) 1 ≡ false → OneOf (0 ∷ 1 ∷ 3 ∷ 4 ∷ 5 ∷ 6 ∷ []) (tagOf the-type a)
+        → wasRead a ≡ false
     go (Refused n) k h = refl
     go Opened k h = clash refl k
     go Read k h = absurd (no-key 2 (0 ∷ 1 ∷ 3 ∷ 4 ∷ 5 ∷ 6 ∷ []) refl h)

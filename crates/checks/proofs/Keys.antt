@@ -49,7 +49,8 @@ module _ (depth : Counts) (d : Shallow depth) (p : Pair) where
     order : Behind i before b → Narrow p → 0 < keyOf p → ltb before (keyOf p) ≡ (eqb i 0 || ahead b p)
     order h narrow some =
         ⊎-elim
-        (λ e. lt-ltb before (keyOf p) (omega (arith, e .1)) ∙ sym (ap (λ (t : Bool). t || ahead b p) (eq-eqb i 0 (e .0))))
+        (λ e. lt-ltb before (keyOf p) (omega (arith, e .1)) ∙ sym
+        (ap (λ (t : Bool). t || ahead b p) (eq-eqb i 0 (e .0))))
         (λ e.
         ap (λ (k : ℕ). ltb k (keyOf p)) (e .1)
         ∙ key-order b p (e .2) narrow
@@ -69,7 +70,9 @@ module _ (depth : Counts) (d : Shallow depth) (p : Pair) where
     unfolding placeKey placeFits
     key-fits h = go (leb n i) refl
       where
-        go : (t : Bool) → leb n i ≡ t → eqb (cond t (cond (isZeros p) 1 0) (cond (pairWithin depth p) (cond (ltb before (keyOf p)) (keyOf p) 0) 0)) 0
+        go : (t : Bool) → leb n i ≡ t
+            → eqb (cond t (cond (isZeros p) 1 0)
+            (cond (pairWithin depth p) (cond (ltb before (keyOf p)) (keyOf p) 0) 0)) 0
             ≡ not (cond t (isZeros p) (pairWithin depth p && (eqb i 0 || ahead b p)))
         go true e = no-zeros (isZeros p)
         go false e = held-place (pairWithin depth p) refl (h (leb-false n i e))

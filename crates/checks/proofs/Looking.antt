@@ -1,5 +1,5 @@
--- A loop that looks through a record's 64 pair places: what it knows before a turn, and that it ends with the answer of 5.
--- `fits` runs it, and so do read and take, in which a call would cost a copy of the record. Assumes nothing.
+-- A loop that looks through a record's 64 pair places: what it knows before a turn, and that it ends with the answer of
+-- 5. `fits` runs it, and so do read and take, in which a call would cost a copy of the record. Assumes nothing.
 use mathlib.Core.Path.{_≡_, refl, sym, ap, _∙_}
 use mathlib.Core.Bool.{Bool, true, false, cond, not, _&&_}
 use mathlib.Core.Logic.{inl, inr}
@@ -14,8 +14,8 @@ use Rattle.rules.specs.declared.Pair.{Pair}
 use Rattle.rules.specs.declared.Session.{Session}
 use Rattle.rules.specs.Session.{noPair}
 use Rattle.rules.specs.Calls.{queryCode, countsFit, recordFits}
-use Rattle.lists.specs.Bools.{and-left, and-right}
-use Rattle.session_laws.specs.Record.{counts-fit}
+use Rattle.lists.specs.Bools.{and-left, and-right, and-true, and-false}
+use Rattle.session_laws.specs.Record.{counts-out}
 use Rattle.keys.specs.Held.{keyOf, Narrow}
 use Rattle.checks.specs.Grounds.{numbersFit, placeFits, placesFrom, Shallow, placeKey}
 use Rattle.checks.proofs.Answer.{place-more, places-end, answer}
@@ -29,8 +29,8 @@ prev s (suc i) = getD (s .pairs) i noPair
 abbrev numbers : Session → Bool
 numbers s = numbersFit (s .query) (s .rows) (s .depth) (s .last) (s .out) (s .held) (s .joined)
 
--- before turn i: the record fits if all looked at so far does, and so do the places from i on; `before` is the key of the
--- place before, if it is held. There is no turn where the numbers do not fit
+-- before turn i: the record fits if all looked at so far does, and so do the places from i on; `before` is the key of
+-- the place before, if it is held. There is no turn where the numbers do not fit
 pub record Looking (s : Session) (i before : ℕ) (fits : Bool) : Type 0 where
   pub long : length (s .pairs) ≡ 64
   pub so-far : recordFits s ≡ fits && placesFrom i (s .held) (s .depth) (prev s i) (drop i (s .pairs))
@@ -38,27 +38,20 @@ pub record Looking (s : Session) (i before : ℕ) (fits : Bool) : Type 0 where
   pub shallow : fits ≡ true → Shallow (s .depth)
   pub behind : fits ≡ true → i ≤ s .held → Behind i before (prev s i)
 
-and-false : (a : Bool) → a && false ≡ false
-and-false true = refl
-and-false false = refl
-
-and-true : (a : Bool) → a && true ≡ a
-and-true true = refl
-and-true false = refl
-
 numbers-shallow : (s : Session) → numbers s ≡ true → Shallow (s .depth)
 unfolding numbersFit
 numbers-shallow s h =
     let x = countsFit (s .query .block) (s .rows .field .0) (s .depth .field .0) in
     let y = countsFit (s .query .block) (s .rows .trim .0) (s .depth .trim .0) in
     let counts = and-right (eqb (queryCode (s .query)) 0) _ h in
-    let f = counts-fit (s .query .block) (s .rows .field .0) (s .depth .field .0) (and-left x _ counts) in
-    let t = counts-fit (s .query .block) (s .rows .trim .0) (s .depth .trim .0) (and-left y _ (and-right x _ counts)) in
+    let f = counts-out (s .query .block) (s .rows .field .0) (s .depth .field .0) (and-left x _ counts) in
+    let t = counts-out (s .query .block) (s .rows .trim .0) (s .depth .trim .0) (and-left y _ (and-right x _ counts)) in
     record { field = omega (arith, f .few, f .within); trim = omega (arith, t .few, t .within) }
 
 module _ (s : Session) where
   -- the numbers have been looked at
-  pub look-starts : (fits : Bool) (i : ℕ) → length (s .pairs) ≡ 64 → fits ≡ numbers s → i ≡ cond fits 0 64 → Looking s i 0 fits
+  pub look-starts : (fits : Bool) (i : ℕ) → length (s .pairs) ≡ 64 → fits ≡ numbers s → i ≡ cond fits 0 64
+      → Looking s i 0 fits
   look-starts fits i long e first = rw first (go fits e)
     where
       begins : (b : Bool) → b ≡ numbers s → recordFits s ≡ b && placesFrom 0 (s .held) (s .depth) noPair (s .pairs)
@@ -94,19 +87,24 @@ module _ (s : Session) where
       here : eqb key 0 ≡ not (placeFits i (s .held) (s .depth) (prev s i) (getD (s .pairs) i noPair))
       here =
           ap (λ (k : ℕ). eqb k 0) e
-          ∙ key-fits (s .depth) deep (getD (s .pairs) i noPair) i (s .held) before (prev s i) (λ m. l .behind (l .runs h) (omega arith))
+          ∙ key-fits (s .depth) deep (getD (s .pairs) i noPair) i (s .held) before (prev s i)
+          (λ m. l .behind (l .runs h) (omega arith))
 
-      one-more : (b : Bool) → placeFits i (s .held) (s .depth) (prev s i) (getD (s .pairs) i noPair) ≡ b → recordFits s ≡ fits && (b && rest)
+      one-more : (b : Bool) → placeFits i (s .held) (s .depth) (prev s i) (getD (s .pairs) i noPair) ≡ b
+          → recordFits s ≡ fits && (b && rest)
       unfolding rest
       one-more b k =
           l .so-far
-          ∙ ap (λ (x : Bool). fits && x) (place-more (s .depth) i (s .held) (prev s i) (s .pairs) (omega (arith, l .long)))
+          ∙ ap (λ (x : Bool). fits && x)
+          (place-more (s .depth) i (s .held) (prev s i) (s .pairs) (omega (arith, l .long)))
           ∙ ap (λ (x : Bool). fits && (x && rest)) k
 
       -- the key is its pair's, if it is held
-      pub look-key : (key ≡ 0 → ⊥) → i < s .held → (key ≡ keyOf (getD (s .pairs) i noPair)) × Narrow (getD (s .pairs) i noPair)
+      pub look-key : (key ≡ 0 → ⊥) → i < s .held
+          → (key ≡ keyOf (getD (s .pairs) i noPair)) × Narrow (getD (s .pairs) i noPair)
       look-key some m =
-          let k = key-is (s .depth) deep (getD (s .pairs) i noPair) i (s .held) before (prev s i) m (λ z. some (e ∙ z)) in
+          let k =
+          key-is (s .depth) deep (getD (s .pairs) i noPair) i (s .held) before (prev s i) m (λ z. some (e ∙ z)) in
           (e ∙ k .0, k .1)
 
       pub look-on : (key ≡ 0 → ⊥) → Looking s (i + 1) key fits
@@ -127,4 +125,6 @@ module _ (s : Session) where
     -- no place is left
     pub look-ends : 64 ≤ i → fits ≡ recordFits s
     look-ends h =
-        sym (l .so-far ∙ ap (λ (x : Bool). fits && x) (places-end (s .depth) i (s .held) (prev s i) (s .pairs) (omega (arith, l .long))) ∙ and-true fits)
+        sym
+        (l .so-far ∙ ap (λ (x : Bool). fits && x)
+        (places-end (s .depth) i (s .held) (prev s i) (s .pairs) (omega (arith, l .long))) ∙ and-true fits)

@@ -1,5 +1,5 @@
-// What calls are refused by: 1 to 3 of a query, 5 of a record (any record may come in), 4 of the lent slices, then 6 and 7 of
-// the rows read.
+// What calls are refused by: 1 to 3 of a query, 5 of a record (any record may come in), 4 of the lent slices, then 6
+// and 7 of the rows read.
 use rules::Counts;
 use rules::Pair;
 use rules::Query;
@@ -11,7 +11,7 @@ ghost use Rattle.rules.specs.Tables.{sizeFits};
 ghost use Rattle.rules.specs.Read.{blockCount};
 ghost use Rattle.rules.specs.Calls.{queryCode, countsFit, isZeros, recordFits, sameSizeCode};
 ghost use Rattle.checks.specs.Grounds.{Shallow, pairWithin, markOf, numbersFit, placeKey};
-ghost use Rattle.checks.specs.Codes.{Within, lentOf, callOf};
+ghost use Rattle.checks.specs.Codes.{DepthsFit, lentOf, callOf};
 
 // What a query is refused by, 1 to 3 in this order; 0 where it is not.
 pub fn query_code(q: Query) -> u32
@@ -112,8 +112,8 @@ pub fn first_place(fits: bool) -> usize
     if fits { 0 } else { 64 }
 }
 
-// Pair place i, `before` being the key before it: the key of one of the n held, which fits and stands behind that one; 1 for
-// zeros beyond them; 0 where the place does not fit.
+// Pair place i, `before` being the key before it: the key of one of the n held, which fits and stands behind that one;
+// 1 for zeros beyond them; 0 where the place does not fit.
 pub fn place_key(i: usize, n: usize, depth: Counts, before: u64, p: Pair) -> u64
     requires { ⌜ Shallow depth ⌝ }
     ensures { λ r. ⌜ r ≡ placeKey i n depth before p ⌝ }
@@ -134,8 +134,8 @@ pub fn place_key(i: usize, n: usize, depth: Counts, before: u64, p: Pair) -> u64
     0
 }
 
-// Whether the record is not refused by 5: the numbers, then place after place. It copies the record: read and take, which
-// have it at hand, look through the places themselves.
+// Whether the record is not refused by 5: the numbers, then place after place. It copies the record: read and take,
+// which have it at hand, look through the places themselves.
 pub fn fits(s: Session) -> bool
     ensures { λ r. ⌜ r ≡ recordFits s ⌝ }
 {
@@ -191,9 +191,10 @@ pub fn lent_code(fits: bool, rows: Counts, f: &[i32], t: &[i32]) -> u32
     same_size_code(rows.trim.0, t)
 }
 
-// 5, 4, then 6 and 7 over the rows up to the depths, field first. The record itself is not handed in: it would be copied.
+// 5, 4, then 6 and 7 over the rows up to the depths, field first. The record itself is not handed in: it would be
+// copied.
 pub fn call_code(fits: bool, rows: Counts, depth: Counts, f: &[i32], t: &[i32]) -> u32
-    requires { ⌜ (fits ≡ true → Within rows depth) ⌝ }
+    requires { ⌜ (fits ≡ true → DepthsFit rows depth) ⌝ }
     ensures { λ r. ⌜ r ≡ callOf fits rows depth (now (f .entry)) (now (t .entry)) ⌝ }
 {
     let lent = lent_code(fits, rows, f, t);

@@ -1,5 +1,5 @@
 -- What an unsettled read knows once its checks have passed. Assumes nothing.
-use mathlib.Core.Path.{_≡_, refl, sym, ap, ap₂, _∙_}
+use mathlib.Core.Path.{_≡_, refl, sym, ap, ap₂, subst, _∙_}
 use mathlib.Core.Bool.{Bool, true, false, cond, _&&_}
 use mathlib.Core.List.{List, [], _∷_, _++_}
 use Prim.Native.Nat.{ℕ, _+_, _*_, _-_, _/_, _≤_, _<_}
@@ -9,20 +9,20 @@ use lib.Dec.{eqb}
 use lib.IntN.{ℤ}
 use lib.ListN.{length, drop, replicate, length-drop, take-append-drop}
 use lib.Seq.{length-take-le}
-use borrow.Author.Tests.{eqb-true, eqb-false}
+use borrow.Author.Tests.{eqb-true}
 use Rattle.lists.specs.Lists.{every}
 use Rattle.lists.specs.Sorts.{ranked-ordered}
 use Rattle.rules.specs.declared.Pair.{Pair}
 use Rattle.rules.specs.declared.Session.{Session}
 use Rattle.rules.specs.Tables.{ahead}
 use Rattle.rules.specs.Ranking.{ahead-strict}
-use Rattle.rules.specs.Session.{noPair, places, heldPairs, fieldReadOut, trimReadOut, settled}
+use Rattle.rules.specs.Session.{noPair, places, heldPairs, settled}
 use Rattle.rules.specs.Read.{fieldNext, oldDepth, newDepth}
 use Rattle.rules.specs.Calls.{isZeros, rowsCode, newBlockCode}
 use Rattle.lists.specs.Bools.{and-left, and-right}
-use Rattle.session_laws.specs.Record.{Fits}
-use Rattle.session_laws.specs.Sizes.{Lent}
-use Rattle.session_laws.specs.Read.{unsettled, chosen-unread}
+use Rattle.session_laws.specs.Record.{RecordFits}
+use Rattle.session_laws.specs.Calls.{Lent}
+use Rattle.session_laws.specs.Read.{unsettled-out, next-unread}
 use Rattle.choosing.specs.Ready.{Ready}
 
 -- rows of the table that is read, and the depth of the other one
@@ -58,18 +58,21 @@ all-zeros : (l : List Pair) → every isZeros l ≡ true → l ≡ replicate (le
 unfolding every
 all-zeros [] h = refl
 all-zeros (p ∷ l) h =
-    ap₂ (λ (q : Pair) (m : List Pair). q ∷ m) (zero-pair p (and-left (isZeros p) (every isZeros l) h)) (all-zeros l (and-right (isZeros p) (every isZeros l) h))
+    ap₂ (λ (q : Pair) (m : List Pair). q ∷ m) (zero-pair p (and-left (isZeros p) (every isZeros l) h))
+    (all-zeros l (and-right (isZeros p) (every isZeros l) h))
 
-held-count : (s : Session) → Fits s → length (s .pairs) ≡ 64 → length (heldPairs s) ≡ s .held
+held-count : (s : Session) → RecordFits s → length (s .pairs) ≡ 64 → length (heldPairs s) ≡ s .held
 held-count s fits n = length-take-le (s .held) (s .pairs) (omega (arith, fits .room, fits .query .k .1))
 
-zeros-beyond : (s : Session) → Fits s → length (s .pairs) ≡ 64 → s .pairs ≡ places (heldPairs s)
+zeros-beyond : (s : Session) → RecordFits s → length (s .pairs) ≡ 64 → s .pairs ≡ places (heldPairs s)
 unfolding places
 zeros-beyond s fits n =
     let c = held-count s fits n in
-    let e : length (drop (s .held) (s .pairs)) ≡ 64 - length (heldPairs s) = omega (arith, length-drop (s .held) (s .pairs)) in
+    let e : length (drop (s .held) (s .pairs)) ≡ 64 - length (heldPairs s) =
+    omega (arith, length-drop (s .held) (s .pairs)) in
     sym (take-append-drop (s .held) (s .pairs))
-    ∙ ap (λ (m : List Pair). heldPairs s ++ m) (all-zeros (drop (s .held) (s .pairs)) (fits .zeros) ∙ ap (λ (i : ℕ). replicate i noPair) e)
+    ∙ ap (λ (m : List Pair). heldPairs s ++ m)
+    (all-zeros (drop (s .held) (s .pairs)) (fits .zeros) ∙ ap (λ (i : ℕ). replicate i noPair) e)
 
 -- ---- An unsettled session over its tables
 
@@ -77,7 +80,7 @@ module _ (f t : List ℤ) (s : Session) (l : Lent f t s) (n : length (s .pairs) 
   ready : Ready s
   ready =
       let fits = l .fits in
-      let out : s .out ≡ s .query .k → ⊥ = eqb-false (s .out) (s .query .k) (unsettled f t s h .not-all-out) in
+      let more : s .out ≡ s .query .k → ⊥ = unsettled-out f t s h .wanted in
       record {
         query = fits .query;
         room = fits .room;
@@ -96,51 +99,46 @@ module _ (f t : List ℤ) (s : Session) (l : Lent f t s) (n : length (s .pairs) 
   joined-few =
       let fits = l .fits in
       let block = fits .query .block .0 in
-      let x = blocks-few (s .query .block) (s .depth .field .0) block (omega (arith, fits .field .few, fits .field .within)) in
-      let y = blocks-few (s .query .block) (s .depth .trim .0) block (omega (arith, fits .trim .few, fits .trim .within)) in
+      let x =
+      blocks-few (s .query .block) (s .depth .field .0) block (omega (arith, fits .field .few, fits .field .within)) in
+      let y =
+      blocks-few (s .query .block) (s .depth .trim .0) block (omega (arith, fits .trim .few, fits .trim .within)) in
       omega (arith, fits .joined, mul-le-mul x y)
-
-  unread : (b : Bool) → fieldNext f t s ≡ b → cond b (fieldReadOut s) (trimReadOut s) ≡ false
-  unread b e =
-      ap (λ (c : Bool). cond c (fieldReadOut s) (trimReadOut s)) (sym e)
-      ∙ chosen-unread f t s (unsettled f t s h .no-table-empty) (unsettled f t s h .not-both-out)
-
-  due-field : fieldNext f t s ≡ true → Due true f t s
-  due-field e =
-      let d : s .depth .field .0 ≡ s .rows .field .0 → ⊥ = eqb-false (s .depth .field .0) (s .rows .field .0) (unread true e) in
-      record {
-        ready = ready;
-        left = omega (arith, l .fits .field .within);
-        few = l .fits .field .few;
-        rows = omega (arith, l .field .size .whole, l .field .count);
-        other-few = omega (arith, l .fits .trim .few, l .fits .trim .within);
-        other-rows = omega (arith, l .trim .size .whole, l .trim .count, l .fits .trim .within);
-        joined = joined-few;
-      }
-
-  due-trim : fieldNext f t s ≡ false → Due false f t s
-  due-trim e =
-      let d : s .depth .trim .0 ≡ s .rows .trim .0 → ⊥ = eqb-false (s .depth .trim .0) (s .rows .trim .0) (unread false e) in
-      record {
-        ready = ready;
-        left = omega (arith, l .fits .trim .within);
-        few = l .fits .trim .few;
-        rows = omega (arith, l .trim .size .whole, l .trim .count);
-        other-few = omega (arith, l .fits .field .few, l .fits .field .within);
-        other-rows = omega (arith, l .field .size .whole, l .field .count, l .fits .field .within);
-        joined = joined-few;
-      }
 
   -- of the table that is read next
   pub due : (b : Bool) → b ≡ fieldNext f t s → Due b f t s
-  due true e = due-field (sym e)
-  due false e = due-trim (sym e)
+  due b e =
+      let unread = next-unread f t s (unsettled-out f t s h) (l .fits .field .within) (l .fits .trim .within) in
+      go b (subst (λ c. oldDepth c s < ownRows c s) (sym e) unread)
+    where
+      go : (b : Bool) → oldDepth b s < ownRows b s → Due b f t s
+      go true left =
+          record {
+            ready = ready;
+            left = left;
+            few = l .fits .field .few;
+            rows = omega (arith, l .field .size .whole, l .field .count);
+            other-few = omega (arith, l .fits .trim .few, l .fits .trim .within);
+            other-rows = omega (arith, l .trim .size .whole, l .trim .count, l .fits .trim .within);
+            joined = joined-few;
+          }
+      go false left =
+          record {
+            ready = ready;
+            left = left;
+            few = l .fits .trim .few;
+            rows = omega (arith, l .trim .size .whole, l .trim .count);
+            other-few = omega (arith, l .fits .field .few, l .fits .field .within);
+            other-rows = omega (arith, l .field .size .whole, l .field .count, l .fits .field .within);
+            joined = joined-few;
+          }
 
 -- ---- The new block
 
 module _ (f t : List ℤ) (s : Session) (b : Bool) where
   -- it lies within its table
-  pub new-inside : Due b f t s → (oldDepth b s ≤ newDepth b s) × (newDepth b s ≤ 65535) × (4 * newDepth b s ≤ length (cond b f t))
+  pub new-inside : Due b f t s
+      → (oldDepth b s ≤ newDepth b s) × (newDepth b s ≤ 65535) × (4 * newDepth b s ≤ length (cond b f t))
   new-inside d = omega (arith, d .left, d .few, d .rows)
 
   -- what 6 and 7 say of it is the rule's
@@ -148,4 +146,5 @@ module _ (f t : List ℤ) (s : Session) (b : Bool) where
       → rowsCode own d (e - d) ≡ newBlockCode f t s
   unfolding newBlockCode
   code-is next own d e x y z =
-      (λ i. rowsCode (x i) (y i) (z i - y i)) ∙ ap (λ (c : Bool). rowsCode (cond c f t) (oldDepth c s) (newDepth c s - oldDepth c s)) next
+      (λ i. rowsCode (x i) (y i) (z i - y i))
+      ∙ ap (λ (c : Bool). rowsCode (cond c f t) (oldDepth c s) (newDepth c s - oldDepth c s)) next

@@ -1,5 +1,5 @@
-// What a read decides before it reads: whether anything unread can matter, which table is next, and what 6 and 7 say of its
-// new block.
+// What a read decides before it reads: whether anything unread can matter, which table is next, and what 6 and 7 say of
+// its new block.
 use rules::Pair;
 use rules::Session;
 ghost use mathlib.Core.Path.{_≡_};
@@ -9,7 +9,7 @@ ghost use lib.ListN.{length};
 ghost use Rattle.rules.specs.Session.{settled};
 ghost use Rattle.rules.specs.Read.{scoreDrop, fieldNext, nextDepth};
 ghost use Rattle.rules.specs.Calls.{newBlockCode};
-ghost use Rattle.session_laws.specs.Sizes.{Lent};
+ghost use Rattle.session_laws.specs.Calls.{Lent};
 ghost use Rattle.checks.specs.Codes.{LastHeld};
 
 // How far a table's score has dropped from its first row to the last row read.

@@ -12,8 +12,7 @@ use Rattle.rules.specs.Tables.{legal}
 use Rattle.rules.specs.Sure.{Sure, qualifyingSums}
 use Rattle.rules.specs.Calls.{queryCode, openCall}
 use Rattle.rules.specs.Run.{run}
-use Rattle.tables_join.specs.SureTest.{isSure, ceilingAt}
-use Rattle.tables_join.specs.SureTestLaws.{sure-is-test}
+use Rattle.tables_join.specs.Sure.{isSure, ceilingAt, sure-is-test}
 use Rattle.demand.specs.Demand.{Call, reading, Line, Demand3, lastRecord}
 use Rattle.demand.specs.Sequences.{DepthsUpTo}
 use Rattle.demand.specs.Proved.{demand3}

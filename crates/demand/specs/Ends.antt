@@ -20,14 +20,11 @@ use Rattle.rules.specs.Read.{readBlock}
 use Rattle.rules.specs.Take.{firstHeld, givesPair, movedOut, finished}
 use Rattle.rules.specs.Numbers.{said}
 use Rattle.rules.specs.Calls.{queryCode, callCode, newBlockCode, step, openCall, readCall, takeCall}
-use Rattle.tables_join.specs.Keeping.{Reached}
-use Rattle.tables_join.specs.Opening.{legal-opened}
-use Rattle.tables_join.specs.Sound.{Sound}
-use Rattle.tables_join.specs.Taking.{gives-some}
-use Rattle.tables_join.specs.Unrefused.{sound-open, sound-read, sound-take, reached-fits}
-use Rattle.tables_join.specs.Settled.{settled-take}
-use Rattle.tables_join.specs.Depths.{depths, read-deeper}
-use Rattle.tables_join.specs.Accepting.{call-accepted, new-block-accepted}
+use Rattle.session_laws.specs.Calls.{legal-opened, call-accepted, new-block-accepted}
+use Rattle.session_laws.specs.Read.{depths}
+use Rattle.session_laws.specs.Take.{gives-some, settled-take}
+use Rattle.session_laws.specs.Sound.{Sound, sound-open}
+use Rattle.tables_join.specs.Reached.{Reached, read-sound, take-sound, reached-fits, read-deepens}
 use Rattle.demand.specs.Demand.{Call, reading, taking, Line, promised, isAccepted, Sequence, Follows, lastRecord}
 use Rattle.demand.specs.GetsThere.{GetsThere, runOf}
 use Rattle.demand.specs.Steps.{readsOf, Changed, kept, deeper, fewer}
@@ -79,8 +76,8 @@ module _ (q : Query) (f t : List ℤ) (g : legal f ≡ true) (h : legal t ≡ tr
   line-sound : (out : List Pair) (s : Session) (x : Step) → Reached q f t out s → Sound s → Changed f t s x
       → Sound (x .session)
   line-sound out s x a b (kept e o r) = subst Sound (sym e) b
-  line-sound out s x a b (deeper d e) = subst (λ y. Sound (y .session)) (sym e) (sound-read a b size d)
-  line-sound out s x a b (fewer d e) = subst (λ y. Sound (y .session)) (sym e) (sound-take a b (gives-some f t s d))
+  line-sound out s x a b (deeper d e) = subst (λ y. Sound (y .session)) (sym e) (read-sound a b size d)
+  line-sound out s x a b (fewer d e) = subst (λ y. Sound (y .session)) (sym e) (take-sound a b (gives-some f t s d))
 
   lines-sound : (lines : List Line) {out : List Pair} {s : Session} → Reached q f t out s → Sound s
       → Follows f t s lines → Sound (lastRecord s lines)
@@ -93,7 +90,7 @@ module _ (q : Query) (f t : List ℤ) (g : legal f ≡ true) (h : legal t ≡ tr
   unfolding movedOut
   line-reads x a (kept e o r) = omega (arith, r, ap depths e)
   line-reads {s = s} x a (deeper d e) =
-      subst (λ y. depths s + readsOf (y .answer) ≤ depths (y .session)) (sym e) (omega (arith, read-deeper a size d))
+      subst (λ y. depths s + readsOf (y .answer) ≤ depths (y .session)) (sym e) (omega (arith, read-deepens a size d))
   line-reads {s = s} x a (fewer d e) =
       subst (λ y. depths s + readsOf (y .answer) ≤ depths (y .session)) (sym e) (omega arith)
 
@@ -141,7 +138,7 @@ module _ {q : Query} {f t : List ℤ} {opening : Step} {lines : List Line} (w : 
     never-waits : settled f t given ≡ true → l .gave .answer ≡ NotYet → ⊥
     never-waits z y =
         let d = said-not-yet f t given (l .call) (l .gave) y (happened-then w before after l e) in
-        clash (settled-take (reached-before w before after l e) z (d .0)) (d .1)
+        clash (settled-take f t given (reached-before w before after l e .keeping .stored) z (d .0)) (d .1)
 
 pub gets-there : (q : Query) (f t : List ℤ) (opening : Step) (lines : List Line) → Sequence q f t opening lines
     → GetsThere q f t opening lines

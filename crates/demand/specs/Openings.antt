@@ -10,7 +10,7 @@ use Rattle.rules.specs.declared.Answer.the-variants.{Opened}
 use Rattle.rules.specs.Tables.{rowCount, legal}
 use Rattle.rules.specs.Session.{opened}
 use Rattle.rules.specs.Calls.{queryCode, step, openCall}
-use Rattle.tables_join.specs.Opening.{opened-query, legal-opened}
+use Rattle.session_laws.specs.Calls.{opened-query, legal-opened}
 use Rattle.demand.specs.Demand.{Line, Sequence}
 
 module _ {q : Query} {f t : List ℤ} {opening : Step} {lines : List Line} (w : Sequence q f t opening lines) where

@@ -21,12 +21,11 @@ use Rattle.rules.specs.Read.{fieldNext, readTable, readBlock}
 use Rattle.rules.specs.Take.{firstHeld, givesPair, movedOut, finished}
 use Rattle.rules.specs.Numbers.{said}
 use Rattle.rules.specs.Calls.{callCode, newBlockCode, step, readCall, takeCall}
-use Rattle.tables_join.specs.Keeping.{Reached}
-use Rattle.tables_join.specs.Taking.{first-inside, empty-none}
-use Rattle.tables_join.specs.Depths.{read-field, read-trim, read-grows}
-use Rattle.tables_join.specs.Accepting.{call-accepted, accepted-fits, new-block-accepted}
-use Rattle.tables_join.specs.Accepting.{read-settled, read-goes, take-gives, take-finishes, take-waits}
-use Rattle.tables_join.specs.SameRows.{SameRows, same-less, same-secured, same-settled, same-next, same-read}
+use Rattle.session_laws.specs.Calls.{call-accepted, call-record, new-block-accepted, read-settled, read-goes}
+use Rattle.session_laws.specs.Calls.{take-gives, take-finishes, take-waits}
+use Rattle.session_laws.specs.Read.{read-field, read-trim, read-grows}
+use Rattle.session_laws.specs.Alike.{SameRows, same-less, same-secured, same-settled, same-next, same-read}
+use Rattle.tables_join.specs.Reached.{Reached, first-inside, empty-none}
 use Rattle.demand.specs.Demand.{Call, reading, taking, promised, broughtBy}
 use Rattle.demand.specs.Steps.{Happened, refused, settling, going, giving, finishing, waiting}
 use Rattle.demand.specs.Steps.{readsOf, Changed, kept, deeper, fewer}
@@ -176,7 +175,7 @@ module _ {q : Query} {f t : List ℤ} {out : List Pair} {s : Session} (a : Reach
   trim-depth = omega (arith, a .trim-depth)
 
   same-accepted : callCode f t s ≡ 0 → callCode f′ t′ s ≡ 0
-  same-accepted e = call-accepted f′ t′ s g h field-rows trim-rows field-depth trim-depth (accepted-fits f t s e)
+  same-accepted e = call-accepted f′ t′ s g h field-rows trim-rows field-depth trim-depth (call-record f t s e)
 
   same-new : newBlockCode f′ t′ s ≡ 0
   same-new = new-block-accepted f′ t′ s g h field-rows trim-rows field-depth trim-depth

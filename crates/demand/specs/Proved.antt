@@ -18,12 +18,12 @@ use Rattle.rules.specs.Session.{opened}
 use Rattle.rules.specs.Take.{firstHeld, givesPair}
 use Rattle.rules.specs.Sure.{Sure}
 use Rattle.rules.specs.Calls.{openCall}
-use Rattle.tables_join.specs.Pairs.{Fits}
-use Rattle.tables_join.specs.Keeping.{Reached}
-use Rattle.tables_join.specs.Opening.{query-wanted}
-use Rattle.tables_join.specs.Taking.{gives-some, gives-secured, first-inside, first-new, finished-complete}
-use Rattle.tables_join.specs.Securing.{secured-best}
-use Rattle.tables_join.specs.SameRows.{SameRows}
+use Rattle.session_laws.specs.Record.{query-out}
+use Rattle.session_laws.specs.Take.{gives-some, gives-secured}
+use Rattle.session_laws.specs.Alike.{SameRows}
+use Rattle.tables_join.specs.Pairs.{QualifyingPair}
+use Rattle.tables_join.specs.Reached.{Reached, first-inside, first-new, finished-complete}
+use Rattle.tables_join.specs.Ceiling.{secured-best}
 use Rattle.demand.specs.Demand.{Call, Line, Sequence, Qualifying, sumOf, outs, IsIn, Out, lastRecord}
 use Rattle.demand.specs.Demand.{byRules, over, answersOver, Alike, Brought, Complete, Statement}
 use Rattle.demand.specs.Steps.{Happened}
@@ -42,7 +42,7 @@ alike-rows a = a .rows
 
 module _ {q : Query} {f t : List ℤ} (g : legal f ≡ true) (h : legal t ≡ true) (before : List Line) {s : Session}
     (a : Reached q f t (outs before) s) where
-  out-fits : (p : Pair) → List·Memᴰ p (outs before) → Fits (q .radius) f t p
+  out-fits : (p : Pair) → List·Memᴰ p (outs before) → QualifyingPair (q .radius) f t p
   out-fits p m = a .keeping .holds .inside p (inl m) .fits
 
   first-brought : givesPair f t s ≡ true → Brought q f t before (firstHeld s)
@@ -56,7 +56,7 @@ module _ {q : Query} {f t : List ℤ} (g : legal f ≡ true) (h : legal t ≡ tr
       some : 1 ≤ s .held
       some = gives-some f t s gives
 
-      fits : Fits (q .radius) f t (firstHeld s)
+      fits : QualifyingPair (q .radius) f t (firstHeld s)
       fits = first-inside a some .fits
 
       first-highest : (i j : ℕ) → Qualifying q f t i j → (Out before i j → ⊥) → sumOf f t i j ≤ firstHeld s .sum
@@ -72,7 +72,8 @@ module _ {q : Query} {f t : List ℤ} (g : legal f ≡ true) (h : legal t ≡ tr
   call-complete c x w o =
       ⊎-elim (λ e. inl e) (λ all. inr (all-in all)) (finished-complete a (said-finished f t s c x w o))
     where
-      all-in : ((p : Pair) → Fits (q .radius) f t p → List·Memᴰ p (outs before)) → (i j : ℕ) → Qualifying q f t i j
+      all-in : ((p : Pair) → QualifyingPair (q .radius) f t p → List·Memᴰ p (outs before)) → (i j : ℕ)
+          → Qualifying q f t i j
           → IsIn (outs before) i j
       all-in all i j k = mem-in (named q f t i j) (outs before) (all (named q f t i j) (named-fits q f t i j k))
 
@@ -97,7 +98,7 @@ module _ {q : Query} {f t : List ℤ} {opening : Step} {lines : List Line} (w : 
   within-limit : (m : FieldRows) (n : TrimRows) → Sure (q .k) (q .radius) f t m n
       → DepthsUpTo (max (m .0) (n .0) + q .block - 1) (lastRecord (opening .session) lines)
   within-limit m n sure =
-      lines-up-to q f t (w .field-legal) (w .trim-legal) (some-block w) (query-wanted q (opening-query w) .0)
+      lines-up-to q f t (w .field-legal) (w .trim-legal) (some-block w) (query-out q (opening-query w) .k .0)
       m n sure lines (reached w) (nothing-read (max (m .0) (n .0) + q .block - 1)) (w .calls)
 
   module _ (f′ t′ : List ℤ) (u : Alike f f′ (lastRecord (opening .session) lines .depth .field .0))

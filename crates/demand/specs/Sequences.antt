@@ -17,12 +17,11 @@ use Rattle.rules.specs.Tables.{rowCount, legal}
 use Rattle.rules.specs.Read.{fieldNext, readBlock}
 use Rattle.rules.specs.Take.{movedOut}
 use Rattle.rules.specs.Sure.{Sure}
-use Rattle.tables_join.specs.Keeping.{Reached}
-use Rattle.tables_join.specs.Opening.{query-wanted}
-use Rattle.tables_join.specs.Reading.{open-reached, read-reached}
-use Rattle.tables_join.specs.Taking.{gives-some, take-reached}
-use Rattle.tables_join.specs.Depths.{read-limit}
-use Rattle.tables_join.specs.SameRows.{same-less}
+use Rattle.session_laws.specs.Record.{query-out}
+use Rattle.session_laws.specs.Take.{gives-some}
+use Rattle.session_laws.specs.Alike.{same-less}
+use Rattle.tables_join.specs.Reached.{Reached, open-reached, read-reached, take-reached}
+use Rattle.tables_join.specs.Choice.{read-limit}
 use Rattle.demand.specs.Demand.{Line, Sequence, promised, isAccepted, Follows, broughtBy, outs, lastRecord}
 use Rattle.demand.specs.Demand.{byRules, over}
 use Rattle.demand.specs.Steps.{Happened, Changed, kept, deeper, fewer}
@@ -183,7 +182,7 @@ module _ {q : Query} {f t : List ℤ} {opening : Step} {lines : List Line} (w : 
   reached = subst (λ x. Reached q f t [] (x .session)) (sym (opening-is w)) (open-reached q f t)
 
   pub some-block : 1 ≤ q .block
-  some-block = query-wanted q (opening-query w) .1
+  some-block = query-out q (opening-query w) .block .0
 
   -- before a call: the record that it was given, and what it did
   module _ (before after : List Line) (l : Line) (e : lines ≡ before ++ l ∷ after) where

@@ -24,9 +24,8 @@ use Rattle.rules.specs.declared.Answer.the-variants.{Refused, Opened, Read, Set
 use Rattle.rules.specs.Tables.{legal, qualifying}
 use Rattle.rules.specs.Calls.{openCall}
 use Rattle.rules.specs.Sure.{whole, qualifyingSums}
-use Rattle.tables_join.specs.Pairs.{Fits}
-use Rattle.tables_join.specs.PairsLaws.{pair-rank, qualifying-distinct}
-use Rattle.tables_join.specs.WholeList.{all-fit}
+use Rattle.tables_join.specs.Pairs.{QualifyingPair, pair-rank, qualifying-distinct}
+use Rattle.tables_join.specs.WholeList.{all-qualify}
 use Rattle.demand.specs.Demand.{Line, Qualifying, promised, broughtBy, outs, Out, lastRecord, byRules}
 use Rattle.demand.specs.Demand.{over, Alike, Brought, Demand3}
 use Rattle.demand.specs.Sequences.{brought-front}
@@ -74,7 +73,7 @@ rules-at s (x ∷ before) after l e =
 -- Pairs that come out
 
 module _ (q : Query) (f t : List ℤ) where
-  brought-fits : (before : List Line) (p : Pair) → Brought q f t before p → Fits (q .radius) f t p
+  brought-fits : (before : List Line) (p : Pair) → Brought q f t before p → QualifyingPair (q .radius) f t p
   brought-fits before p b =
       let k = b .qualifying in
       record { field-row = k .field-row; trim-row = k .trim-row; near = k .near; own-sum = b .own-sum }
@@ -83,10 +82,10 @@ module _ (q : Query) (f t : List ℤ) where
   record Come (out l : List Pair) : Type 0 where
     new : (p : Pair) → List·Memᴰ p l → List·Memᴰ p out → ⊥
     once : Distinct l
-    best-first : BestFirst (λ p. p .sum) (Fits (q .radius) f t) out l
+    best-first : BestFirst (λ p. p .sum) (QualifyingPair (q .radius) f t) out l
 
   come-one : (before : List Line) (p : Pair) (l : List Pair) → Brought q f t before p
-      → ((p : Pair) → List·Memᴰ p (outs before) → Fits (q .radius) f t p) → Come (outs before ++ p ∷ []) l
+      → ((p : Pair) → List·Memᴰ p (outs before) → QualifyingPair (q .radius) f t p) → Come (outs before ++ p ∷ []) l
       → Come (outs before) (p ∷ l)
   come-one before p l b fit c = record {
     new = new;
@@ -98,7 +97,7 @@ module _ (q : Query) (f t : List ℤ) where
       new x (List·Memᴰ·head e) o = b .new (mem-in p (outs before) (subst (λ x. List·Memᴰ x (outs before)) e o))
       new x (List·Memᴰ·tail m) o = c .new x m (Memᴰ·append-left (p ∷ []) o)
 
-      highest : (x : Pair) → Fits (q .radius) f t x → (List·Memᴰ x (outs before) → ⊥) → x .sum ≤ p .sum
+      highest : (x : Pair) → QualifyingPair (q .radius) f t x → (List·Memᴰ x (outs before) → ⊥) → x .sum ≤ p .sum
       highest x k apart =
           let left : Out before (x .field) (x .trim) → ⊥ = λ o. apart (in-mem q f t x k (outs before) fit o) in
           let low = b .highest (x .field) (x .trim) (fits-qualifying q f t x k) left in
@@ -108,25 +107,25 @@ module _ (q : Query) (f t : List ℤ) where
 
 module _ {q : Query} {f t : List ℤ} {opening : Step} {lines : List Line} (d : Demand3 q f t opening lines) where
   rest-fits : (before rest after : List Line) → lines ≡ before ++ (rest ++ after) → (p : Pair) → List·Memᴰ p (outs rest)
-      → Fits (q .radius) f t p
+      → QualifyingPair (q .radius) f t p
   rest-fits before (l ∷ rest) after e p m =
       go (one-or-none (l .gave .answer))
       (rest-fits (before ++ l ∷ []) rest after (e ∙ sym (append-assoc before (l ∷ []) (rest ++ after))) p)
     where
       go : (broughtBy (l .gave .answer) [] ≡ []) ⊎ ((x : Pair) × (l .gave .answer ≡ Given x))
-          → (List·Memᴰ p (outs rest) → Fits (q .radius) f t p) → Fits (q .radius) f t p
+          → (List·Memᴰ p (outs rest) → QualifyingPair (q .radius) f t p) → QualifyingPair (q .radius) f t p
       go (inl z) later = later (subst (List·Memᴰ p) (outs-more l rest ∙ ap (λ o. o ++ outs rest) z) m)
       go (inr x) later = at (subst (λ a. List·Memᴰ p (broughtBy a (outs rest))) (x .1) m)
         where
-          at : List·Memᴰ p (x .0 ∷ outs rest) → Fits (q .radius) f t p
+          at : List·Memᴰ p (x .0 ∷ outs rest) → QualifyingPair (q .radius) f t p
           at (List·Memᴰ·head i) =
-              subst (Fits (q .radius) f t) (sym i)
+              subst (QualifyingPair (q .radius) f t) (sym i)
               (brought-fits q f t before (x .0) (d .brought before (rest ++ after) l (x .0) e (x .1)))
           at (List·Memᴰ·tail k) = later k
 
   -- "Each pair brought out qualifies, carries its own sum"
   pub out-fits : (before after : List Line) → lines ≡ before ++ after → (p : Pair) → List·Memᴰ p (outs before)
-      → Fits (q .radius) f t p
+      → QualifyingPair (q .radius) f t p
   out-fits before after e = rest-fits [] before after e
 
   rest-comes : (before rest after : List Line) → lines ≡ before ++ (rest ++ after)
@@ -152,13 +151,14 @@ module _ {q : Query} {f t : List ℤ} {opening : Step} {lines : List Line} (d : 
   module _ (g : legal f ≡ true) (h : legal t ≡ true) where
     -- so many highest sums as any k from the number of pairs out on, if these are k or all
     out-sums : (before after : List Line) → lines ≡ before ++ after → (k : ℕ) → length (outs before) ≤ k
-        → (length (outs before) ≡ k) ⊎ ((p : Pair) → Fits (q .radius) f t p → List·Memᴰ p (outs before))
+        → (length (outs before) ≡ k) ⊎ ((p : Pair) → QualifyingPair (q .radius) f t p → List·Memᴰ p (outs before))
         → map (λ p. p .sum) (outs before) ≡ best k (qualifyingSums (q .radius) f t)
     unfolding qualifyingSums
     out-sums before after e k room complete =
         let c = rest-comes [] before after e in
-        best-first-sums pair-rank (Fits (q .radius) f t) k (qualifying (q .radius) (whole f) (whole t)) (outs before)
-        (qualifying-distinct (q .radius) (whole f) (whole t)) (all-fit (q .radius) f t g h) (c .once)
+        best-first-sums pair-rank (QualifyingPair (q .radius) f t) k (qualifying (q .radius) (whole f) (whole t))
+        (outs before)
+        (qualifying-distinct (q .radius) (whole f) (whole t)) (all-qualify (q .radius) f t g h) (c .once)
         (out-fits before after e) (c .best-first) room complete
 
     -- at any time the sums out are the highest, as many as are out
@@ -176,14 +176,14 @@ module _ {q : Query} {f t : List ℤ} {opening : Step} {lines : List Line} (d : 
         (λ all. at (max (q .k) (length (outs before))) (omega arith) (omega arith) (inr (all-out all)))
         (d .finished before after l e y)
       where
-        all-out : ((i j : ℕ) → Qualifying q f t i j → Out before i j) → (p : Pair) → Fits (q .radius) f t p
+        all-out : ((i j : ℕ) → Qualifying q f t i j → Out before i j) → (p : Pair) → QualifyingPair (q .radius) f t p
             → List·Memᴰ p (outs before)
         all-out all p k =
             in-mem q f t p k (outs before) (out-fits before (l ∷ after) e)
             (all (p .field) (p .trim) (fits-qualifying q f t p k))
 
         at : (k : ℕ) → length (outs before) ≤ k → q .k ≤ k
-            → (length (outs before) ≡ k) ⊎ ((p : Pair) → Fits (q .radius) f t p → List·Memᴰ p (outs before))
+            → (length (outs before) ≡ k) ⊎ ((p : Pair) → QualifyingPair (q .radius) f t p → List·Memᴰ p (outs before))
             → take (q .k) (map (λ p. p .sum) (outs before)) ≡ best (q .k) (qualifyingSums (q .radius) f t)
         at k room more complete =
             ap (take (q .k)) (out-sums before (l ∷ after) e k room complete)

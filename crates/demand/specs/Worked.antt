@@ -21,8 +21,7 @@ use Rattle.rules.specs.Sure.{Sure, qualifyingSums}
 use Rattle.rules.specs.Calls.{openCall}
 use Rattle.rules.specs.Run.{run}
 use Rattle.rules.specs.Example as Example
-use Rattle.tables_join.specs.SureTest.{isSure, ceilingAt}
-use Rattle.tables_join.specs.SureTestLaws.{sure-is-test}
+use Rattle.tables_join.specs.Sure.{isSure, ceilingAt, sure-is-test}
 use Rattle.demand.specs.Demand.{reading, taking, Line, Sequence, Qualifying, sumOf, outs, IsIn, Out, lastRecord}
 use Rattle.demand.specs.Demand.{byRules, over, answersOver, Alike, Brought, Demand3}
 use Rattle.demand.specs.Proved.{demand3}

@@ -16,8 +16,7 @@ use Rattle.rules.specs.Take.{firstHeld}
 use Rattle.rules.specs.Sure.{Sure, qualifyingSums}
 use Rattle.rules.specs.Calls.{openCall, readCall}
 use Rattle.rules.specs.Run.{run}
-use Rattle.tables_join.specs.SureTest.{isSure, ceilingAt}
-use Rattle.tables_join.specs.SureTestLaws.{sure-is-test}
+use Rattle.tables_join.specs.Sure.{isSure, ceilingAt, sure-is-test}
 use Rattle.demand.specs.Demand.{Qualifying, Brought}
 use Rattle.demand.specs.Transcript.{rowThen, topOne, fieldRows, trimRows}
 

@@ -21,10 +21,19 @@ one-on b j n c d h k =
     let in-b : j < length b = omega arith in
     let in-t : j < length (take n b) = simp (length-take-le n b k) h in
     let s : j < suc j = omega arith in
-    simp (add-one, take-suc-set b j c in-b, take-set-lt n b j c h, drop-set-lt (suc j) (take n b) j c s, append-assoc, drop-cons (take n b) j d in-t, getD-take n b j d h)
+    simp (
+      add-one,
+      take-suc-set b j c in-b,
+      take-set-lt n b j c h,
+      drop-set-lt (suc j) (take n b) j c s,
+      append-assoc,
+      drop-cons (take n b) j d in-t,
+      getD-take n b j d h,
+    )
 
 -- after the last turn
-pub at-end : (b : List ℕ) (j n c : ℕ) → j ≤ n → n ≤ j → n < length b → take (n + 1) (set b n c) ≡ take j b ++ c ∷ drop j (take n b)
+pub at-end : (b : List ℕ) (j n c : ℕ) → j ≤ n → n ≤ j → n < length b
+    → take (n + 1) (set b n c) ≡ take j b ++ c ∷ drop j (take n b)
 at-end b j n c h k l =
     let e : j ≡ n = omega arith in
     let m : length (take n b) ≤ n = simp (length-take-le n b (omega arith)) (omega arith) in
@@ -33,7 +42,8 @@ at-end b j n c h k l =
 -- ---- The place
 
 -- the place of p is further on where the number at i is lower
-pub place-on : (p : ℕ) (l : List ℕ) (i : ℕ) → i < length l → ltb (getD l i 0) p ≡ true → placeOf p (drop i l) ≡ suc (placeOf p (drop (i + 1) l))
+pub place-on : (p : ℕ) (l : List ℕ) (i : ℕ) → i < length l → ltb (getD l i 0) p ≡ true
+    → placeOf p (drop i l) ≡ suc (placeOf p (drop (i + 1) l))
 unfolding placeOf
 place-on p l i h t = rw (add-one, drop-cons l i 0 h, t)
 
@@ -62,7 +72,8 @@ unfolding putAt placeOf ins
 ins-is p [] = refl
 ins-is p (q ∷ l) = go (ltb q p) (ins-is p l)
   where
-    go : (t : Bool) → putAt (placeOf p l) p l ≡ ins ltb p l → putAt (cond t (suc (placeOf p l)) 0) p (q ∷ l) ≡ cond t (q ∷ ins ltb p l) (p ∷ q ∷ l)
+    go : (t : Bool) → putAt (placeOf p l) p l ≡ ins ltb p l
+        → putAt (cond t (suc (placeOf p l)) 0) p (q ∷ l) ≡ cond t (q ∷ ins ltb p l) (p ∷ q ∷ l)
     go true h = ap (λ (r : List ℕ). q ∷ r) h
     go false h = refl
 
@@ -99,5 +110,6 @@ cut (suc i) (suc m) p [] h k = absurd (not-suc-le-zero k)
 cut (suc i) (suc m) p (q ∷ l) h k = ap (λ (r : List ℕ). q ∷ r) (cut i m p l (le-of-suc-le-suc h) (le-of-suc-le-suc k))
 
 -- where the list is full, its last number falls off
-pub last-falls-off : (m p : ℕ) (l : List ℕ) → placeOf p l ≤ m → length l ≡ suc m → take (suc m) (ins ltb p l) ≡ putAt (placeOf p l) p (take m l)
+pub last-falls-off : (m p : ℕ) (l : List ℕ) → placeOf p l ≤ m → length l ≡ suc m
+    → take (suc m) (ins ltb p l) ≡ putAt (placeOf p l) p (take m l)
 last-falls-off m p l h e = ap (take (suc m)) (sym (ins-is p l)) ∙ cut (placeOf p l) m p l h (omega arith)

@@ -14,13 +14,15 @@ use Rattle.keys.specs.Keys.{keyed-take, keyed-ins}
 use Rattle.keys.proofs.Lists.{falls-off, all-kept, last-falls-off}
 
 -- k is the number of p, and i its place
-module _ (n room : ℕ) (p : Pair) (a : List ℕ) (asked : Narrow p × (n ≤ room) × (room ≤ 64)) (long : length a ≡ 64) (k i : ℕ) (key : k ≡ keyOf p)
+module _ (n room : ℕ) (p : Pair) (a : List ℕ) (asked : Narrow p × (n ≤ room) × (room ≤ 64)) (long : length a ≡ 64)
+    (k i : ℕ) (key : k ≡ keyOf p)
     (found : i ≡ placeOf k (take n a)) where
   held-long : length (take n a) ≡ n
   held-long = length-take-le n a (omega (arith, asked .1, asked .2))
 
   -- numbers put by their order stand for the pairs
-  by-keys : (r : ℕ) (b : List ℕ) → r ≤ room → length b ≡ 64 → take r b ≡ take room (ins ltb k (take n a)) → Put n room p a r b
+  by-keys : (r : ℕ) (b : List ℕ) → r ≤ room → length b ≡ 64 → take r b ≡ take room (ins ltb k (take n a))
+      → Put n room p a r b
   by-keys r b few long-after e =
       let by-pair = e ∙ ap (λ (j : ℕ). take room (ins ltb j (take n a))) key in
       record {
@@ -32,14 +34,17 @@ module _ (n room : ℕ) (p : Pair) (a : List ℕ) (asked : Narrow p × (n ≤ ro
       }
 
   pub unchanged : room ≤ i → Put n room p a n a
-  unchanged h = by-keys n a (asked .1) long (sym (falls-off room k (take n a) (omega (arith, held-long, asked .1)) (omega (arith, found))))
+  unchanged h =
+      by-keys n a (asked .1) long
+      (sym (falls-off room k (take n a) (omega (arith, held-long, asked .1)) (omega (arith, found))))
 
   pub grown : (b : List ℕ) → length b ≡ 64 → n < room → take (n + 1) b ≡ putAt i k (take n a) → Put n room p a (n + 1) b
   grown b g h e =
       by-keys (n + 1) b (omega arith) g
       (e ∙ ap (λ (j : ℕ). putAt j k (take n a)) found ∙ sym (all-kept room k (take n a) (omega (arith, held-long))))
 
-  pub replaced : (b : List ℕ) → length b ≡ 64 → room ≤ n → i < room → take (n - 1 + 1) b ≡ putAt i k (take (n - 1) a) → Put n room p a n b
+  pub replaced : (b : List ℕ) → length b ≡ 64 → room ≤ n → i < room → take (n - 1 + 1) b ≡ putAt i k (take (n - 1) a)
+      → Put n room p a n b
   replaced b g h j e =
       let m = n - 1 in
       let few = asked .1 in

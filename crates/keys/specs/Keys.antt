@@ -19,7 +19,8 @@ use Rattle.keys.specs.Held.{keyOf, pairOf, Narrow, Keyed}
 
 -- One pair
 
-sum-read : (s f t : ℕ) → s < 4294967296 → f < 65536 → t < 65536 → 4294967295 - ((4294967295 - s) * 4294967296 + f * 65536 + t) / 4294967296 ≡ s
+sum-read : (s f t : ℕ) → s < 4294967296 → f < 65536 → t < 65536
+    → 4294967295 - ((4294967295 - s) * 4294967296 + f * 65536 + t) / 4294967296 ≡ s
 sum-read s f t h k l = omega arith
 
 field-read : (s f t : ℕ) → f < 65536 → t < 65536 → ((4294967295 - s) * 4294967296 + f * 65536 + t) / 65536 % 65536 ≡ f
@@ -58,15 +59,18 @@ key-order p q v w = go (ahead p q) (ahead q p) refl refl
 
 -- Lists of pairs
 
-pub keys-ins : (p : Pair) (l : List Pair) → Narrow p → All Narrow l → map keyOf (ins ahead p l) ≡ ins ltb (keyOf p) (map keyOf l)
+pub keys-ins : (p : Pair) (l : List Pair) → Narrow p → All Narrow l
+    → map keyOf (ins ahead p l) ≡ ins ltb (keyOf p) (map keyOf l)
 unfolding ins
 keys-ins p [] v w = refl
 keys-ins p (q ∷ l) v w =
     go (ahead q p) (keys-ins p l v (w .1))
-    ∙ ap (λ (t : Bool). cond t (keyOf q ∷ ins ltb (keyOf p) (map keyOf l)) (keyOf p ∷ keyOf q ∷ map keyOf l)) (sym (key-order q p (w .0) v))
+    ∙ ap (λ (t : Bool). cond t (keyOf q ∷ ins ltb (keyOf p) (map keyOf l)) (keyOf p ∷ keyOf q ∷ map keyOf l))
+    (sym (key-order q p (w .0) v))
   where
     go : (t : Bool) → map keyOf (ins ahead p l) ≡ ins ltb (keyOf p) (map keyOf l) →
-        map keyOf (cond t (q ∷ ins ahead p l) (p ∷ q ∷ l)) ≡ cond t (keyOf q ∷ ins ltb (keyOf p) (map keyOf l)) (keyOf p ∷ keyOf q ∷ map keyOf l)
+        map keyOf (cond t (q ∷ ins ahead p l) (p ∷ q ∷ l)) ≡ cond t (keyOf q ∷ ins ltb (keyOf p) (map keyOf l))
+        (keyOf p ∷ keyOf q ∷ map keyOf l)
     go true h = ap (λ (r : List ℕ). keyOf q ∷ r) h
     go false h = refl
 
@@ -83,9 +87,11 @@ pub keyed-length : (l : List Pair) (ks : List ℕ) → Keyed l ks → length ks 
 keyed-length l ks h = ap length (h .keys) ∙ keys-length l
 
 pub keyed-take : (n : ℕ) (l : List Pair) (ks : List ℕ) → Keyed l ks → Keyed (take n l) (take n ks)
-keyed-take n l ks h = record { keys = ap (take n) (h .keys) ∙ sym (keys-take n l); narrow = Sorts.all-take Narrow n l (h .narrow) }
+keyed-take n l ks h =
+    record { keys = ap (take n) (h .keys) ∙ sym (keys-take n l); narrow = Sorts.all-take Narrow n l (h .narrow) }
 
-pub keyed-ins : (p : Pair) (l : List Pair) (ks : List ℕ) → Narrow p → Keyed l ks → Keyed (ins ahead p l) (ins ltb (keyOf p) ks)
+pub keyed-ins : (p : Pair) (l : List Pair) (ks : List ℕ) → Narrow p → Keyed l ks
+    → Keyed (ins ahead p l) (ins ltb (keyOf p) ks)
 keyed-ins p l ks v h =
     record {
       keys = ap (ins ltb (keyOf p)) (h .keys) ∙ sym (keys-ins p l v (h .narrow));
@@ -106,5 +112,6 @@ map-at (p ∷ l) (suc i) h = map-at l i (omega arith)
 pub key-at : (l : List Pair) (ks : List ℕ) (i : ℕ) → Keyed l ks → i < length l → getD ks i 0 ≡ keyOf (getD l i noPair)
 key-at l ks i h k = ap (λ (r : List ℕ). getD r i 0) (h .keys) ∙ map-at l i k
 
-pub keyed-at : (l : List Pair) (ks : List ℕ) (i : ℕ) → Keyed l ks → i < length l → pairOf (getD ks i 0) ≡ getD l i noPair
+pub keyed-at : (l : List Pair) (ks : List ℕ) (i : ℕ) → Keyed l ks → i < length l
+    → pairOf (getD ks i 0) ≡ getD l i noPair
 keyed-at l ks i h k = ap pairOf (key-at l ks i h k) ∙ pair-key (getD l i noPair) (all-getD Narrow l i (h .narrow) k)

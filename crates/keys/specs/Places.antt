@@ -34,11 +34,14 @@ next i m = go (ltb i m) refl
     go true e = sym (lt-ltb (suc i) (suc m) (omega (arith, ltb-true i m e)))
     go false e = sym (le-ltb (suc i) (suc m) (omega (arith, ltb-false i m e)))
 
-at : (n : ℕ) (keys : List ℕ) (m i : ℕ) → m ≤ length keys → placeAt keys i m ≡ getD (map pairOf (take m keys) ++ replicate n noPair) i noPair
-at n keys zero i h = ap (λ (b : Bool). cond b (pairOf (getD keys i 0)) noPair) (le-ltb i 0 (omega arith)) ∙ sym (none-at n i)
+at : (n : ℕ) (keys : List ℕ) (m i : ℕ) → m ≤ length keys
+    → placeAt keys i m ≡ getD (map pairOf (take m keys) ++ replicate n noPair) i noPair
+at n keys zero i h =
+    ap (λ (b : Bool). cond b (pairOf (getD keys i 0)) noPair) (le-ltb i 0 (omega arith)) ∙ sym (none-at n i)
 at n [] (suc m) i h = absurd (omega arith)
 at n (k ∷ keys) (suc m) zero h = ap (λ (b : Bool). cond b (pairOf k) noPair) (lt-ltb 0 (suc m) (omega arith))
-at n (k ∷ keys) (suc m) (suc i) h = ap (λ (b : Bool). cond b (pairOf (getD keys i 0)) noPair) (sym (next i m)) ∙ at n keys m i (omega arith)
+at n (k ∷ keys) (suc m) (suc i) h =
+    ap (λ (b : Bool). cond b (pairOf (getD keys i 0)) noPair) (sym (next i m)) ∙ at n keys m i (omega arith)
 
 -- place i
 pub place-is : (keys : List ℕ) (m i : ℕ) → m ≤ length keys → placeAt keys i m ≡ getD (placesOf keys m) i noPair

@@ -1,5 +1,5 @@
-// The pairs held, ranked, each as one number, its key, in 64 places that the caller lends: a pair is put at its place, and
-// what passes the room there is falls off.
+// The pairs held, ranked, each as one number, its key, in 64 places that the caller lends: a pair is put at its place,
+// and what passes the room there is falls off.
 use rules::Pair;
 ghost use mathlib.Core.Path.{_≡_};
 ghost use Prim.Native.Nat.{_+_, _<_, _≤_};

@@ -1,5 +1,5 @@
--- Laws of Booleans: tests that pass, fail, and stand together. A law that ends in -out says what follows from a test made
--- of others, one that ends in -in what makes it pass. Assumes nothing.
+-- Laws of Booleans: tests that pass, fail, and stand together. A law that ends in -out says what follows from a test
+-- made of others, one that ends in -in what makes it pass. Assumes nothing.
 use mathlib.Core.Path.{_≡_, refl, sym, subst, _∙_}
 use mathlib.Core.Bool.{Bool, true, false, _&&_, _||_, true≢false}
 use mathlib.Core.List.{List, [], _∷_}
@@ -66,8 +66,9 @@ pub or-false : (a : Bool) → a || false ≡ a
 or-false true = refl
 or-false false = refl
 
--- ---- All tests of a list: test i of those that all pass
+-- ---- All tests of a list
 
+-- test i of those that all pass
 pub all-out : (l : List Bool) → all l ≡ true → (i : ℕ) → getD l i true ≡ true
 all-out [] e i = refl
 all-out (a ∷ []) e zero = e

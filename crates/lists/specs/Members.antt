@@ -1,7 +1,9 @@
--- Which elements a ranked list has, which its front leaves out, and how many distinct ones there can be. Assumes a strict order where it says so.
+-- Which elements a ranked list has, which its front leaves out, and how many distinct ones there can be. Assumes a
+-- strict order where it says so.
 use mathlib.Core.Path.{_≡_, refl, sym, ap, _∙_}
 use mathlib.Core.Bool.{Bool, true, false, cond}
-use mathlib.Core.List.{List, [], _∷_, List·Memᴰ, List·Memᴰ·head, List·Memᴰ·tail, List·Memᴰ·cases-cons, List·Memᴰ·not-nil, Memᴰ·cast}
+use mathlib.Core.List.{List, [], _∷_, List·Memᴰ, List·Memᴰ·head, List·Memᴰ·tail, List·Memᴰ·cases-cons}
+use mathlib.Core.List.{List·Memᴰ·not-nil, Memᴰ·cast}
 use mathlib.Core.Logic.{_⊎_, inl, inr, ⊎-elim, _↔_}
 use Prim.Native.Nat.{ℕ, zero, suc, _≤_}
 use native.Mathlib.Omega.{arith}
@@ -21,8 +23,11 @@ module _ {A : Type 0} (ahead : A → A → Bool) where
       later (inl e) = List·Memᴰ·head e
       later (inr m) = List·Memᴰ·tail (List·Memᴰ·tail m)
 
-      go : (t : Bool) → (List·Memᴰ z (ins ahead x l) → List·Memᴰ z (x ∷ l)) → List·Memᴰ z (cond t (y ∷ ins ahead x l) (x ∷ y ∷ l)) → List·Memᴰ z (x ∷ y ∷ l)
-      go true f h = ⊎-elim (λ e. List·Memᴰ·tail (List·Memᴰ·head e)) (λ m. later (List·Memᴰ·cases-cons (f m))) (List·Memᴰ·cases-cons h)
+      go : (t : Bool) → (List·Memᴰ z (ins ahead x l) → List·Memᴰ z (x ∷ l))
+          → List·Memᴰ z (cond t (y ∷ ins ahead x l) (x ∷ y ∷ l)) → List·Memᴰ z (x ∷ y ∷ l)
+      go true f h =
+          ⊎-elim (λ e. List·Memᴰ·tail (List·Memᴰ·head e)) (λ m. later (List·Memᴰ·cases-cons (f m)))
+          (List·Memᴰ·cases-cons h)
       go false f h = h
 
   mem-put : (x z : A) (l : List A) → List·Memᴰ z (x ∷ l) → List·Memᴰ z (ins ahead x l)
@@ -30,8 +35,12 @@ module _ {A : Type 0} (ahead : A → A → Bool) where
   mem-put x z [] h = h
   mem-put x z (y ∷ l) h = go (ahead y x) (mem-put x z l)
     where
-      go : (t : Bool) → (List·Memᴰ z (x ∷ l) → List·Memᴰ z (ins ahead x l)) → List·Memᴰ z (cond t (y ∷ ins ahead x l) (x ∷ y ∷ l))
-      go true f = ⊎-elim (λ e. List·Memᴰ·tail (f (List·Memᴰ·head e))) (λ m. ⊎-elim (λ e. List·Memᴰ·head e) (λ k. List·Memᴰ·tail (f (List·Memᴰ·tail k))) (List·Memᴰ·cases-cons m)) (List·Memᴰ·cases-cons h)
+      go : (t : Bool) → (List·Memᴰ z (x ∷ l) → List·Memᴰ z (ins ahead x l))
+          → List·Memᴰ z (cond t (y ∷ ins ahead x l) (x ∷ y ∷ l))
+      go true f =
+          ⊎-elim (λ e. List·Memᴰ·tail (f (List·Memᴰ·head e)))
+          (λ m. ⊎-elim (λ e. List·Memᴰ·head e) (λ k. List·Memᴰ·tail (f (List·Memᴰ·tail k))) (List·Memᴰ·cases-cons m))
+          (List·Memᴰ·cases-cons h)
       go false f = h
 
   -- ranking moves elements, and none comes or goes
@@ -41,7 +50,14 @@ module _ {A : Type 0} (ahead : A → A → Bool) where
   mem-sort x (y ∷ l) = go (mem-sort x l)
     where
       go : List·Memᴰ x (sort ahead l) ↔ List·Memᴰ x l → List·Memᴰ x (ins ahead y (sort ahead l)) ↔ List·Memᴰ x (y ∷ l)
-      go f = (λ h. ⊎-elim (λ e. List·Memᴰ·head e) (λ m. List·Memᴰ·tail (f .0 m)) (List·Memᴰ·cases-cons (mem-ins y x (sort ahead l) h)), λ h. mem-put y x (sort ahead l) (⊎-elim (λ e. List·Memᴰ·head e) (λ m. List·Memᴰ·tail (f .1 m)) (List·Memᴰ·cases-cons h)))
+      go f = (
+        λ h.
+            ⊎-elim (λ e. List·Memᴰ·head e) (λ m. List·Memᴰ·tail (f .0 m))
+            (List·Memᴰ·cases-cons (mem-ins y x (sort ahead l) h)),
+        λ h.
+            mem-put y x (sort ahead l)
+            (⊎-elim (λ e. List·Memᴰ·head e) (λ m. List·Memᴰ·tail (f .1 m)) (List·Memᴰ·cases-cons h)),
+      )
 
   -- Distinct lists
 
@@ -72,7 +88,8 @@ module _ {A : Type 0} (ahead : A → A → Bool) (order : Strict ahead) where
       not-self : (z : A) → ahead z z ≡ true → ⊥
       not-self z e = clash e (order .asym z z e)
 
-      go : (a b : Bool) → ahead x y ≡ a → ahead y x ≡ b → List·Memᴰ x l ⊎ (List·Memᴰ x l → ⊥) → List·Memᴰ x (y ∷ l) ⊎ (List·Memᴰ x (y ∷ l) → ⊥)
+      go : (a b : Bool) → ahead x y ≡ a → ahead y x ≡ b → List·Memᴰ x l ⊎ (List·Memᴰ x l → ⊥)
+          → List·Memᴰ x (y ∷ l) ⊎ (List·Memᴰ x (y ∷ l) → ⊥)
       go true b e f r = other (λ g. not-self y (ap (λ z. ahead z y) (sym g) ∙ e)) r
       go false true e f r = other (λ g. not-self x (ap (λ z. ahead z x) g ∙ f)) r
       go false false e f r = inl (List·Memᴰ·head (order .tri x y e f))
@@ -89,7 +106,8 @@ module _ {A : Type 0} (ahead : A → A → Bool) (order : Strict ahead) where
   unfolding ranked
   ordered-ranked [] o d = refl
   ordered-ranked (x ∷ []) o d = refl
-  ordered-ranked (x ∷ y ∷ l) o d = rw (apart x y (o .0 .0) (λ e. d .0 (List·Memᴰ·head e))) (ordered-ranked (y ∷ l) (o .1) (d .1))
+  ordered-ranked (x ∷ y ∷ l) o d =
+      rw (apart x y (o .0 .0) (λ e. d .0 (List·Memᴰ·head e))) (ordered-ranked (y ∷ l) (o .1) (d .1))
 
   -- a list without repeats gets ranked
   pub sort-ranked : (l : List A) → Distinct l → ranked ahead (sort ahead l) ≡ true
@@ -100,8 +118,11 @@ module _ {A : Type 0} (ahead : A → A → Bool) (order : Strict ahead) where
   unfolding ranked
   ranked-first x [] h = tt
   ranked-first x (y ∷ l) h =
-      let b = and-out (ahead x y) (ranked ahead (y ∷ l)) h in
-      (b .0, all-map (λ z. ahead y z ≡ true) (λ z. ahead x z ≡ true) (λ z k. order .trans x y z (b .0) k) l (ranked-first y l (b .1)))
+      let b = and-out (ahead x y) (ranked ahead (y ∷ l)) h in (
+        b .0,
+        all-map (λ z. ahead y z ≡ true) (λ z. ahead x z ≡ true) (λ z k. order .trans x y z (b .0) k) l
+            (ranked-first y l (b .1)),
+      )
 
   pub ranked-rest : (x : A) (l : List A) → ranked ahead (x ∷ l) ≡ true → ranked ahead l ≡ true
   unfolding ranked
@@ -111,7 +132,8 @@ module _ {A : Type 0} (ahead : A → A → Bool) (order : Strict ahead) where
   pub ranked-distinct : (l : List A) → ranked ahead l ≡ true → Distinct l
   ranked-distinct [] h = tt
   ranked-distinct (x ∷ l) h =
-      let not-later : List·Memᴰ x l → ⊥ = λ m. let e : ahead x x ≡ true = all-at (λ y. ahead x y ≡ true) x (ranked-first x l h) m in clash e (order .asym x x e) in
+      let self : List·Memᴰ x l → ahead x x ≡ true = all-at (λ y. ahead x y ≡ true) x (ranked-first x l h) in
+      let not-later : List·Memᴰ x l → ⊥ = λ m. clash (self m) (order .asym x x (self m)) in
       (not-later, ranked-distinct l (ranked-rest x l h))
 
 -- Fronts
@@ -120,7 +142,8 @@ module _ {A : Type 0} where
   pub mem-take : (n : ℕ) (x : A) (l : List A) → List·Memᴰ x (take n l) → List·Memᴰ x l
   mem-take zero x l m = absurd (List·Memᴰ·not-nil m)
   mem-take (suc n) x [] m = m
-  mem-take (suc n) x (y ∷ l) m = ⊎-elim (λ e. List·Memᴰ·head e) (λ k. List·Memᴰ·tail (mem-take n x l k)) (List·Memᴰ·cases-cons m)
+  mem-take (suc n) x (y ∷ l) m =
+      ⊎-elim (λ e. List·Memᴰ·head e) (λ k. List·Memᴰ·tail (mem-take n x l k)) (List·Memᴰ·cases-cons m)
 
   pub take-distinct : (n : ℕ) (l : List A) → Distinct l → Distinct (take n l)
   take-distinct zero l d = tt
@@ -130,21 +153,31 @@ module _ {A : Type 0} where
 module _ {A : Type 0} (ahead : A → A → Bool) (order : Strict ahead) where
   -- the front of a ranked list is ranked
   pub ranked-take : (n : ℕ) (l : List A) → ranked ahead l ≡ true → ranked ahead (take n l) ≡ true
-  ranked-take n l h = ordered-ranked ahead order (take n l) (take-ordered ahead n l (ranked-ordered ahead order l h)) (take-distinct n l (ranked-distinct ahead order l h))
+  ranked-take n l h =
+      ordered-ranked ahead order (take n l) (take-ordered ahead n l (ranked-ordered ahead order l h))
+      (take-distinct n l (ranked-distinct ahead order l h))
 
 -- How many
 
 module _ {A : Type 0} where
   -- m without one x has one element fewer, and all others
-  without : (x : A) {m : List A} → List·Memᴰ x m → (m′ : List A) × (length m ≡ suc (length m′)) × ((y : A) → List·Memᴰ y m → (y ≡ x) ⊎ List·Memᴰ y m′)
+  without : (x : A) {m : List A} → List·Memᴰ x m
+      → (m′ : List A) × (length m ≡ suc (length m′)) × ((y : A) → List·Memᴰ y m → (y ≡ x) ⊎ List·Memᴰ y m′)
   without x (List·Memᴰ·head {xs = l} e) = (l, refl, λ y k. ⊎-elim (λ f. inl (f ∙ sym e)) inr (List·Memᴰ·cases-cons k))
   without x (List·Memᴰ·tail {x = z} k) =
-      let r = without x k in
-      (z ∷ r .0, ap suc (r .1), λ y j. ⊎-elim (λ e. inr (List·Memᴰ·head e)) (λ i. ⊎-elim inl (λ h. inr (List·Memᴰ·tail h)) (r .2 y i)) (List·Memᴰ·cases-cons j))
+      let r = without x k in (
+        z ∷ r .0,
+        ap suc (r .1),
+        λ y j.
+            ⊎-elim (λ e. inr (List·Memᴰ·head e)) (λ i. ⊎-elim inl (λ h. inr (List·Memᴰ·tail h)) (r .2 y i))
+            (List·Memᴰ·cases-cons j),
+      )
 
   -- distinct elements of m are at most as many as m has
   pub pigeonhole : (l m : List A) → Distinct l → ((x : A) → List·Memᴰ x l → List·Memᴰ x m) → length l ≤ length m
   pigeonhole [] m d h = omega arith
   pigeonhole (x ∷ l) m d h =
       let r = without x (h x (List·Memᴰ·head refl)) in
-      omega (arith, r .1, pigeonhole l (r .0) (d .1) (λ y k. ⊎-elim (λ e. absurd (d .0 (Memᴰ·cast (sym e) k))) (λ j. j) (r .2 y (h y (List·Memᴰ·tail k)))))
+      let later : (y : A) → List·Memᴰ y l → List·Memᴰ y (r .0) =
+      λ y k. ⊎-elim (λ e. absurd (d .0 (Memᴰ·cast (sym e) k))) (λ j. j) (r .2 y (h y (List·Memᴰ·tail k))) in
+      omega (arith, r .1, pigeonhole l (r .0) (d .1) later)

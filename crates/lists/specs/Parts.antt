@@ -1,12 +1,14 @@
 -- Which elements keep, range, each and ++ give, when none comes twice, and how map goes through them. Assumes nothing.
 use mathlib.Core.Path.{_≡_, refl, sym, ap, ap₂, subst, _∙_}
 use mathlib.Core.Bool.{Bool, true, false, _&&_}
-use mathlib.Core.List.{List, [], _∷_, _++_, map, map-append, List·Memᴰ, List·Memᴰ·head, List·Memᴰ·tail, List·Memᴰ·cases-cons, List·Memᴰ·not-nil, Memᴰ·cast, List·Memᴰ·append-cases, Memᴰ·append-left, Memᴰ·append-right, Memᴰ·of-map}
+use mathlib.Core.List.{List, [], _∷_, _++_, map, map-append, List·Memᴰ, List·Memᴰ·head, List·Memᴰ·tail}
+use mathlib.Core.List.{List·Memᴰ·cases-cons, List·Memᴰ·not-nil, Memᴰ·cast, List·Memᴰ·append-cases, Memᴰ·append-left}
+use mathlib.Core.List.{Memᴰ·append-right, Memᴰ·of-map}
 use mathlib.Core.Logic.{⊎-elim, _↔_}
 use Prim.Native.Nat.{ℕ, zero, suc, _+_, _≤_, _<_}
 use native.Mathlib.Omega.{arith}
 use native.Mathlib.Decide.{ℕ-discrete}
-use lib.ListN.{length, getD}
+use lib.ListN.{length, getD, take}
 use Rattle.lists.specs.Lists.{consIf, keep, every, range, each}
 use Rattle.lists.specs.Bools.{clash, and-out}
 use Rattle.lists.specs.Words.{Distinct}
@@ -14,10 +16,13 @@ use Rattle.lists.specs.Words.{Distinct}
 -- ++
 
 module _ {A : Type 0} where
-  pub append-distinct : (l m : List A) → Distinct l → Distinct m → ((x : A) → List·Memᴰ x l → List·Memᴰ x m → ⊥) → Distinct (l ++ m)
+  pub append-distinct : (l m : List A) → Distinct l → Distinct m → ((x : A) → List·Memᴰ x l → List·Memᴰ x m → ⊥)
+      → Distinct (l ++ m)
   append-distinct [] m d e h = e
-  append-distinct (x ∷ l) m d e h =
-      (λ k. ⊎-elim (d .0) (h x (List·Memᴰ·head refl)) (List·Memᴰ·append-cases l k), append-distinct l m (d .1) e (λ y a b. h y (List·Memᴰ·tail a) b))
+  append-distinct (x ∷ l) m d e h = (
+    λ k. ⊎-elim (d .0) (h x (List·Memᴰ·head refl)) (List·Memᴰ·append-cases l k),
+    append-distinct l m (d .1) e (λ y a b. h y (List·Memᴰ·tail a) b),
+  )
 
   -- what stands in the one part of a list without repeats does not stand in the other
   pub append-apart : (l m : List A) → Distinct (l ++ m) → (x : A) → List·Memᴰ x l → List·Memᴰ x m → ⊥
@@ -34,8 +39,10 @@ mem-range x a (suc n) = go (mem-range x (suc a) n) (ℕ-discrete x a)
     go : (List·Memᴰ x (range (suc a) n) ↔ ((suc a ≤ x) × (x < suc a + n))) → Dec (x ≡ a)
         → List·Memᴰ x (a ∷ range (suc a) n) ↔ ((a ≤ x) × (x < a + suc n))
     go f (yes e) = (λ m. omega arith, λ h. List·Memᴰ·head e)
-    go f (no e) =
-        (λ m. ⊎-elim (λ g. absurd (e g)) (λ k. let h = f .0 k in omega arith) (List·Memᴰ·cases-cons m), λ h. List·Memᴰ·tail (f .1 (omega arith)))
+    go f (no e) = (
+      λ m. ⊎-elim (λ g. absurd (e g)) (λ k. let h = f .0 k in omega arith) (List·Memᴰ·cases-cons m),
+      λ h. List·Memᴰ·tail (f .1 (omega arith)),
+    )
 
 pub range-distinct : (a n : ℕ) → Distinct (range a n)
 unfolding range
@@ -70,7 +77,9 @@ module _ {A : Type 0} (test : A → Bool) where
       go : (t : Bool) → test y ≡ t → (List·Memᴰ x (keep test l) ↔ (List·Memᴰ x l × (test x ≡ true)))
           → List·Memᴰ x (consIf t y (keep test l)) ↔ (List·Memᴰ x (y ∷ l) × (test x ≡ true))
       go true e f = (
-        λ m. ⊎-elim (λ g. (List·Memᴰ·head g, ap test g ∙ e)) (λ k. (List·Memᴰ·tail (f .0 k .0), f .0 k .1)) (List·Memᴰ·cases-cons m),
+        λ m.
+            ⊎-elim (λ g. (List·Memᴰ·head g, ap test g ∙ e)) (λ k. (List·Memᴰ·tail (f .0 k .0), f .0 k .1))
+            (List·Memᴰ·cases-cons m),
         λ h. ⊎-elim (λ g. List·Memᴰ·head g) (λ k. List·Memᴰ·tail (f .1 (k, h .1))) (List·Memᴰ·cases-cons (h .0)),
       )
       go false e f = (
@@ -90,12 +99,16 @@ module _ {A : Type 0} (test : A → Bool) where
 -- map and each; key tells which element a value came from
 
 module _ {A B : Type 0} where
-  pub map-distinct : (f : A → B) (key : B → A) → ((x : A) → key (f x) ≡ x) → (l : List A) → Distinct l → Distinct (map f l)
+  pub map-distinct : (f : A → B) (key : B → A) → ((x : A) → key (f x) ≡ x) → (l : List A) → Distinct l
+      → Distinct (map f l)
   map-distinct f key h [] d = tt
-  map-distinct f key h (x ∷ l) d =
-      (λ m. let r = Memᴰ·of-map f l m in d .0 (Memᴰ·cast (sym (h x) ∙ ap key (sym (r .2)) ∙ h (r .0)) (r .1)), map-distinct f key h l (d .1))
+  map-distinct f key h (x ∷ l) d = (
+    λ m. let r = Memᴰ·of-map f l m in d .0 (Memᴰ·cast (sym (h x) ∙ ap key (sym (r .2)) ∙ h (r .0)) (r .1)),
+    map-distinct f key h l (d .1),
+  )
 
-  pub mem-each : (f : A → List B) (y : B) (l : List A) → List·Memᴰ y (each f l) ↔ ((x : A) × List·Memᴰ x l × List·Memᴰ y (f x))
+  pub mem-each : (f : A → List B) (y : B) (l : List A)
+      → List·Memᴰ y (each f l) ↔ ((x : A) × List·Memᴰ x l × List·Memᴰ y (f x))
   unfolding each
   mem-each f y [] = (λ m. absurd (List·Memᴰ·not-nil m), λ h. absurd (List·Memᴰ·not-nil (h .1)))
   mem-each f y (x ∷ l) = go (mem-each f y l)
@@ -103,12 +116,17 @@ module _ {A B : Type 0} where
       go : (List·Memᴰ y (each f l) ↔ ((x : A) × List·Memᴰ x l × List·Memᴰ y (f x)))
           → List·Memᴰ y (f x ++ each f l) ↔ ((z : A) × List·Memᴰ z (x ∷ l) × List·Memᴰ y (f z))
       go g = (
-        λ m. ⊎-elim (λ k. (x, List·Memᴰ·head refl, k)) (λ k. let r = g .0 k in (r .0, List·Memᴰ·tail (r .1), r .2)) (List·Memᴰ·append-cases (f x) m),
-        λ h. ⊎-elim (λ e. Memᴰ·append-left (each f l) (subst (λ z. List·Memᴰ y (f z)) e (h .2))) (λ k. Memᴰ·append-right (f x) (g .1 (h .0, k, h .2)))
+        λ m.
+            ⊎-elim (λ k. (x, List·Memᴰ·head refl, k)) (λ k. let r = g .0 k in (r .0, List·Memᴰ·tail (r .1), r .2))
+            (List·Memᴰ·append-cases (f x) m),
+        λ h.
+            ⊎-elim (λ e. Memᴰ·append-left (each f l) (subst (λ z. List·Memᴰ y (f z)) e (h .2)))
+            (λ k. Memᴰ·append-right (f x) (g .1 (h .0, k, h .2)))
             (List·Memᴰ·cases-cons (h .1)),
       )
 
-  pub each-distinct : (f : A → List B) (key : B → A) → ((x : A) (y : B) → List·Memᴰ y (f x) → key y ≡ x) → ((x : A) → Distinct (f x)) → (l : List A)
+  pub each-distinct : (f : A → List B) (key : B → A) → ((x : A) (y : B) → List·Memᴰ y (f x) → key y ≡ x)
+      → ((x : A) → Distinct (f x)) → (l : List A)
       → Distinct l → Distinct (each f l)
   unfolding each
   each-distinct f key h k [] d = tt
@@ -127,7 +145,8 @@ module _ {A B C : Type 0} where
   each-map g f [] = refl
   each-map g f (x ∷ l) = ap (λ r. f (g x) ++ r) (each-map g f l)
 
-pub keep-map : {A B : Type 0} (g : A → B) (test : B → Bool) (l : List A) → keep test (map g l) ≡ map g (keep (λ x. test (g x)) l)
+pub keep-map : {A B : Type 0} (g : A → B) (test : B → Bool) (l : List A)
+    → keep test (map g l) ≡ map g (keep (λ x. test (g x)) l)
 unfolding keep consIf
 keep-map g test [] = refl
 keep-map g test (x ∷ l) = go (test (g x)) (keep-map g test l)
@@ -150,8 +169,18 @@ module _ {A : Type 0} (test : A → Bool) where
   every-of [] h = refl
   every-of (x ∷ l) h = rw (h x (List·Memᴰ·head refl)) (every-of l (λ y m. h y (List·Memᴰ·tail m)))
 
+  -- of the first m elements the very first
+  pub every-first : (d : A) (m : ℕ) (l : List A) → 0 < length l → 0 < m → every test (take m l) ≡ true
+      → test (getD l 0 d) ≡ true
+  unfolding every
+  every-first d zero l h k e = absurd (omega arith)
+  every-first d (suc m) [] h k e = absurd (omega arith)
+  every-first d (suc m) (x ∷ l) h k e = and-out (test x) (every test (take m l)) e .0
+
 -- tests that agree on the elements agree on the list
-pub every-same : {A : Type 0} (test other : A → Bool) (l : List A) → ((x : A) → List·Memᴰ x l → test x ≡ other x) → every test l ≡ every other l
+pub every-same : {A : Type 0} (test other : A → Bool) (l : List A) → ((x : A) → List·Memᴰ x l → test x ≡ other x)
+    → every test l ≡ every other l
 unfolding every
 every-same test other [] h = refl
-every-same test other (x ∷ l) h = ap₂ (λ a b. a && b) (h x (List·Memᴰ·head refl)) (every-same test other l (λ y m. h y (List·Memᴰ·tail m)))
+every-same test other (x ∷ l) h =
+    ap₂ (λ a b. a && b) (h x (List·Memᴰ·head refl)) (every-same test other l (λ y m. h y (List·Memᴰ·tail m)))

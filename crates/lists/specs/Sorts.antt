@@ -1,7 +1,9 @@
--- Laws of ranking a list: in any order of its elements, in parts, and of its front. Assumes a strict order where it says so.
+-- Laws of ranking a list: in any order of its elements, in parts, and of its front. Assumes a strict order where it
+-- says so.
 use mathlib.Core.Path.{_≡_, refl, sym, ap, subst, _∙_}
 use mathlib.Core.Bool.{Bool, true, false, cond}
-use mathlib.Core.List.{List, [], _∷_, _++_, append-nil, List·Memᴰ, List·Memᴰ·head, List·Memᴰ·tail, List·Permᴰ, List·Permᴰ·nil, List·Permᴰ·cons, List·Permᴰ·swap, List·Permᴰ·trans}
+use mathlib.Core.List.{List, [], _∷_, _++_, append-nil, List·Memᴰ, List·Memᴰ·head, List·Memᴰ·tail, List·Permᴰ}
+use mathlib.Core.List.{List·Permᴰ·nil, List·Permᴰ·cons, List·Permᴰ·swap, List·Permᴰ·trans}
 use Prim.Native.Nat.{ℕ, zero, suc}
 use native.Mathlib.Omega.{arith}
 use lib.ListN.{length, take}
@@ -45,7 +47,8 @@ module _ {A : Type 0} (ahead : A → A → Bool) where
   length-ins x [] = refl
   length-ins x (y ∷ l) = go (ahead y x) (length-ins x l)
     where
-      go : (t : Bool) → length (ins ahead x l) ≡ suc (length l) → length (cond t (y ∷ ins ahead x l) (x ∷ y ∷ l)) ≡ suc (suc (length l))
+      go : (t : Bool) → length (ins ahead x l) ≡ suc (length l)
+          → length (cond t (y ∷ ins ahead x l) (x ∷ y ∷ l)) ≡ suc (suc (length l))
       go true h = ap suc h
       go false h = refl
 
@@ -76,15 +79,21 @@ module _ {A : Type 0} (ahead : A → A → Bool) where
   take-ins (suc k) x [] = refl
   take-ins (suc k) x (y ∷ l) = go (ahead y x) (take-ins k x l)
     where
-      go : (t : Bool) → take k (ins ahead x (take k l)) ≡ take k (ins ahead x l) → take (suc k) (cond t (y ∷ ins ahead x (take k l)) (x ∷ y ∷ take k l)) ≡ take (suc k) (cond t (y ∷ ins ahead x l) (x ∷ y ∷ l))
+      go : (t : Bool) → take k (ins ahead x (take k l)) ≡ take k (ins ahead x l)
+          → take (suc k) (cond t (y ∷ ins ahead x (take k l)) (x ∷ y ∷ take k l))
+          ≡ take (suc k) (cond t (y ∷ ins ahead x l) (x ∷ y ∷ l))
       go true h = ap (λ r. y ∷ r) h
       go false h = ap (λ r. x ∷ r) (take-cons k y l)
 
   -- lists with the same best n have the same best n with m
-  pub take-sort-more : (n : ℕ) (l l′ m : List A) → take n (sort ahead l) ≡ take n (sort ahead l′) → take n (sort ahead (m ++ l)) ≡ take n (sort ahead (m ++ l′))
+  pub take-sort-more : (n : ℕ) (l l′ m : List A) → take n (sort ahead l) ≡ take n (sort ahead l′)
+      → take n (sort ahead (m ++ l)) ≡ take n (sort ahead (m ++ l′))
   unfolding sort
   take-sort-more n l l′ [] h = h
-  take-sort-more n l l′ (x ∷ m) h = sym (take-ins n x (sort ahead (m ++ l))) ∙ ap (λ r. take n (ins ahead x r)) (take-sort-more n l l′ m h) ∙ take-ins n x (sort ahead (m ++ l′))
+  take-sort-more n l l′ (x ∷ m) h =
+      sym (take-ins n x (sort ahead (m ++ l)))
+      ∙ ap (λ r. take n (ins ahead x r)) (take-sort-more n l l′ m h)
+      ∙ take-ins n x (sort ahead (m ++ l′))
 
   -- what nothing of l stands ahead of goes to the front
   pub ins-front : (x : A) (l : List A) → All (λ y. ahead y x ≡ false) l → ins ahead x l ≡ x ∷ l
@@ -107,8 +116,8 @@ module _ {A : Type 0} (ahead : A → A → Bool) where
 
 module _ {A : Type 0} (ahead : A → A → Bool) (order : Strict ahead) where
   -- where z stands ahead of x and not ahead of y, y stands ahead of x
-  pub between : (x y z : A) → ahead z x ≡ true → ahead z y ≡ false → ahead y x ≡ true
-  between x y z e f = go (ahead y z) refl
+  pub between-ahead : (x y z : A) → ahead z x ≡ true → ahead z y ≡ false → ahead y x ≡ true
+  between-ahead x y z e f = go (ahead y z) refl
     where
       go : (t : Bool) → ahead y z ≡ t → ahead y x ≡ true
       go true h = order .trans y z x h e
@@ -118,7 +127,8 @@ module _ {A : Type 0} (ahead : A → A → Bool) (order : Strict ahead) where
   two : (x y : A) (l : List A) → cond (ahead y x) (y ∷ x ∷ l) (x ∷ y ∷ l) ≡ cond (ahead x y) (x ∷ y ∷ l) (y ∷ x ∷ l)
   two x y l = go (ahead x y) (ahead y x) refl refl
     where
-      go : (s t : Bool) → ahead x y ≡ s → ahead y x ≡ t → cond (ahead y x) (y ∷ x ∷ l) (x ∷ y ∷ l) ≡ cond (ahead x y) (x ∷ y ∷ l) (y ∷ x ∷ l)
+      go : (s t : Bool) → ahead x y ≡ s → ahead y x ≡ t
+          → cond (ahead y x) (y ∷ x ∷ l) (x ∷ y ∷ l) ≡ cond (ahead x y) (x ∷ y ∷ l) (y ∷ x ∷ l)
       go true true e f = clash f (order .asym x y e)
       go true false e f = simp (e, f)
       go false true e f = simp (e, f)
@@ -130,10 +140,11 @@ module _ {A : Type 0} (ahead : A → A → Bool) (order : Strict ahead) where
   ins-swap x y [] = two x y []
   ins-swap x y (z ∷ l) = go (ahead z x) (ahead z y) refl refl (ins-swap x y l)
     where
-      go : (s t : Bool) → ahead z x ≡ s → ahead z y ≡ t → ins ahead x (ins ahead y l) ≡ ins ahead y (ins ahead x l) → ins ahead x (ins ahead y (z ∷ l)) ≡ ins ahead y (ins ahead x (z ∷ l))
+      go : (s t : Bool) → ahead z x ≡ s → ahead z y ≡ t → ins ahead x (ins ahead y l) ≡ ins ahead y (ins ahead x l)
+          → ins ahead x (ins ahead y (z ∷ l)) ≡ ins ahead y (ins ahead x (z ∷ l))
       go true true e f h = simp (e, f) (ap (λ r. z ∷ r) h)
-      go true false e f h = simp (e, f, between x y z e f)
-      go false true e f h = simp (e, f, between y x z f e)
+      go true false e f h = simp (e, f, between-ahead x y z e f)
+      go false true e f h = simp (e, f, between-ahead y x z f e)
       go false false e f h = simp (e, f) (two x y (z ∷ l))
 
   -- an element from the middle may be put last
@@ -150,14 +161,18 @@ module _ {A : Type 0} (ahead : A → A → Bool) (order : Strict ahead) where
 
   -- what is not ahead of y is not ahead of what y is not ahead of
   pub not-ahead : (x y z : A) → ahead y x ≡ false → ahead z y ≡ false → ahead z x ≡ false
-  not-ahead x y z e f = fails (ahead z x) (λ h. clash (between x y z h f) e)
+  not-ahead x y z e f = fails (ahead z x) (λ h. clash (between-ahead x y z h f) e)
 
   -- as all orders of the elements do
   pub sort-perm : {l m : List A} → List·Permᴰ l m → sort ahead l ≡ sort ahead m
   unfolding sort
   sort-perm List·Permᴰ·nil = refl
-  sort-perm (List·Permᴰ·cons {a = a} {l₂ = m} e h) = ap (ins ahead a) (sort-perm h) ∙ ap (λ x. ins ahead x (sort ahead m)) e
-  sort-perm (List·Permᴰ·swap {a = a} {b = b} {a′ = c} {l = l} e f) = ins-swap a b (sort ahead l) ∙ ap (λ x. ins ahead x (ins ahead a (sort ahead l))) f ∙ ap (λ x. ins ahead c (ins ahead x (sort ahead l))) e
+  sort-perm (List·Permᴰ·cons {a = a} {l₂ = m} e h) =
+      ap (ins ahead a) (sort-perm h) ∙ ap (λ x. ins ahead x (sort ahead m)) e
+  sort-perm (List·Permᴰ·swap {a = a} {b = b} {a′ = c} {l = l} e f) =
+      ins-swap a b (sort ahead l)
+      ∙ ap (λ x. ins ahead x (ins ahead a (sort ahead l))) f
+      ∙ ap (λ x. ins ahead c (ins ahead x (sort ahead l))) e
   sort-perm (List·Permᴰ·trans h k) = sort-perm h ∙ sort-perm k
 
   -- putting keeps a list in order
@@ -166,9 +181,11 @@ module _ {A : Type 0} (ahead : A → A → Bool) (order : Strict ahead) where
   ins-ordered x [] h = (tt, tt)
   ins-ordered x (y ∷ l) h = go (ahead y x) refl (ins-ordered x l (h .1))
     where
-      go : (t : Bool) → ahead y x ≡ t → Ordered ahead (ins ahead x l) → Ordered ahead (cond t (y ∷ ins ahead x l) (x ∷ y ∷ l))
+      go : (t : Bool) → ahead y x ≡ t → Ordered ahead (ins ahead x l)
+          → Ordered ahead (cond t (y ∷ ins ahead x l) (x ∷ y ∷ l))
       go true e a = (all-ins ahead (λ z. ahead z y ≡ false) x l (order .asym y x e) (h .0), a)
-      go false e a = ((e, all-map (λ z. ahead z y ≡ false) (λ z. ahead z x ≡ false) (λ z k. not-ahead x y z e k) l (h .0)), h)
+      go false e a =
+          ((e, all-map (λ z. ahead z y ≡ false) (λ z. ahead z x ≡ false) (λ z k. not-ahead x y z e k) l (h .0)), h)
 
   -- no later one stands ahead of an earlier one
   pub sort-ordered : (l : List A) → Ordered ahead (sort ahead l)
@@ -193,20 +210,34 @@ module _ {A : Type 0} (ahead : A → A → Bool) (order : Strict ahead) where
 
   -- Parts
 
-  ordered-below : (h m : List A) → Ordered ahead h → All (λ x. All (λ y. ahead x y ≡ true) m) h → sort ahead (h ++ m) ≡ h ++ sort ahead m
+  ordered-below : (h m : List A) → Ordered ahead h → All (λ x. All (λ y. ahead x y ≡ true) m) h
+      → sort ahead (h ++ m) ≡ h ++ sort ahead m
   unfolding sort
   ordered-below [] m o k = refl
   ordered-below (x ∷ h) m o k =
-      let low : All (λ y. ahead y x ≡ false) (sort ahead m) = all-sort ahead (λ y. ahead y x ≡ false) m (all-map (λ y. ahead x y ≡ true) (λ y. ahead y x ≡ false) (order .asym x) m (k .0)) in
-      ap (ins ahead x) (ordered-below h m (o .1) (k .1)) ∙ ins-front ahead x (h ++ sort ahead m) (all-append (λ y. ahead y x ≡ false) h (sort ahead m) (o .0) low)
+      let low : All (λ y. ahead y x ≡ false) (sort ahead m) =
+      all-sort ahead (λ y. ahead y x ≡ false) m
+      (all-map (λ y. ahead x y ≡ true) (λ y. ahead y x ≡ false) (order .asym x) m (k .0)) in
+      ap (ins ahead x) (ordered-below h m (o .1) (k .1))
+      ∙ ins-front ahead x (h ++ sort ahead m) (all-append (λ y. ahead y x ≡ false) h (sort ahead m) (o .0) low)
 
   -- what stands ahead of all the rest stays in front of it
-  pub sort-below : (h m : List A) → sort ahead h ≡ h → ((x y : A) → List·Memᴰ x h → List·Memᴰ y m → ahead x y ≡ true) → sort ahead (h ++ m) ≡ h ++ sort ahead m
-  sort-below h m e k = ordered-below h m (subst (Ordered ahead) e (sort-ordered h)) (all-of (λ x. All (λ y. ahead x y ≡ true) m) h (λ x a. all-of (λ y. ahead x y ≡ true) m (λ y b. k x y a b)))
+  pub sort-below : (h m : List A) → sort ahead h ≡ h → ((x y : A) → List·Memᴰ x h → List·Memᴰ y m → ahead x y ≡ true)
+      → sort ahead (h ++ m) ≡ h ++ sort ahead m
+  sort-below h m e k =
+      ordered-below h m (subst (Ordered ahead) e (sort-ordered h))
+      (all-of (λ x. All (λ y. ahead x y ≡ true) m) h (λ x a. all-of (λ y. ahead x y ≡ true) m (λ y b. k x y a b)))
 
   -- the best n of l and m are found from the best n of l
-  pub take-sort-append : (n : ℕ) (l m : List A) → take n (sort ahead (take n (sort ahead l) ++ m)) ≡ take n (sort ahead (l ++ m))
-  take-sort-append n l m = ap (take n) (sort-append-comm (take n (sort ahead l)) m) ∙ take-sort-more ahead n (take n (sort ahead l)) l m best ∙ ap (take n) (sort-append-comm m l)
+  pub take-sort-append : (n : ℕ) (l m : List A)
+      → take n (sort ahead (take n (sort ahead l) ++ m)) ≡ take n (sort ahead (l ++ m))
+  take-sort-append n l m =
+      ap (take n) (sort-append-comm (take n (sort ahead l)) m)
+      ∙ take-sort-more ahead n (take n (sort ahead l)) l m best
+      ∙ ap (take n) (sort-append-comm m l)
     where
       best : take n (sort ahead (take n (sort ahead l))) ≡ take n (sort ahead l)
-      best = ap (take n) (ordered-sort ahead (take n (sort ahead l)) (take-ordered ahead n (sort ahead l) (sort-ordered l))) ∙ take-take n n (sort ahead l) (omega arith)
+      best =
+          ap (take n)
+          (ordered-sort ahead (take n (sort ahead l)) (take-ordered ahead n (sort ahead l) (sort-ordered l)))
+          ∙ take-take n n (sort ahead l) (omega arith)

@@ -33,7 +33,8 @@ module _ {A : Type 0} where
       omega arith
 
   -- where the terms from place p on are 0, the first p give the total
-  pub total-take : (d : A) (f : A → ℕ) (p : ℕ) (l : List A) → ((i : ℕ) → p ≤ i → i < length l → f (getD l i d) ≡ 0) → total f l ≡ total f (take p l)
+  pub total-take : (d : A) (f : A → ℕ) (p : ℕ) (l : List A) → ((i : ℕ) → p ≤ i → i < length l → f (getD l i d) ≡ 0)
+      → total f l ≡ total f (take p l)
   unfolding total
   total-take d f zero [] h = refl
   total-take d f (suc p) [] h = refl
@@ -41,7 +42,8 @@ module _ {A : Type 0} where
       let a : total f l ≡ 0 = total-take d f zero l (λ i j k. h (suc i) (omega arith) (omega arith)) in
       let b : f x ≡ 0 = h 0 (omega arith) (omega arith) in
       omega arith
-  total-take d f (suc p) (x ∷ l) h = ap (λ n. f x + n) (total-take d f p l (λ i j k. h (suc i) (omega arith) (omega arith)))
+  total-take d f (suc p) (x ∷ l) h =
+      ap (λ n. f x + n) (total-take d f p l (λ i j k. h (suc i) (omega arith) (omega arith)))
 
   -- more terms, no smaller total
   pub total-grows : (f : A → ℕ) (p q : ℕ) (l : List A) → p ≤ q → total f (take p l) ≤ total f (take q l)
@@ -58,7 +60,9 @@ module _ {A : Type 0} where
   total-part f (suc p) (x ∷ l) = let a = total-part f p l in omega arith
 
 -- rows first or columns first
-pub total-swap : {A B : Type 0} (f : A → B → ℕ) (l : List A) (m : List B) → total (λ x. total (f x) m) l ≡ total (λ y. total (λ x. f x y) l) m
+pub total-swap : {A B : Type 0} (f : A → B → ℕ) (l : List A) (m : List B)
+    → total (λ x. total (f x) m) l ≡ total (λ y. total (λ x. f x y) l) m
 unfolding total
 total-swap f [] m = sym (total-none m)
-total-swap f (x ∷ l) m = ap (λ n. total (f x) m + n) (total-swap f l m) ∙ sym (total-add (f x) (λ y. total (λ x. f x y) l) m)
+total-swap f (x ∷ l) m =
+    ap (λ n. total (f x) m + n) (total-swap f l m) ∙ sym (total-add (f x) (λ y. total (λ x. f x y) l) m)

@@ -1,5 +1,5 @@
--- What a block pair comes to before it is looked at pair by pair: skipped, or joined with no qualifying pair. Such a pair
--- changes nothing but the joined count. Assumes nothing.
+-- What a block pair comes to before it is looked at pair by pair: skipped, or joined with no qualifying pair. Such a
+-- pair changes nothing but the joined count. Assumes nothing.
 use mathlib.Core.Path.{_≡_, refl, sym, ap, _∙_}
 use mathlib.Core.Bool.{Bool, true, false, cond, _&&_}
 use mathlib.Core.List.{List, [], append-nil}
@@ -30,15 +30,31 @@ pub record Effect (full : Bool) (low radius : ℕ) (x y : List ℤ) (r : ℕ) : 
 
 module _ (full : Bool) (low radius : ℕ) (x y : List ℤ) where
   pub effect-skip : skips full low x y ≡ true → Effect full low radius x y 0
-  effect-skip h = record { skip = λ e. h; quiet = λ e. absurd (omega (arith, e)); joined = λ e. absurd (omega (arith, e)); most = omega arith }
+  effect-skip h =
+      record {
+        skip = λ e. h;
+        quiet = λ e. absurd (omega (arith, e));
+        joined = λ e. absurd (omega (arith, e));
+        most = omega arith;
+      }
 
   pub effect-quiet : skips full low x y ≡ false → anyNear radius x y (rowCount x) ≡ false → Effect full low radius x y 1
   effect-quiet h k =
-      record { skip = λ e. absurd (omega (arith, e)); quiet = λ e. (h, k); joined = λ e. absurd (omega (arith, e)); most = omega arith }
+      record {
+        skip = λ e. absurd (omega (arith, e));
+        quiet = λ e. (h, k);
+        joined = λ e. absurd (omega (arith, e));
+        most = omega arith;
+      }
 
   pub effect-open : skips full low x y ≡ false → Effect full low radius x y 2
   effect-open h =
-      record { skip = λ e. absurd (omega (arith, e)); quiet = λ e. absurd (omega (arith, e)); joined = λ e. h; most = omega arith }
+      record {
+        skip = λ e. absurd (omega (arith, e));
+        quiet = λ e. absurd (omega (arith, e));
+        joined = λ e. h;
+        most = omega arith;
+      }
 
 -- a block pair is joined and counted
 abbrev pub joinedPair : Session → Block → Block → Session
@@ -63,7 +79,8 @@ module _ (s : Session) (r : Ready s) where
   same-held : bestHeld s [] ≡ heldPairs s
   unfolding bestHeld
   same-held =
-      ap (take (s .query .k - s .out)) (ap (sort ahead) (append-nil (heldPairs s)) ∙ ordered-sort ahead (heldPairs s) (r .order))
+      ap (take (s .query .k - s .out))
+      (ap (sort ahead) (append-nil (heldPairs s)) ∙ ordered-sort ahead (heldPairs s) (r .order))
       ∙ take-all (s .query .k - s .out) (heldPairs s) (omega (arith, r .count, r .room))
 
   holding-same : holding s (heldPairs s) ≡ counted s 1
@@ -98,7 +115,8 @@ module _ (s : Session) (r : Ready s) where
       }
 
   -- `full` and `low` are the code's numbers: whether k pairs are held or out, and the lowest held sum
-  module _ (full : Bool) (low : ℕ) (x y : Block) (test : skips full low (x .rows) (y .rows) ≡ skipped s x y) (w : ℕ) (f : Effect full low (s .query .radius) (x .rows) (y .rows) w) where
+  module _ (full : Bool) (low : ℕ) (x y : Block) (test : skips full low (x .rows) (y .rows) ≡ skipped s x y) (w : ℕ)
+      (f : Effect full low (s .query .radius) (x .rows) (y .rows) w) where
     abbrev met : Bool → Session
     met skip = cond skip s (joinedPair s x y)
 

@@ -22,18 +22,21 @@ use Rattle.keys.specs.Places.{list-of-places}
 use Rattle.block.specs.Block.{at, Rows}
 use Rattle.meeting.specs.declared.Span.{Span}
 use Rattle.choosing.specs.Ready.{Ready}
-use Rattle.meeting.specs.Side.{Inside, rowsOf}
+use Rattle.meeting.specs.Side.{SpanFits, spanBlock}
 
 -- the best of the pairs held and met are in order, and not too many
 best-ordered : (s : Session) (met : List Pair) → Ordered ahead (bestHeld s met)
 unfolding bestHeld
-best-ordered s met = take-ordered ahead (s .query .k - s .out) (sort ahead (heldPairs s ++ met)) (sort-ordered ahead ahead-strict (heldPairs s ++ met))
+best-ordered s met =
+    take-ordered ahead (s .query .k - s .out) (sort ahead (heldPairs s ++ met))
+    (sort-ordered ahead ahead-strict (heldPairs s ++ met))
 
 best-few : (s : Session) (met : List Pair) → length (bestHeld s met) ≤ s .query .k - s .out
 unfolding bestHeld
 best-few s met = omega (arith, length-take (s .query .k - s .out) (sort ahead (heldPairs s ++ met)))
 
-holding-ready : (s : Session) (l : List Pair) → Ready s → Ordered ahead l → length l ≤ s .query .k - s .out → Ready (holding s l)
+holding-ready : (s : Session) (l : List Pair) → Ready s → Ordered ahead l → length l ≤ s .query .k - s .out
+    → Ready (holding s l)
 unfolding holding
 holding-ready s l r o h =
     let e : take (length l) (places l) ≡ l = list-of-places l in
@@ -54,7 +57,8 @@ meet-ready s x y r = go (skipped s x y)
     go true = r
     go false = holding-ready s (bestHeld s (qualifying (s .query .radius) x y)) r (best-ordered s _) (best-few s _)
 
-pub blocks-ready : (field : Bool) (s : Session) (new : Block) (t : List ℤ) (depth n : ℕ) → Ready s → Ready (meetBlocks field s new t depth n)
+pub blocks-ready : (field : Bool) (s : Session) (new : Block) (t : List ℤ) (depth n : ℕ) → Ready s
+    → Ready (meetBlocks field s new t depth n)
 unfolding meetBlocks
 blocks-ready field s new t depth zero r = r
 blocks-ready field s new t depth (suc n) r = meet-ready _ _ _ (blocks-ready field s new t depth n r)
@@ -68,7 +72,8 @@ part-is t a e =
     ap (λ (m : ℕ). at a (take m (drop (4 * a) t))) n
 
 -- they are whole rows, within a table's 65,535
-pub part-rows : (t : List ℤ) (a e : ℕ) → a ≤ e → e ≤ 65535 → 4 * e ≤ length t → Rows a (take (4 * e - 4 * a) (drop (4 * a) t))
+pub part-rows : (t : List ℤ) (a e : ℕ) → a ≤ e → e ≤ 65535 → 4 * e ≤ length t
+    → Rows a (take (4 * e - 4 * a) (drop (4 * a) t))
 part-rows t a e h k l =
     let n : length (take (4 * e - 4 * a) (drop (4 * a) t)) ≡ 4 * e - 4 * a =
     length-take-le (4 * e - 4 * a) (drop (4 * a) t) (omega (arith, length-drop (4 * a) t)) in
@@ -77,16 +82,17 @@ part-rows t a e h k l =
 -- ---- A new block and an old one, as field and trim
 
 module _ (f t : List ℤ) (new old : Span) where
-  pub inside-field : (b : Bool) → Inside new (cond b f t) → Inside old (cond b t f) → Inside (cond b new old) f
+  pub inside-field : (b : Bool) → SpanFits new (cond b f t) → SpanFits old (cond b t f) → SpanFits (cond b new old) f
   inside-field true x y = x
   inside-field false x y = y
 
-  pub inside-trim : (b : Bool) → Inside new (cond b f t) → Inside old (cond b t f) → Inside (cond b old new) t
+  pub inside-trim : (b : Bool) → SpanFits new (cond b f t) → SpanFits old (cond b t f) → SpanFits (cond b old new) t
   inside-trim true x y = y
   inside-trim false x y = x
 
-  pub parts-meet : (b : Bool) (r : Session) → meet r (rowsOf f (cond b new old)) (rowsOf t (cond b old new))
-      ≡ meet r (cond b (rowsOf (cond b f t) new) (rowsOf (cond b t f) old)) (cond b (rowsOf (cond b t f) old) (rowsOf (cond b f t) new))
+  pub parts-meet : (b : Bool) (r : Session) → meet r (spanBlock f (cond b new old)) (spanBlock t (cond b old new))
+      ≡ meet r (cond b (spanBlock (cond b f t) new) (spanBlock (cond b t f) old))
+      (cond b (spanBlock (cond b t f) old) (spanBlock (cond b f t) new))
   parts-meet true r = refl
   parts-meet false r = refl
 
@@ -112,7 +118,9 @@ pub blocks-next : (field : Bool) (s : Session) (new : Block) (t : List ℤ) (dep
 unfolding meetBlocks
 blocks-next field s new t depth i c g block r r′ eb ec er eg h =
     let c-is : c ≡ i * s .query .block = ec ∙ ap (λ (b : ℕ). i * b) eb in
-    let g-is : g ≡ min (i * s .query .block + s .query .block) depth = eg ∙ ap₂ (λ (x y : ℕ). min (x + y) depth) c-is eb in
+    let g-is : g ≡ min (i * s .query .block + s .query .block) depth =
+    eg ∙ ap₂ (λ (x y : ℕ). min (x + y) depth) c-is eb in
     h
-    ∙ ap₂ (λ (x : Session) (y : Block). meet x (cond field new y) (cond field y new)) er (ap₂ (λ (x y : ℕ). rowsBetween t x y) c-is g-is)
+    ∙ ap₂ (λ (x : Session) (y : Block). meet x (cond field new y) (cond field y new)) er
+    (ap₂ (λ (x y : ℕ). rowsBetween t x y) c-is g-is)
     ∙ sym (rw add-one)

@@ -5,11 +5,9 @@ use mathlib.Core.List.{List}
 use lib.IntN.{ℤ}
 use lib.ListN.{length}
 use Rattle.rules.specs.declared.Counts.{Counts}
-use Rattle.rules.specs.declared.Session.{Session}
 use Rattle.rules.specs.Tables.{Block}
-use Rattle.rules.specs.Read.{rowsBetween, oldDepth}
+use Rattle.rules.specs.Read.{rowsBetween}
 use Rattle.meeting.specs.declared.Span.{Span}
-use Rattle.choosing.specs.Ready.{Ready}
 
 -- the depths with one table's at e
 unfoldable pub downTo : Bool → ℕ → Counts → Counts
@@ -20,11 +18,11 @@ downTo field e depth =
     }
 
 -- rows of a table, as the rules' block
-abbrev pub rowsOf : List ℤ → Span → Block
-rowsOf t x = rowsBetween t (x .from) (x .to)
+abbrev pub spanBlock : List ℤ → Span → Block
+spanBlock t x = rowsBetween t (x .from) (x .to)
 
 -- they lie within a slice and a table's 65,535 rows, and there is one at least
-pub record Inside (x : Span) (t : List ℤ) : Type 0 where
+pub record SpanFits (x : Span) (t : List ℤ) : Type 0 where
   pub some : x .from < x .to
   pub few : x .to ≤ 65535
   pub within : 4 * x .to ≤ length t

@@ -42,7 +42,8 @@ pub record Meets (radius room : ℕ) (x y : Block) (m : Met) (keys : List ℕ) (
   pub few : after .held ≤ room
   pub one : after .joined ≤ m .joined + 1
   pub long : length left ≡ 64
-  pub meets : (r : Session) → Ready r → r .query .radius ≡ radius → r .query .k - r .out ≡ room → Stands r m keys → Stands (meet r x y) after left
+  pub meets : (r : Session) → Ready r → r .query .radius ≡ radius → r .query .k - r .out ≡ room → Stands r m keys
+      → Stands (meet r x y) after left
 
 -- a record after a read: its numbers, and its pairs read off the keys
 unfoldable pub withKeys : Session → After → List ℕ → Session
@@ -64,21 +65,29 @@ pairs-again [] h = refl
 pairs-again (p ∷ l) h = λ i. pair-key p (h .0) i ∷ pairs-again l (h .1) i
 
 -- the last of them
-keyed-last : (l : List Pair) (n : ℕ) (keys : List ℕ) → 0 < n → n ≤ length keys → Keyed l (take n keys) → pairOf (getD keys (n - 1) 0) ≡ lastOf l
+keyed-last : (l : List Pair) (n : ℕ) (keys : List ℕ) → 0 < n → n ≤ length keys → Keyed l (take n keys)
+    → pairOf (getD keys (n - 1) 0) ≡ lastOf l
 keyed-last l n keys some h k =
     let e : n ≡ length l = sym (length-take-le n keys h) ∙ keyed-length l (take n keys) k in
     sym (ap pairOf (getD-take n keys (n - 1) 0 (omega arith)))
     ∙ keyed-at l (take n keys) (n - 1) k (omega arith)
     ∙ ap (λ (i : ℕ). getD l (i - 1) noPair) e
 
-module _ (r : Session) (ready : Ready r) (room : ℕ) (left : r .query .k - r .out ≡ room) (m : Met) (keys : List ℕ) (stands : Stands r m keys) where
+module _ (r : Session) (ready : Ready r) (room : ℕ) (left : r .query .k - r .out ≡ room) (m : Met) (keys : List ℕ)
+    (stands : Stands r m keys) where
   -- k pairs are held or out
   full-is : eqb (m .held) room ≡ eqb (r .out + r .held) (r .query .k)
   full-is = go (eqb (m .held) room) refl
     where
       go : (b : Bool) → eqb (m .held) room ≡ b → b ≡ eqb (r .out + r .held) (r .query .k)
-      go true e = sym (eq-eqb (r .out + r .held) (r .query .k) (omega (arith, eqb-true (m .held) room e, ready .wanted, stands .held)))
-      go false e = sym (ne-eqb (r .out + r .held) (r .query .k) (λ h. eqb-false (m .held) room e (omega (arith, h, ready .wanted, stands .held))))
+      go true e =
+          sym
+          (eq-eqb (r .out + r .held) (r .query .k)
+          (omega (arith, eqb-true (m .held) room e, ready .wanted, stands .held)))
+      go false e =
+          sym
+          (ne-eqb (r .out + r .held) (r .query .k)
+          (λ h. eqb-false (m .held) room e (omega (arith, h, ready .wanted, stands .held))))
 
   -- the lowest held sum: of the last key
   abbrev pub lowSum : ℕ
@@ -99,20 +108,28 @@ module _ (r : Session) (ready : Ready r) (room : ℕ) (left : r .query .k - r .o
   -- the code's test of a skipped block pair is the rule's
   skips-is : (x y : Block) → skips (eqb (m .held) room) lowSum (x .rows) (y .rows) ≡ skipped r x y
   unfolding skipped
-  skips-is x y = go (eqb (m .held) room) refl ∙ ap (λ (b : Bool). b && ltb (firstScore (x .rows) + firstScore (y .rows)) (lowest (heldPairs r))) full-is
+  skips-is x y =
+      go (eqb (m .held) room) refl
+      ∙ ap (λ (b : Bool). b && ltb (firstScore (x .rows) + firstScore (y .rows)) (lowest (heldPairs r))) full-is
     where
-      go : (b : Bool) → eqb (m .held) room ≡ b → (b && ltb (firstScore (x .rows) + firstScore (y .rows)) lowSum) ≡ (b && ltb (firstScore (x .rows) + firstScore (y .rows)) (lowest (heldPairs r)))
+      go : (b : Bool) → eqb (m .held) room ≡ b
+          → (b && ltb (firstScore (x .rows) + firstScore (y .rows)) lowSum)
+          ≡ (b && ltb (firstScore (x .rows) + firstScore (y .rows)) (lowest (heldPairs r)))
       go true e = ap (ltb (firstScore (x .rows) + firstScore (y .rows))) (low-is e)
       go false e = refl
 
-  module _ (x y : Block) (w : ℕ) (effect : Effect (eqb (m .held) room) lowSum (r .query .radius) (x .rows) (y .rows) w) where
-    best : (n : ℕ) (after : List ℕ) → Joined (r .query .radius) room x y (m .held) keys n after → Stands (joinedPair r x y) (record { held = n; joined = m .joined + 1 }) after
+  module _ (x y : Block) (w : ℕ)
+      (effect : Effect (eqb (m .held) room) lowSum (r .query .radius) (x .rows) (y .rows) w) where
+    best : (n : ℕ) (after : List ℕ) → Joined (r .query .radius) room x y (m .held) keys n after
+        → Stands (joinedPair r x y) (record { held = n; joined = m .joined + 1 }) after
     unfolding holding bestHeld
     best n after k =
         let l = bestHeld r (qualifying (r .query .radius) x y) in
         let keyed : Keyed (heldPairs r) (take (m .held) keys) = rw (stands .held) (stands .pairs .keyed) in
         let got : Keyed l (take n after) = rw left (k .held (heldPairs r) keyed (ready .order)) in
-        let count : n ≡ length l = sym (length-take-le n after (omega (arith, k .few, k .long, ready .query .k .1))) ∙ keyed-length l (take n after) got in
+        let count : n ≡ length l =
+        sym (length-take-le n after (omega (arith, k .few, k .long, ready .query .k .1)))
+        ∙ keyed-length l (take n after) got in
         record {
           held = count;
           joined = ap (λ (i : ℕ). i + 1) (stands .joined);
@@ -120,12 +137,19 @@ module _ (r : Session) (ready : Ready r) (room : ℕ) (left : r .query .k - r .o
         }
 
     -- a block pair that is joined
-    pub stands-joined : w ≡ 2 → (n : ℕ) (after : List ℕ) → Joined (r .query .radius) room x y (m .held) keys n after → Stands (meet r x y) (record { held = n; joined = m .joined + 1 }) after
-    stands-joined e n after k = rw (sym (effect-joins r ready (eqb (m .held) room) lowSum x y (skips-is x y) w effect e)) (best n after k)
+    pub stands-joined : w ≡ 2 → (n : ℕ) (after : List ℕ) → Joined (r .query .radius) room x y (m .held) keys n after
+        → Stands (meet r x y) (record { held = n; joined = m .joined + 1 }) after
+    stands-joined e n after k =
+        rw (sym (effect-joins r ready (eqb (m .held) room) lowSum x y (skips-is x y) w effect e)) (best n after k)
 
     same : Stands (counted r w) (record { held = m .held; joined = m .joined + w }) keys
     unfolding counted
-    same = record { held = stands .held; joined = ap (λ (i : ℕ). i + w) (stands .joined); pairs = record { long = stands .pairs .long; keyed = stands .pairs .keyed } }
+    same =
+        record {
+          held = stands .held;
+          joined = ap (λ (i : ℕ). i + w) (stands .joined);
+          pairs = record { long = stands .pairs .long; keyed = stands .pairs .keyed };
+        }
 
     -- one that is skipped, or has no qualifying pair
     pub stands-counted : (w ≡ 2 → ⊥) → Stands (meet r x y) (record { held = m .held; joined = m .joined + w }) keys
@@ -133,17 +157,22 @@ module _ (r : Session) (ready : Ready r) (room : ℕ) (left : r .query .k - r .o
 
 -- a block pair that comes to w, whatever the record is
 module _ (radius room : ℕ) (x y : Block) (m : Met) (keys : List ℕ) (w : ℕ)
-    (effect : Effect (eqb (m .held) room) (pairOf (getD keys ((m .held + 63) % 64) 0) .sum) radius (x .rows) (y .rows) w) where
-  pub meets-joined : w ≡ 2 → (n : ℕ) (after : List ℕ) → Joined radius room x y (m .held) keys n after → Meets radius room x y m keys (record { held = n; joined = m .joined + 1 }) after
+    (effect : Effect (eqb (m .held) room) (pairOf (getD keys ((m .held + 63) % 64) 0) .sum) radius (x .rows)
+    (y .rows) w) where
+  pub meets-joined : w ≡ 2 → (n : ℕ) (after : List ℕ) → Joined radius room x y (m .held) keys n after
+      → Meets radius room x y m keys (record { held = n; joined = m .joined + 1 }) after
   meets-joined e n after k =
       record {
         few = k .few;
         one = omega arith;
         long = k .long;
-        meets = λ r ready same left stands. stands-joined r ready room left m keys stands x y w (rw same effect) e n after (rw same k);
+        meets =
+            λ r ready same left stands.
+            stands-joined r ready room left m keys stands x y w (rw same effect) e n after (rw same k);
       }
 
-  pub meets-counted : (w ≡ 2 → ⊥) → m .held ≤ room → length keys ≡ 64 → Meets radius room x y m keys (record { held = m .held; joined = m .joined + w }) keys
+  pub meets-counted : (w ≡ 2 → ⊥) → m .held ≤ room → length keys ≡ 64
+      → Meets radius room x y m keys (record { held = m .held; joined = m .joined + w }) keys
   meets-counted h few long =
       record {
         few = few;
@@ -153,8 +182,11 @@ module _ (radius room : ℕ) (x y : Block) (m : Met) (keys : List ℕ) (w : ℕ)
       }
 
 -- the record after a read, its pairs read off the keys
-pub read-is : (field : Bool) (e : ℕ) (s r : Session) → Kept s r → Ready r → (m : Met) (keys : List ℕ) → Stands r m keys →
-    withKeys s (record { depth = downTo field e (s .depth); last = cond field 1 2; held = m .held; joined = m .joined }) keys ≡ readTo field e r
+pub read-is : (field : Bool) (e : ℕ) (s r : Session) → Kept s r → Ready r → (m : Met) (keys : List ℕ)
+    → Stands r m keys
+    → withKeys s
+    (record { depth = downTo field e (s .depth); last = cond field 1 2; held = m .held; joined = m .joined }) keys
+    ≡ readTo field e r
 unfolding readTo downTo withKeys placesOf
 read-is field e s r kept ready m keys stands =
     let l = heldPairs r in

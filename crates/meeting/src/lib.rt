@@ -9,13 +9,13 @@ ghost use Prim.Native.Nat.{_+_, _*_, _-_, _≤_, _<_, _^_, min};
 ghost use lib.ListN.{length};
 ghost use Rattle.rules.specs.Session.{settled};
 ghost use Rattle.rules.specs.Read.{meetBlocks, readTable, readBlock};
-ghost use Rattle.session_laws.specs.Sizes.{Lent};
+ghost use Rattle.session_laws.specs.Calls.{Lent};
 ghost use Rattle.block.specs.Block.{Joined};
 ghost use Rattle.choosing.specs.Ready.{Ready};
 ghost use Rattle.choosing.specs.Due.{Due};
 ghost use Rattle.meeting.specs.Effect.{Effect};
 ghost use Rattle.meeting.specs.Stands.{Keys, Stands, Meets, withKeys};
-ghost use Rattle.meeting.specs.Side.{Inside, rowsOf, downTo};
+ghost use Rattle.meeting.specs.Side.{SpanFits, spanBlock, downTo};
 
 fn lesser(a: usize, b: usize) -> usize
     ensures { λ r. ⌜ r ≡ min a b ⌝ }
@@ -48,8 +48,9 @@ fn join_parts(
     held: usize,
 ) -> usize
     requires { ⌜ (held ≤ room) × (room ≤ 64) × (length (now keys) ≡ 64) ⌝ }
-    requires { ⌜ Inside x (now f) × Inside y (now t) ⌝ }
-    ensures { λ r. ⌜ Joined radius room (rowsOf (now (f .entry)) x) (rowsOf (now (t .entry)) y) held (now (keys .entry)) r (now (keys .exit)) ⌝ }
+    requires { ⌜ SpanFits x (now f) × SpanFits y (now t) ⌝ }
+    ensures { λ r. ⌜ Joined radius room (spanBlock (now (f .entry)) x) (spanBlock (now (t .entry)) y) held
+        (now (keys .entry)) r (now (keys .exit)) ⌝ }
 {
     let i = 4 * x.from;
     let j = 4 * x.to;
@@ -80,8 +81,9 @@ fn effect(full: bool, low: u32, radius: u32, x: &[i32], y: &[i32]) -> u64
 
 // The effect of rows of the field table and rows of the trim table.
 fn effect_parts(full: bool, low: u32, radius: u32, f: &[i32], x: Span, t: &[i32], y: Span) -> u64
-    requires { ⌜ Inside x (now f) × Inside y (now t) ⌝ }
-    ensures { λ r. ⌜ Effect full low radius (rowsOf (now (f .entry)) x .rows) (rowsOf (now (t .entry)) y .rows) r ⌝ }
+    requires { ⌜ SpanFits x (now f) × SpanFits y (now t) ⌝ }
+    ensures { λ r. ⌜ Effect full low radius (spanBlock (now (f .entry)) x .rows)
+        (spanBlock (now (t .entry)) y .rows) r ⌝ }
 {
     let i = 4 * x.from;
     let j = 4 * x.to;
@@ -108,8 +110,9 @@ fn meet_parts(
     m: Met,
 ) -> Met
     requires { ⌜ (m .held ≤ room) × (room ≤ 64) × (m .joined < 2 ^ 63) × (length (now keys) ≡ 64) ⌝ }
-    requires { ⌜ Inside x (now f) × Inside y (now t) ⌝ }
-    ensures { λ r. ⌜ Meets radius room (rowsOf (now (f .entry)) x) (rowsOf (now (t .entry)) y) m (now (keys .entry)) r (now (keys .exit)) ⌝ }
+    requires { ⌜ SpanFits x (now f) × SpanFits y (now t) ⌝ }
+    ensures { λ r. ⌜ Meets radius room (spanBlock (now (f .entry)) x) (spanBlock (now (t .entry)) y) m
+        (now (keys .entry)) r (now (keys .exit)) ⌝ }
 {
     let full = m.held == room;
     let last = (m.held + 63) % 64;
@@ -128,7 +131,8 @@ fn meet_parts(
     }
 }
 
-// The new block, of the field table where the flag says so, meets the first n blocks of the other table, down to its depth.
+// The new block, of the field table where the flag says so, meets the first n blocks of the other table, down to its
+// depth.
 fn meet_blocks(
     field: bool,
     s: Session,
@@ -140,9 +144,13 @@ fn meet_blocks(
     keys: &mut [u64; 64],
 ) -> Met
     requires { ⌜ Ready s × (s .joined + n < 2 ^ 63) × Keys s (now keys) ⌝ }
-    requires { ⌜ Inside new (cond field (now f) (now t)) ⌝ }
-    requires { ⌜ (depth ≤ 65535) × (4 * depth ≤ length (cond field (now t) (now f))) × (n * s .query .block < depth + s .query .block) ⌝ }
-    ensures { λ r. ⌜ Stands (meetBlocks field s (rowsOf (cond field (now (f .entry)) (now (t .entry))) new) (cond field (now (t .entry)) (now (f .entry))) depth n) r (now (keys .exit)) ⌝ }
+    requires { ⌜ SpanFits new (cond field (now f) (now t)) ⌝ }
+    requires { ⌜ (depth ≤ 65535) × (4 * depth ≤ length (cond field (now t) (now f)))
+        × (n * s .query .block < depth + s .query .block) ⌝ }
+    ensures { λ r. ⌜ Stands
+        (meetBlocks field s (spanBlock (cond field (now (f .entry)) (now (t .entry))) new)
+        (cond field (now (t .entry)) (now (f .entry))) depth n)
+        r (now (keys .exit)) ⌝ }
 {
     let block = s.query.block as usize;
     let room = (s.query.k - s.out) as usize;
@@ -184,11 +192,12 @@ pub struct After {
     pub joined: u64,
 }
 
-// One block of a table, the field table where the flag says so, is read and meets the other table's; the table is read down
-// to its end, and marked as read last.
+// One block of a table, the field table where the flag says so, is read and meets the other table's; the table is read
+// down to its end, and marked as read last.
 fn read_on(field: bool, f: &[i32], t: &[i32], s: Session, keys: &mut [u64; 64]) -> After
     requires { ⌜ Due field (now f) (now t) s × Keys s (now keys) ⌝ }
-    ensures { λ r. ⌜ (withKeys s r (now (keys .exit)) ≡ readTable field (now (f .entry)) (now (t .entry)) s) × (r .held ≤ 64) × (length (now (keys .exit)) ≡ 64) ⌝ }
+    ensures { λ r. ⌜ (withKeys s r (now (keys .exit)) ≡ readTable field (now (f .entry)) (now (t .entry)) s)
+        × (r .held ≤ 64) × (length (now (keys .exit)) ≡ 64) ⌝ }
 {
     let block = s.query.block;
     let rows = choosing::pick(field, s.rows.field.0, s.rows.trim.0);
@@ -214,7 +223,8 @@ fn read_on(field: bool, f: &[i32], t: &[i32], s: Session, keys: &mut [u64; 64]) 
 // One block of the table that is next is read and meets the other table's. The pairs held go in and come back as keys.
 pub fn read_block(f: &[i32], t: &[i32], s: Session, keys: &mut [u64; 64]) -> After
     requires { ⌜ Lent (now f) (now t) s × (settled (now f) (now t) s ≡ false) × Keys s (now keys) ⌝ }
-    ensures { λ r. ⌜ (withKeys s r (now (keys .exit)) ≡ readBlock (now (f .entry)) (now (t .entry)) s) × (r .held ≤ 64) × (length (now (keys .exit)) ≡ 64) ⌝ }
+    ensures { λ r. ⌜ (withKeys s r (now (keys .exit)) ≡ readBlock (now (f .entry)) (now (t .entry)) s)
+        × (r .held ≤ 64) × (length (now (keys .exit)) ≡ 64) ⌝ }
 {
     let field = choosing::field_next(f, t, s);
     read_on(field, f, t, s, keys)

@@ -20,7 +20,7 @@ use Rattle.rules.specs.Query.{list, listing, settledSession, programFileCode, i
 use Rattle.rules.specs.Query.{refusalLine, wholeQueryCode, wholeQuery}
 use Rattle.rules.specs.Sure.{Sure, qualifyingSums}
 use Rattle.file_laws.specs.Legal.{accepted-legal}
-use Rattle.tables_join.specs.Pairs.{Fits}
+use Rattle.tables_join.specs.Pairs.{QualifyingPair}
 use Rattle.tables_join.specs.WholeList.{list-best, list-listed}
 use Rattle.program.specs.Program.{orRefusal, refusal-none, refusal-some, programFile, program-code, program-rows}
 use Rattle.program.specs.Program.{Numbered, program-numbered}
@@ -35,7 +35,7 @@ pub record Answered (q : Query) (f t : List ℤ) : Type 0 where
   -- the k highest qualifying sums, all of them if fewer
   pub sums : map (λ p. p .sum) (list q f t) ≡ best (q .k) (qualifyingSums (q .radius) f t)
   -- each pair is one of two rows that qualify, with its own sum, and comes once
-  pub pairs : (p : Pair) → List·Memᴰ p (list q f t) → Fits (q .radius) f t p
+  pub pairs : (p : Pair) → List·Memᴰ p (list q f t) → QualifyingPair (q .radius) f t p
   pub once : Distinct (list q f t)
   -- the row limit
   pub row-limit : (m : FieldRows) (n : TrimRows) → Sure (q .k) (q .radius) f t m n

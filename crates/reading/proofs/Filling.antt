@@ -1,5 +1,5 @@
--- Read's second loop, in which the pairs go from the keys into their places: what it knows before a turn, and that it ends
--- with the record after the read. Assumes nothing.
+-- Read's second loop, in which the pairs go from the keys into their places: what it knows before a turn, and that it
+-- ends with the record after the read. Assumes nothing.
 use mathlib.Core.Path.{_≡_, refl, sym, ap, ap₂, _∙_}
 use mathlib.Core.List.{List, [], _++_, append-nil}
 use Prim.Native.Nat.{ℕ, _+_, _≤_, _<_}
@@ -39,7 +39,8 @@ pub record Filling (s : Session) (keys : List ℕ) (m j : ℕ) (r : Session) : T
 
 module _ (s : Session) (keys : List ℕ) (m : ℕ) where
   pub fill-starts : m ≤ 64 → length (s .pairs) ≡ 64 → length keys ≡ 64 → Filling s keys m 0 s
-  fill-starts few long keys-long = record { within = omega arith; few = few; long = long; keys-long = keys-long; so-far = refl }
+  fill-starts few long keys-long =
+      record { within = omega arith; few = few; long = long; keys-long = keys-long; so-far = refl }
 
   module _ (j : ℕ) (r : Session) (f : Filling s keys m j r) where
     all : length (placesOf keys m) ≡ 64
@@ -64,9 +65,11 @@ module _ (s : Session) (keys : List ℕ) (m : ℕ) where
     fill-ends h =
         let l = placesOf keys m in
         let none : drop j (s .pairs) ≡ [] = drop-of-length-le (s .pairs) {i = j} (omega (arith, f .long)) in
-        f .so-far ∙ ap (placed s) (ap₂ (λ (x y : List Pair). x ++ y) (take-all j l (omega (arith, all))) none ∙ append-nil l)
+        f .so-far
+        ∙ ap (placed s) (ap₂ (λ (x y : List Pair). x ++ y) (take-all j l (omega (arith, all))) none ∙ append-nil l)
 
 -- the numbers and the pairs together are the read's
-pub filled-is : (s : Session) (a : After) (keys : List ℕ) → placed (numbered s a) (placesOf keys (a .held)) ≡ withKeys s a keys
+pub filled-is : (s : Session) (a : After) (keys : List ℕ)
+    → placed (numbered s a) (placesOf keys (a .held)) ≡ withKeys s a keys
 unfolding withKeys
 filled-is s a keys = refl

@@ -1,5 +1,5 @@
--- Read's first loop, in which the pairs looked at become keys: what it knows of them before a turn, and that it ends with
--- the keys of the pairs held. Assumes nothing.
+-- Read's first loop, in which the pairs looked at become keys: what it knows of them before a turn, and that it ends
+-- with the keys of the pairs held. Assumes nothing.
 use mathlib.Core.Path.{_≡_, refl, sym, ap, ap₂, _∙_}
 use mathlib.Core.Bool.{Bool, true, false, cond}
 use mathlib.Core.List.{List, [], _∷_, _++_, map-append}
@@ -26,30 +26,37 @@ module _ (s : Session) where
   pub key-starts : (fits : Bool) (i : ℕ) → i ≡ cond fits 0 64 → Keying s i fits (replicate 64 0)
   key-starts fits i first = rw first (record { long = length-replicate {A = ℕ} 64 0; so-far = go fits })
     where
-      go : (b : Bool) → b ≡ true → (j : ℕ) → j ≤ cond b 0 64 → j ≤ s .held → Keyed (take j (s .pairs)) (take j (replicate 64 0))
+      go : (b : Bool) → b ≡ true → (j : ℕ) → j ≤ cond b 0 64 → j ≤ s .held
+          → Keyed (take j (s .pairs)) (take j (replicate 64 0))
       go true e j h m = let none : j ≡ 0 = omega arith in rw none (record { keys = refl; narrow = tt })
       go false e j h m = clash e refl
 
   -- place i is looked at, and has this key
-  module _ (i : ℕ) (fits : Bool) (keys : List ℕ) (k : Keying s i fits keys) (h : i < 64) (long : length (s .pairs) ≡ 64) (key : ℕ)
+  module _ (i : ℕ) (fits : Bool) (keys : List ℕ) (k : Keying s i fits keys) (h : i < 64) (long : length (s .pairs) ≡ 64)
+      (key : ℕ)
       (found : i < s .held → (key ≡ keyOf (getD (s .pairs) i noPair)) × Narrow (getD (s .pairs) i noPair)) where
     one-more : fits ≡ true → i < s .held → Keyed (take (i + 1) (s .pairs)) (take (i + 1) (set keys i key))
     one-more t m =
         let p = getD (s .pairs) i noPair in
         let before = k .so-far t i (omega arith) (omega arith) in
         let here = found m in
-        let pairs : take (i + 1) (s .pairs) ≡ take i (s .pairs) ++ p ∷ [] = ap (λ (n : ℕ). take n (s .pairs)) (add-one i) ∙ take-suc (s .pairs) i noPair (omega arith) in
-        let more : take (i + 1) (set keys i key) ≡ take i keys ++ key ∷ [] = ap (λ (n : ℕ). take n (set keys i key)) (add-one i) ∙ take-suc-set keys i key (omega (arith, k .long)) in
+        let pairs : take (i + 1) (s .pairs) ≡ take i (s .pairs) ++ p ∷ [] =
+        ap (λ (n : ℕ). take n (s .pairs)) (add-one i) ∙ take-suc (s .pairs) i noPair (omega arith) in
+        let more : take (i + 1) (set keys i key) ≡ take i keys ++ key ∷ [] =
+        ap (λ (n : ℕ). take n (set keys i key)) (add-one i) ∙ take-suc-set keys i key (omega (arith, k .long)) in
         rw (pairs, more)
         (record {
-          keys = ap₂ (λ (l : List ℕ) (x : ℕ). l ++ x ∷ []) (before .keys) (here .0) ∙ sym (map-append keyOf (take i (s .pairs)) (p ∷ []));
+          keys =
+              ap₂ (λ (l : List ℕ) (x : ℕ). l ++ x ∷ []) (before .keys) (here .0)
+              ∙ sym (map-append keyOf (take i (s .pairs)) (p ∷ []));
           narrow = all-append Narrow (take i (s .pairs)) (p ∷ []) (before .narrow) (here .1, tt);
         })
 
     pub key-on : Keying s (i + 1) fits (set keys i key)
     key-on = record { long = length-set keys i key ∙ k .long; so-far = λ t j a b. go t j a b (leb j i) refl }
       where
-        go : fits ≡ true → (j : ℕ) → j ≤ i + 1 → j ≤ s .held → (c : Bool) → leb j i ≡ c → Keyed (take j (s .pairs)) (take j (set keys i key))
+        go : fits ≡ true → (j : ℕ) → j ≤ i + 1 → j ≤ s .held → (c : Bool) → leb j i ≡ c
+            → Keyed (take j (s .pairs)) (take j (set keys i key))
         go t j a b true e =
             let early = leb-true j i e in
             rw (take-set-le j keys i key early) (k .so-far t j early b)

@@ -29,17 +29,20 @@ module _ (f t : List ℤ) (s : Session) where
 
   read-is : step (readAnswer (callCode f t s) f t s) (afterRead (readAnswer (callCode f t s) f t s)) ≡ readCall f t s
   unfolding readCall readAnswer
-  read-is = go (callCode f t s) (newBlockCode f t s) (eqb (callCode f t s) 0) (settled f t s) (eqb (newBlockCode f t s) 0)
+  read-is =
+      go (callCode f t s) (newBlockCode f t s) (eqb (callCode f t s) 0) (settled f t s) (eqb (newBlockCode f t s) 0)
     where
       go : (code new : ℕ) (a b c : Bool) → let x = cond a (cond b Settled (cond c Read (Refused new))) (Refused code) in
           step x (afterRead x)
-          ≡ cond a (cond b (step Settled s) (cond c (step Read (readBlock f t s)) (step (Refused new) s))) (step (Refused code) s)
+          ≡ cond a (cond b (step Settled s) (cond c (step Read (readBlock f t s)) (step (Refused new) s)))
+          (step (Refused code) s)
       go code new false b c = refl
       go code new true true c = refl
       go code new true false true = refl
       go code new true false false = refl
 
-  pub read-ends : (code : ℕ) (a : Answer) → code ≡ callCode f t s → a ≡ readAnswer code f t s → step a (afterRead a) ≡ readCall f t s
+  pub read-ends : (code : ℕ) (a : Answer) → code ≡ callCode f t s → a ≡ readAnswer code f t s
+      → step a (afterRead a) ≡ readCall f t s
   read-ends code a e h = ap (λ (x : Answer). step x (afterRead x)) (h ∙ ap (λ (n : ℕ). readAnswer n f t s) e) ∙ read-is
 
   -- a read that reads no block leaves the record as it was
@@ -55,7 +58,8 @@ module _ (code : ℕ) (f t : List ℤ) (s : Session) where
   read-asked e = go (eqb code 0) refl (settled f t s) refl e
     where
       go : (a : Bool) → eqb code 0 ≡ a → (b : Bool) → settled f t s ≡ b
-          → cond a (cond b Settled (cond (eqb (newBlockCode f t s) 0) Read (Refused (newBlockCode f t s)))) (Refused code) ≡ Read
+          → cond a (cond b Settled
+          (cond (eqb (newBlockCode f t s) 0) Read (Refused (newBlockCode f t s)))) (Refused code) ≡ Read
           → (code ≡ 0) × (settled f t s ≡ false)
       go false h b k e = clash (ap wasRead e) refl
       go true h true k e = clash (ap wasRead e) refl

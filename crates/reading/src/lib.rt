@@ -1,4 +1,5 @@
-// Read: one block more of two lent tables. The record is a value that goes in and comes back; whatever comes in is checked.
+// Read: one block more of two lent tables. The record is a value that goes in and comes back; whatever comes in is
+// checked.
 use rules::Answer;
 use rules::Pair;
 use rules::Session;
@@ -6,11 +7,12 @@ use rules::Step;
 ghost use mathlib.Core.Path.{_≡_};
 ghost use Prim.Native.Nat.{_+_, _-_, _≤_, _<_};
 ghost use Rattle.rules.specs.Calls.{readCall};
-ghost use Rattle.session_laws.specs.Sizes.{Lent};
+ghost use Rattle.session_laws.specs.Calls.{Lent};
 ghost use Rattle.checks.specs.Codes.{LastHeld};
 ghost use Rattle.reading.specs.Answers.{readAnswer};
 
-// What a read answers, of the code that the checks gave: refused; settled; or a block is read, unless 6 or 7 refuses it.
+// What a read answers, of the code that the checks gave: refused; settled; or a block is read, unless 6 or 7 refuses
+// it.
 fn read_answer(code: u32, f: &[i32], t: &[i32], s: Session, last: Pair) -> Answer
     requires { ⌜ (code ≡ 0 → Lent (now f) (now t) s × LastHeld s last) ⌝ }
     ensures { λ r. ⌜ r ≡ readAnswer code (now (f .entry)) (now (t .entry)) s ⌝ }
@@ -28,9 +30,9 @@ fn read_answer(code: u32, f: &[i32], t: &[i32], s: Session, last: Pair) -> Answe
     Answer::Read
 }
 
-// Read: settled, or one block of the table that is next, which meets the blocks already read of the other. The pair places
-// are looked through here, and in take, as in `checks::fits`, and filled here: handed on, the record would be copied once
-// more. While blocks meet, the pairs held are keys, lent to whoever puts one among them.
+// Read: settled, or one block of the table that is next, which meets the blocks already read of the other. The pair
+// places are looked through here, and in take, as in `checks::fits`, and filled here: handed on, the record would be
+// copied once more. While blocks meet, the pairs held are keys, lent to whoever puts one among them.
 pub fn read(f: &[i32], t: &[i32], s: Session) -> Step
     ensures { λ r. ⌜ r ≡ readCall (now (f .entry)) (now (t .entry)) s ⌝ }
 {

@@ -1,5 +1,9 @@
+pub mod Tables
 pub mod Record
-pub mod Sizes
+pub mod Calls
 pub mod Read
+pub mod Take
 pub mod Until
 pub mod Zeros
+pub mod Sound
+pub mod Alike

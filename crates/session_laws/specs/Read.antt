@@ -1,20 +1,19 @@
--- An unsettled read: what it keeps, and that it raises a depth. Assumes nothing.
-use mathlib.Core.Path.{_≡_, refl, sym, _∙_}
+-- An unsettled read: what it keeps, which table it reads, and that it raises a depth. Assumes nothing.
+use mathlib.Core.Path.{_≡_, refl, sym, ap, _∙_}
 use mathlib.Core.Bool.{Bool, true, false, cond, _&&_, _||_}
 use mathlib.Core.List.{List}
-use Prim.Native.Nat.{ℕ, zero, suc, _+_, _-_, _≤_, _<_, min}
+use Prim.Native.Nat.{ℕ, zero, suc, _+_, _-_, _≤_, _<_}
 use native.Mathlib.Omega.{arith}
 use lib.Dec.{eqb, leb, ltb}
 use lib.IntN.{ℤ}
-use borrow.Author.Tests.{eqb-true, eqb-false, ne-eqb}
-use Rattle.rules.specs.declared.Session.{Session}
-use Rattle.rules.specs.declared.Pair.{Pair}
+use borrow.Author.Tests.{eqb-true, eqb-false, eq-eqb, ne-eqb}
 use Rattle.lists.specs.Lists.{every}
-use Rattle.rules.specs.Tables.{Block, qualifying}
-use Rattle.lists.specs.Bools.{or-none-out}
-use Rattle.session_laws.specs.Record.{Fits}
+use Rattle.lists.specs.Bools.{clash, or-none-out}
+use Rattle.rules.specs.declared.Session.{Session}
+use Rattle.rules.specs.Tables.{rowCount, Block, qualifying}
 use Rattle.rules.specs.Session.{fieldReadOut, trimReadOut, bothReadOut, aTableIsEmpty, heldPairs, secured, settled}
-use Rattle.rules.specs.Read.{blockAt, fieldNext, scoreDrop, newDepth, bestHeld, holding, meet, skipped, meetBlocks, readTo, readTable, readBlock}
+use Rattle.rules.specs.Read.{scoreDrop, fieldNext, rowsBetween, blockCount, blockAt, bestHeld, holding, skipped, meet}
+use Rattle.rules.specs.Read.{meetBlocks, readTo, oldDepth, newDepth, readTable, readBlock}
 
 -- ---- A met block changes the pairs held and the joined count, and nothing else
 
@@ -25,7 +24,10 @@ pub record Kept (s r : Session) : Type 0 where
   pub depth : r .depth ≡ s .depth
   pub out : r .out ≡ s .out
 
-pub keeps-trans : {s r u : Session} → Kept s r → Kept r u → Kept s u
+keeps-refl : (s : Session) → Kept s s
+keeps-refl s = record { query = refl; rows = refl; depth = refl; out = refl }
+
+keeps-trans : {s r u : Session} → Kept s r → Kept r u → Kept s u
 keeps-trans h k =
     record {
       query = k .query ∙ h .query;
@@ -34,63 +36,124 @@ keeps-trans h k =
       out = k .out ∙ h .out;
     }
 
-joined-or-not : (s : Session) (b : Bool) (l : List Pair) → Kept s (cond b s (holding s l))
-unfolding holding
-joined-or-not s true l = record { query = refl; rows = refl; depth = refl; out = refl }
-joined-or-not s false l = record { query = refl; rows = refl; depth = refl; out = refl }
-
 pub meet-keeps : (s : Session) (x y : Block) → Kept s (meet s x y)
-unfolding meet
-meet-keeps s x y = joined-or-not s (skipped s x y) (bestHeld s (qualifying (s .query .radius) x y))
-
-pub blocks-keep : (field : Bool) (s : Session) (new : Block) (t : List ℤ) (depth n : ℕ) → Kept s (meetBlocks field s new t depth n)
-unfolding meetBlocks
-blocks-keep field s new t depth zero = record { query = refl; rows = refl; depth = refl; out = refl }
-blocks-keep field s new t depth (suc n) = keeps-trans (blocks-keep field s new t depth n) (meet-keeps _ _ _)
+unfolding meet holding
+meet-keeps s x y = go (skipped s x y)
+  where
+    go : (b : Bool) → Kept s (cond b s (holding s (bestHeld s (qualifying (s .query .radius) x y))))
+    go true = keeps-refl s
+    go false = record { query = refl; rows = refl; depth = refl; out = refl }
 
 -- each block pair adds one at most to the joined count
-joined-one : (s : Session) (b : Bool) (l : List Pair) → cond b s (holding s l) .joined ≤ s .joined + 1
-unfolding holding
-joined-one s true l = omega arith
-joined-one s false l = omega arith
+meet-joined : (s : Session) (x y : Block) → meet s x y .joined ≤ s .joined + 1
+unfolding meet holding
+meet-joined s x y = go (skipped s x y)
+  where
+    go : (b : Bool) → cond b s (holding s (bestHeld s (qualifying (s .query .radius) x y))) .joined ≤ s .joined + 1
+    go true = omega arith
+    go false = omega arith
 
-pub meet-joined : (s : Session) (x y : Block) → meet s x y .joined ≤ s .joined + 1
-unfolding meet
-meet-joined s x y = joined-one s (skipped s x y) (bestHeld s (qualifying (s .query .radius) x y))
+module _ (field : Bool) (s : Session) (new : Block) (t : List ℤ) (depth : ℕ) where
+  pub blocks-keep : (n : ℕ) → Kept s (meetBlocks field s new t depth n)
+  unfolding meetBlocks
+  blocks-keep zero = keeps-refl s
+  blocks-keep (suc n) = keeps-trans (blocks-keep n) (meet-keeps _ _ _)
 
-pub blocks-joined : (field : Bool) (s : Session) (new : Block) (t : List ℤ) (depth n : ℕ) → meetBlocks field s new t depth n .joined ≤ s .joined + n
-unfolding meetBlocks
-blocks-joined field s new t depth zero = omega arith
-blocks-joined field s new t depth (suc n) =
-    let r = meetBlocks field s new t depth n in
-    omega (arith, blocks-joined field s new t depth n, meet-joined r (cond field new (blockAt t (s .query .block) depth n)) (cond field (blockAt t (s .query .block) depth n) new))
+  pub blocks-joined : (n : ℕ) → meetBlocks field s new t depth n .joined ≤ s .joined + n
+  unfolding meetBlocks
+  blocks-joined zero = omega arith
+  blocks-joined (suc n) =
+      let old = blockAt t (s .query .block) depth n in
+      let one = meet-joined (meetBlocks field s new t depth n) (cond field new old) (cond field old new) in
+      omega (arith, blocks-joined n, one)
+
+-- ---- The depths after a read
+
+module _ (field : Bool) (f t : List ℤ) (s : Session) where
+  -- the record before its depth is raised
+  abbrev pub metAll : Session
+  metAll =
+      let depth = cond field (s .depth .trim .0) (s .depth .field .0) in
+      meetBlocks field s (rowsBetween (cond field f t) (oldDepth field s) (newDepth field s)) (cond field t f) depth
+      (blockCount (s .query .block) depth)
+
+  pub met-all-keeps : Kept s metAll
+  met-all-keeps = blocks-keep field s _ _ _ _
+
+  pub read-query : readTable field f t s .query ≡ s .query
+  unfolding readTable readTo
+  read-query = met-all-keeps .query
+
+  pub read-rows-kept : readTable field f t s .rows ≡ s .rows
+  unfolding readTable readTo
+  read-rows-kept = met-all-keeps .rows
+
+  pub read-field : readTable field f t s .depth .field .0 ≡ cond field (newDepth field s) (s .depth .field .0)
+  unfolding readTable readTo
+  read-field = ap (λ c. cond field (newDepth field s) (c .field .0)) (met-all-keeps .depth)
+
+  pub read-trim : readTable field f t s .depth .trim .0 ≡ cond field (s .depth .trim .0) (newDepth field s)
+  unfolding readTable readTo
+  read-trim = ap (λ c. cond field (c .trim .0) (newDepth field s)) (met-all-keeps .depth)
+
+-- of depths within the rows, those after a read
+module _ (s : Session) (m : s .depth .field .0 ≤ s .rows .field .0) (n : s .depth .trim .0 ≤ s .rows .trim .0) where
+  pub new-grows : (field : Bool) → oldDepth field s ≤ newDepth field s
+  new-grows true = omega arith
+  new-grows false = omega arith
+
+  pub new-within : (field : Bool)
+      → (cond field (newDepth field s) (s .depth .field .0) ≤ s .rows .field .0)
+      × (cond field (s .depth .trim .0) (newDepth field s) ≤ s .rows .trim .0)
+  new-within true = (omega arith, n)
+  new-within false = (m, omega arith)
+
+-- tables that have these rows: the one that is read has those down to b, the other one its own
+pub own-within : (field : Bool) (f t : List ℤ) (b d e : ℕ) → cond field b d ≤ rowCount f → cond field e b ≤ rowCount t
+    → (b ≤ rowCount (cond field f t)) × (cond field e d ≤ rowCount (cond field t f))
+own-within true f t b d e x y = (x, y)
+own-within false f t b d e x y = (y, x)
+
+-- neither depth falls
+pub read-grows : (field : Bool) (f t : List ℤ) (s : Session)
+    → s .depth .field .0 ≤ s .rows .field .0 → s .depth .trim .0 ≤ s .rows .trim .0
+    → (s .depth .field .0 ≤ readTable field f t s .depth .field .0)
+    × (s .depth .trim .0 ≤ readTable field f t s .depth .trim .0)
+read-grows true f t s h k = (omega (arith, read-field true f t s), omega (arith, read-trim true f t s))
+read-grows false f t s h k = (omega (arith, read-field false f t s), omega (arith, read-trim false f t s))
 
 -- ---- An unsettled session
 
 -- the grounds of settled, none of which holds
-pub record Unsettled (s : Session) : Type 0 where
-  pub no-table-empty : aTableIsEmpty s ≡ false
-  pub not-both-out : bothReadOut s ≡ false
-  pub not-all-out : eqb (s .out) (s .query .k) ≡ false
+pub record Unsettled (f t : List ℤ) (s : Session) : Type 0 where
+  pub field-some : s .rows .field .0 ≡ 0 → ⊥
+  pub trim-some : s .rows .trim .0 ≡ 0 → ⊥
+  pub unread : bothReadOut s ≡ false
+  pub wanted : s .out ≡ s .query .k → ⊥
+  pub unsecured : s .out + s .held ≡ s .query .k → every (secured f t s) (heldPairs s) ≡ true → ⊥
 
-pub unsettled : (f t : List ℤ) (s : Session) → settled f t s ≡ false → Unsettled s
+pub unsettled-out : (f t : List ℤ) (s : Session) → settled f t s ≡ false → Unsettled f t s
 unfolding settled
-unsettled f t s h =
+unsettled-out f t s h =
     let last = eqb (s .out + s .held) (s .query .k) && every (secured f t s) (heldPairs s) in
     let rest = eqb (s .out) (s .query .k) || last in
     let a = or-none-out (aTableIsEmpty s) (bothReadOut s || rest) h in
     let b = or-none-out (bothReadOut s) rest (a .1) in
+    let c = or-none-out (eqb (s .out) (s .query .k)) last (b .1) in
+    let some = or-none-out (eqb (s .rows .field .0) 0) (eqb (s .rows .trim .0) 0) (a .0) in
     record {
-      no-table-empty = a .0;
-      not-both-out = b .0;
-      not-all-out = or-none-out (eqb (s .out) (s .query .k)) last (b .1) .0;
+      field-some = eqb-false (s .rows .field .0) 0 (some .0);
+      trim-some = eqb-false (s .rows .trim .0) 0 (some .1);
+      unread = b .0;
+      wanted = eqb-false (s .out) (s .query .k) (c .0);
+      unsecured = λ full all. clash (rw (eq-eqb (s .out + s .held) (s .query .k) full) all) (c .1);
     }
 
 -- ---- The table that is read next is not read out
 
 -- the choice, over its tests: a, b that a depth is 0, d, c that the table is read out, g by the drops
-unread : (a b c d g : Bool) → (a ≡ true → d ≡ false) → (b ≡ true → c ≡ false) → d && c ≡ false →
-    cond (cond a true (cond b false (cond c true (cond d false g)))) d c ≡ false
+unread : (a b c d g : Bool) → (a ≡ true → d ≡ false) → (b ≡ true → c ≡ false) → d && c ≡ false
+    → cond (cond a true (cond b false (cond c true (cond d false g)))) d c ≡ false
 unread true b c d g h k l = h refl
 unread false true c d g h k l = k refl
 unread false false true true g h k l = l
@@ -100,51 +163,56 @@ unread false false false false true h k l = refl
 unread false false false false false h k l = refl
 
 -- a table with rows of which none is read is not read out
-not-out : (depth rows : ℕ) → eqb rows 0 ≡ false → eqb depth 0 ≡ true → eqb depth rows ≡ false
-not-out depth rows h k = ne-eqb depth rows (λ e. eqb-false rows 0 h (sym e ∙ eqb-true depth 0 k))
+not-out : (depth rows : ℕ) → (rows ≡ 0 → ⊥) → eqb depth 0 ≡ true → eqb depth rows ≡ false
+not-out depth rows h k = ne-eqb depth rows (λ e. h (sym e ∙ eqb-true depth 0 k))
 
-pub chosen-unread : (f t : List ℤ) (s : Session) → aTableIsEmpty s ≡ false → bothReadOut s ≡ false →
-    cond (fieldNext f t s) (fieldReadOut s) (trimReadOut s) ≡ false
-unfolding fieldNext
-chosen-unread f t s h k =
-    unread (eqb (s .depth .field .0) 0) (eqb (s .depth .trim .0) 0) (trimReadOut s) (fieldReadOut s)
-    (cond (ltb (scoreDrop f (s .depth .field .0)) (scoreDrop t (s .depth .trim .0))) true
-    (cond (ltb (scoreDrop t (s .depth .trim .0)) (scoreDrop f (s .depth .field .0))) false
-    (leb (s .depth .field .0) (s .depth .trim .0))))
-    (not-out (s .depth .field .0) (s .rows .field .0) (or-none-out (eqb (s .rows .field .0) 0) (eqb (s .rows .trim .0) 0) h .0))
-    (not-out (s .depth .trim .0) (s .rows .trim .0) (or-none-out (eqb (s .rows .field .0) 0) (eqb (s .rows .trim .0) 0) h .1))
-    k
+module _ (f t : List ℤ) (s : Session) (u : Unsettled f t s) where
+  chosen-unread : cond (fieldNext f t s) (fieldReadOut s) (trimReadOut s) ≡ false
+  unfolding fieldNext
+  chosen-unread =
+      let d = s .depth .field .0 in
+      let e = s .depth .trim .0 in
+      unread (eqb d 0) (eqb e 0) (trimReadOut s) (fieldReadOut s)
+      (cond (ltb (scoreDrop f d) (scoreDrop t e)) true (cond (ltb (scoreDrop t e) (scoreDrop f d)) false (leb d e)))
+      (not-out d (s .rows .field .0) (u .field-some)) (not-out e (s .rows .trim .0) (u .trim-some)) (u .unread)
 
--- ---- A read raises a depth
+  module _ (m : s .depth .field .0 ≤ s .rows .field .0) (n : s .depth .trim .0 ≤ s .rows .trim .0) where
+    left : (field : Bool) → cond field (fieldReadOut s) (trimReadOut s) ≡ false
+        → oldDepth field s < cond field (s .rows .field .0) (s .rows .trim .0)
+    left true h = let k : s .depth .field .0 ≡ s .rows .field .0 → ⊥ = eqb-false _ _ h in omega arith
+    left false h = let k : s .depth .trim .0 ≡ s .rows .trim .0 → ⊥ = eqb-false _ _ h in omega arith
 
--- the rows that are not read yet
+    -- the table that is read next has unread rows
+    pub next-unread : oldDepth (fieldNext f t s) s < cond (fieldNext f t s) (s .rows .field .0) (s .rows .trim .0)
+    next-unread = left (fieldNext f t s) chosen-unread
+
+-- ---- So a read raises a depth
+
+-- the rows read of both tables, and those that are not read yet
+abbrev pub depths : Session → ℕ
+depths s = s .depth .field .0 + s .depth .trim .0
+
 abbrev pub unreadRows : Session → ℕ
 unreadRows s = (s .rows .field .0 - s .depth .field .0) + (s .rows .trim .0 - s .depth .trim .0)
 
-deeper : (block rows depth : ℕ) → 1 ≤ block → depth ≤ rows → eqb depth rows ≡ false → depth < min (depth + block) rows
-deeper block rows depth b h k = let n : depth ≡ rows → ⊥ = eqb-false depth rows k in omega arith
+module _ (f t : List ℤ) (s : Session) (h : settled f t s ≡ false) (size : 1 ≤ s .query .block)
+    (m : s .depth .field .0 ≤ s .rows .field .0) (n : s .depth .trim .0 ≤ s .rows .trim .0) where
+  pub read-raises : oldDepth (fieldNext f t s) s < newDepth (fieldNext f t s) s
+  read-raises = let k = next-unread f t s (unsettled-out f t s h) m n in omega arith
 
-raised : (field : Bool) (s : Session) (r : Session) → Kept s r → 1 ≤ s .query .block →
-    s .depth .field .0 ≤ s .rows .field .0 → s .depth .trim .0 ≤ s .rows .trim .0 →
-    cond field (fieldReadOut s) (trimReadOut s) ≡ false →
-    unreadRows (readTo field (newDepth field s) r) < unreadRows s
-unfolding readTo
-raised true s r kept b m n h =
-    let d = deeper (s .query .block) (s .rows .field .0) (s .depth .field .0) b m h in
-    rw (kept .rows, kept .depth) (omega arith)
-raised false s r kept b m n h =
-    let d = deeper (s .query .block) (s .rows .trim .0) (s .depth .trim .0) b n h in
-    rw (kept .rows, kept .depth) (omega arith)
+  pub read-deeper : depths s < depths (readBlock f t s)
+  read-deeper = go (fieldNext f t s) read-raises
+    where
+      go : (b : Bool) → oldDepth b s < newDepth b s → depths s < depths (readTable b f t s)
+      go true k = omega (arith, read-field true f t s, read-trim true f t s)
+      go false k = omega (arith, read-field false f t s, read-trim false f t s)
 
--- an unsettled read raises a depth
-pub read-raises : (f t : List ℤ) (s : Session) → Fits s → settled f t s ≡ false → unreadRows (readBlock f t s) < unreadRows s
-unfolding readTable
-read-raises f t s fits h =
-    let u = unsettled f t s h in
-    raised (fieldNext f t s) s _ (blocks-keep _ s _ _ _ _) (fits .query .block .0) (fits .field .within) (fits .trim .within)
-    (chosen-unread f t s (u .no-table-empty) (u .not-both-out))
-
--- and keeps the query
-pub read-keeps-query : (f t : List ℤ) (s : Session) → readBlock f t s .query ≡ s .query
-unfolding readTable readTo
-read-keeps-query f t s = blocks-keep _ s _ _ _ _ .query
+  -- and leaves fewer rows unread
+  pub read-fewer : unreadRows (readBlock f t s) < unreadRows s
+  read-fewer = go (fieldNext f t s) read-raises
+    where
+      go : (b : Bool) → oldDepth b s < newDepth b s → unreadRows (readTable b f t s) < unreadRows s
+      go true k =
+          rw (read-rows-kept true f t s) (omega (arith, read-field true f t s, read-trim true f t s))
+      go false k =
+          rw (read-rows-kept false f t s) (omega (arith, read-field false f t s, read-trim false f t s))

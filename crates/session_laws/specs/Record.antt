@@ -1,154 +1,243 @@
 -- What a query and a record that are not refused keep: 1 to 3 and 5 in words. Assumes nothing.
 use mathlib.Core.Path.{_≡_, refl}
-use mathlib.Core.Bool.{Bool, true, _&&_}
-use mathlib.Core.List.{List, [], _∷_}
-use Prim.Native.Nat.{ℕ, zero, suc, _+_, _*_, _≤_, _<_}
-use lib.Dec.{eqb, leb}
-use lib.IntN.{ℤ}
-use native.Mathlib.Nat.{not-suc-le-zero}
+use mathlib.Core.Bool.{Bool, true, false, cond, _&&_, _||_}
+use mathlib.Core.List.{[], _∷_}
+use mathlib.Core.Logic.{_⊎_, inl, inr}
+use Prim.Native.Nat.{ℕ, _+_, _*_, _%_, _≤_, _<_}
 use native.Mathlib.Omega.{arith}
-use lib.ListN.{length, getD, take, drop}
-use borrow.Author.Tests.{eqb-true, leb-true, ltb-true}
+use lib.Dec.{eqb, leb, ltb}
+use lib.ListN.{length, drop}
+use borrow.Author.Tests.{eqb-true, eqb-false, eq-eqb, leb-true, le-leb, ltb-true, lt-ltb}
 use Rattle.lists.specs.Lists.{every, ranked}
+use Rattle.lists.specs.Bools.{clash, and-out, and-in, or-out, or-true, all-out}
+use Rattle.lists.specs.Parts.{every-first}
 use Rattle.rules.specs.declared.Pair.{Pair}
 use Rattle.rules.specs.declared.Query.{Query}
 use Rattle.rules.specs.declared.Session.{Session}
-use Rattle.rules.specs.Tables.{ahead}
+use Rattle.rules.specs.Tables.{mostRows, ahead}
 use Rattle.rules.specs.Session.{noPair, heldPairs}
 use Rattle.rules.specs.Read.{blockCount}
-use Rattle.rules.specs.Numbers.{first, unless, listLength, blockSize, radiusRange, badRecord}
-use Rattle.rules.specs.Calls.{between, queryCode, countsFit, pairFits, markFits, isZeros, recordGrounds, recordFits}
-use Rattle.rules.specs.Calls.{recordCode, sameSizeCode, lentCode, rowsCode, callCode}
-use Rattle.lists.specs.Bools.{and-left, and-right, all-out}
+use Rattle.rules.specs.Take.{firstHeld}
+use Rattle.rules.specs.Numbers.{unless, listLength, blockSize, radiusRange}
 use Rattle.rules.specs.Checks.{first-out, unless-out}
+use Rattle.rules.specs.Calls.{between, queryCode, countsFit, mostSum, pairFits, markFits, isZeros}
+use Rattle.rules.specs.Calls.{recordGrounds, recordFits}
 
--- what 5 says of a table's counts
-pub record CountsFit (rows depth : ℕ) : Type 0 where
-  pub few : rows ≤ 65535
-  pub within : depth ≤ rows
+module _ (low high n : ℕ) where
+  pub between-out : between low high n ≡ true → (low ≤ n) × (n ≤ high)
+  between-out h = let both = and-out (leb low n) (leb n high) h in (leb-true low n (both .0), leb-true n high (both .1))
 
-pub counts-fit : (block rows depth : ℕ) → countsFit block rows depth ≡ true → CountsFit rows depth
-unfolding countsFit
-counts-fit block rows depth h =
-    record {
-      few = leb-true rows 65535 (and-left (leb rows 65535) _ h);
-      within = leb-true depth rows (and-left (leb depth rows) _ (and-right (leb rows 65535) _ h));
-    }
+  pub between-in : low ≤ n → n ≤ high → between low high n ≡ true
+  between-in h k = and-in (leb low n) (leb n high) (le-leb low n h) (le-leb n high k)
 
--- the grounds of 5, one by one
-pub record Grounds (s : Session) : Type 0 where
-  pub query : eqb (queryCode (s .query)) 0 ≡ true
-  pub field : countsFit (s .query .block) (s .rows .field .0) (s .depth .field .0) ≡ true
-  pub trim : countsFit (s .query .block) (s .rows .trim .0) (s .depth .trim .0) ≡ true
-  pub room : leb (s .out + s .held) (s .query .k) ≡ true
-  pub pairs : every (pairFits s) (heldPairs s) ≡ true
-  pub rank : ranked ahead (heldPairs s) ≡ true
-  pub mark : markFits s ≡ true
-  pub zeros : every isZeros (drop (s .held) (s .pairs)) ≡ true
-  pub joined : leb (s .joined) (blockCount (s .query .block) (s .depth .field .0) * blockCount (s .query .block) (s .depth .trim .0)) ≡ true
+-- ---- 1, 2, 3: the query
 
-pub grounds : (s : Session) → recordFits s ≡ true → Grounds s
-unfolding recordFits
-grounds s h =
-    let passes = all-out (recordGrounds s) h in
-    record {
-      query = passes 0;
-      field = passes 1;
-      trim = passes 2;
-      room = passes 3;
-      pairs = passes 4;
-      rank = passes 5;
-      mark = passes 6;
-      zeros = passes 7;
-      joined = passes 8;
-    }
-
--- what a query that is not refused keeps
 pub record QueryFits (q : Query) : Type 0 where
   pub k : (1 ≤ q .k) × (q .k ≤ 64)
   pub block : (1 ≤ q .block) × (q .block ≤ 1024)
   pub radius : q .radius ≤ 40000
 
-is-between : (low high n : ℕ) → between low high n ≡ true → (low ≤ n) × (n ≤ high)
-is-between low high n h =
-    (leb-true low n (and-left (leb low n) (leb n high) h), leb-true n high (and-right (leb low n) (leb n high) h))
-
-pub query-fits : (q : Query) → eqb (queryCode q) 0 ≡ true → QueryFits q
+pub query-out : (q : Query) → queryCode q ≡ 0 → QueryFits q
 unfolding queryCode
-query-fits q h =
+query-out q h =
     let a = between 1 64 (q .k) in
     let b = between 1 1024 (q .block) in
     let c = leb (q .radius) 40000 in
-    let passes =
-    first-out (unless a listLength ∷ unless b blockSize ∷ unless c radiusRange ∷ []) (eqb-true (queryCode q) 0 h) in
+    let passes = first-out (unless a listLength ∷ unless b blockSize ∷ unless c radiusRange ∷ []) h in
     record {
-      k = is-between 1 64 (q .k) (unless-out a listLength (omega arith) (passes 0));
-      block = is-between 1 1024 (q .block) (unless-out b blockSize (omega arith) (passes 1));
+      k = between-out 1 64 (q .k) (unless-out a listLength (omega arith) (passes 0));
+      block = between-out 1 1024 (q .block) (unless-out b blockSize (omega arith) (passes 1));
       radius = leb-true (q .radius) 40000 (unless-out c radiusRange (omega arith) (passes 2));
     }
 
--- what a record that is not refused by 5 keeps
-pub record Fits (s : Session) : Type 0 where
+pub query-in : (q : Query) → QueryFits q → queryCode q ≡ 0
+unfolding queryCode
+query-in q h =
+    rw (
+      between-in 1 64 (q .k) (h .k .0) (h .k .1),
+      between-in 1 1024 (q .block) (h .block .0) (h .block .1),
+      le-leb (q .radius) 40000 (h .radius),
+    )
+
+-- ---- 5: a table's counts
+
+-- a depth is whole blocks, or all rows
+abbrev pub WholeBlocks : ℕ → ℕ → ℕ → Type 0
+WholeBlocks block rows depth = (depth % block ≡ 0) ⊎ (depth ≡ rows)
+
+pub record CountsFit (block rows depth : ℕ) : Type 0 where
+  pub few : rows ≤ mostRows
+  pub within : depth ≤ rows
+  pub whole : WholeBlocks block rows depth
+
+module _ (block rows depth : ℕ) where
+  pub counts-out : countsFit block rows depth ≡ true → CountsFit block rows depth
+  unfolding countsFit
+  counts-out h =
+      let whole = eqb (depth % block) 0 || eqb depth rows in
+      let a = and-out (leb rows mostRows) (leb depth rows && whole) h in
+      let b = and-out (leb depth rows) whole (a .1) in
+      record {
+        few = leb-true rows mostRows (a .0);
+        within = leb-true depth rows (b .0);
+        whole = go (or-out (eqb (depth % block) 0) (eqb depth rows) (b .1));
+      }
+    where
+      go : (eqb (depth % block) 0 ≡ true) ⊎ (eqb depth rows ≡ true) → WholeBlocks block rows depth
+      go (inl e) = inl (eqb-true (depth % block) 0 e)
+      go (inr e) = inr (eqb-true depth rows e)
+
+  pub counts-in : CountsFit block rows depth → countsFit block rows depth ≡ true
+  unfolding countsFit
+  counts-in h = rw (le-leb rows mostRows (h .few), le-leb depth rows (h .within)) (go (h .whole))
+    where
+      go : WholeBlocks block rows depth → (eqb (depth % block) 0 || eqb depth rows) ≡ true
+      go (inl e) = rw (eq-eqb (depth % block) 0 e)
+      go (inr e) = rw (eq-eqb depth rows e) (or-true (eqb (depth % block) 0))
+
+-- ---- 5: a held pair
+
+pub record PairFits (s : Session) (p : Pair) : Type 0 where
+  pub field-row : (1 ≤ p .field) × (p .field ≤ s .depth .field .0)
+  pub trim-row : (1 ≤ p .trim) × (p .trim ≤ s .depth .trim .0)
+  pub low-sum : p .sum ≤ mostSum
+
+module _ (s : Session) (p : Pair) where
+  pub pair-out : pairFits s p ≡ true → PairFits s p
+  unfolding pairFits
+  pair-out h =
+      let trim = between 1 (s .depth .trim .0) (p .trim) in
+      let a = and-out (between 1 (s .depth .field .0) (p .field)) (trim && leb (p .sum) mostSum) h in
+      let b = and-out trim (leb (p .sum) mostSum) (a .1) in
+      record {
+        field-row = between-out 1 (s .depth .field .0) (p .field) (a .0);
+        trim-row = between-out 1 (s .depth .trim .0) (p .trim) (b .0);
+        low-sum = leb-true (p .sum) mostSum (b .1);
+      }
+
+  pub pair-in : PairFits s p → pairFits s p ≡ true
+  unfolding pairFits
+  pair-in h =
+      rw (
+        between-in 1 (s .depth .field .0) (p .field) (h .field-row .0) (h .field-row .1),
+        between-in 1 (s .depth .trim .0) (p .trim) (h .trim-row .0) (h .trim-row .1),
+      )
+      (le-leb (p .sum) mostSum (h .low-sum))
+
+-- ---- 5: the last-read mark
+
+pub record MarkFits (s : Session) : Type 0 where
+  pub none : s .last ≡ 0 → (s .depth .field .0 ≡ 0) × (s .depth .trim .0 ≡ 0)
+  pub field : s .last ≡ 1 → 0 < s .depth .field .0
+  pub trim : s .last ≡ 2 → 0 < s .depth .trim .0
+  pub most : s .last ≤ 2
+
+module _ (s : Session) where
+  abbrev markRule : Bool → Bool → Bool → Bool
+  markRule none field trim =
+      cond none (eqb (s .depth .field .0) 0 && eqb (s .depth .trim .0) 0)
+      (cond field (ltb 0 (s .depth .field .0)) (cond trim (ltb 0 (s .depth .trim .0)) false))
+
+  pub mark-out : markFits s ≡ true → MarkFits s
+  unfolding markFits
+  mark-out h = go (eqb (s .last) 0) (eqb (s .last) 1) (eqb (s .last) 2) refl refl refl h
+    where
+      go : (a b c : Bool) → eqb (s .last) 0 ≡ a → eqb (s .last) 1 ≡ b → eqb (s .last) 2 ≡ c → markRule a b c ≡ true
+          → MarkFits s
+      go true b c x y z h =
+          let last : s .last ≡ 0 = eqb-true (s .last) 0 x in
+          let both = and-out (eqb (s .depth .field .0) 0) (eqb (s .depth .trim .0) 0) h in
+          record {
+            none = λ e. (eqb-true (s .depth .field .0) 0 (both .0), eqb-true (s .depth .trim .0) 0 (both .1));
+            field = λ e. absurd (omega arith);
+            trim = λ e. absurd (omega arith);
+            most = omega arith;
+          }
+      go false true c x y z h =
+          let last : s .last ≡ 1 = eqb-true (s .last) 1 y in
+          record {
+            none = λ e. absurd (omega arith);
+            field = λ e. ltb-true 0 (s .depth .field .0) h;
+            trim = λ e. absurd (omega arith);
+            most = omega arith;
+          }
+      go false false true x y z h =
+          let last : s .last ≡ 2 = eqb-true (s .last) 2 z in
+          record {
+            none = λ e. absurd (omega arith);
+            field = λ e. absurd (omega arith);
+            trim = λ e. ltb-true 0 (s .depth .trim .0) h;
+            most = omega arith;
+          }
+      go false false false x y z h = clash h refl
+
+  pub mark-in : MarkFits s → markFits s ≡ true
+  unfolding markFits
+  mark-in h = go (eqb (s .last) 0) (eqb (s .last) 1) (eqb (s .last) 2) refl refl refl
+    where
+      go : (a b c : Bool) → eqb (s .last) 0 ≡ a → eqb (s .last) 1 ≡ b → eqb (s .last) 2 ≡ c → markRule a b c ≡ true
+      go true b c x y z =
+          let both = h .none (eqb-true (s .last) 0 x) in
+          rw (eq-eqb (s .depth .field .0) 0 (both .0)) (eq-eqb (s .depth .trim .0) 0 (both .1))
+      go false true c x y z = lt-ltb 0 (s .depth .field .0) (h .field (eqb-true (s .last) 1 y))
+      go false false true x y z = lt-ltb 0 (s .depth .trim .0) (h .trim (eqb-true (s .last) 2 z))
+      go false false false x y z =
+          let a : s .last ≡ 0 → ⊥ = eqb-false (s .last) 0 x in
+          let b : s .last ≡ 1 → ⊥ = eqb-false (s .last) 1 y in
+          let c : s .last ≡ 2 → ⊥ = eqb-false (s .last) 2 z in
+          absurd (omega (arith, h .most))
+
+-- ---- 5: the record
+
+-- as many block pairs as the depths have, and no more, can be joined
+abbrev pub mostJoined : Session → ℕ
+mostJoined s =
+    blockCount (s .query .block) (s .depth .field .0) * blockCount (s .query .block) (s .depth .trim .0)
+
+pub record RecordFits (s : Session) : Type 0 where
   pub query : QueryFits (s .query)
-  pub field : CountsFit (s .rows .field .0) (s .depth .field .0)
-  pub trim : CountsFit (s .rows .trim .0) (s .depth .trim .0)
+  pub field : CountsFit (s .query .block) (s .rows .field .0) (s .depth .field .0)
+  pub trim : CountsFit (s .query .block) (s .rows .trim .0) (s .depth .trim .0)
   pub room : s .out + s .held ≤ s .query .k
   pub pairs : every (pairFits s) (heldPairs s) ≡ true
   pub rank : ranked ahead (heldPairs s) ≡ true
-  pub mark : markFits s ≡ true
+  pub mark : MarkFits s
   pub zeros : every isZeros (drop (s .held) (s .pairs)) ≡ true
-  pub joined : s .joined ≤ blockCount (s .query .block) (s .depth .field .0) * blockCount (s .query .block) (s .depth .trim .0)
+  pub joined : s .joined ≤ mostJoined s
 
-pub record-fits : (s : Session) → recordFits s ≡ true → Fits s
-record-fits s h =
-    let g = grounds s h in
-    record {
-      query = query-fits (s .query) (g .query);
-      field = counts-fit (s .query .block) (s .rows .field .0) (s .depth .field .0) (g .field);
-      trim = counts-fit (s .query .block) (s .rows .trim .0) (s .depth .trim .0) (g .trim);
-      room = leb-true (s .out + s .held) (s .query .k) (g .room);
-      pairs = g .pairs;
-      rank = g .rank;
-      mark = g .mark;
-      zeros = g .zeros;
-      joined = leb-true (s .joined) _ (g .joined);
-    }
+module _ (s : Session) where
+  pub record-out : recordFits s ≡ true → RecordFits s
+  unfolding recordFits
+  record-out h =
+      let passes = all-out (recordGrounds s) h in
+      record {
+        query = query-out (s .query) (eqb-true (queryCode (s .query)) 0 (passes 0));
+        field = counts-out (s .query .block) (s .rows .field .0) (s .depth .field .0) (passes 1);
+        trim = counts-out (s .query .block) (s .rows .trim .0) (s .depth .trim .0) (passes 2);
+        room = leb-true (s .out + s .held) (s .query .k) (passes 3);
+        pairs = passes 4;
+        rank = passes 5;
+        mark = mark-out s (passes 6);
+        zeros = passes 7;
+        joined = leb-true (s .joined) (mostJoined s) (passes 8);
+      }
 
--- the calls' checks begin with 5
-pub call-fits : (f t : List ℤ) (s : Session) → eqb (callCode f t s) 0 ≡ true → recordFits s ≡ true
-unfolding callCode lentCode recordCode
-call-fits f t s h =
-    let sizes = sameSizeCode (s .rows .field .0) f ∷ sameSizeCode (s .rows .trim .0) t ∷ [] in
-    let rows = rowsCode f 0 (s .depth .field .0) ∷ rowsCode t 0 (s .depth .trim .0) ∷ [] in
-    let lent = first-out (lentCode f t s ∷ rows) (eqb-true (callCode f t s) 0 h) 0 in
-    unless-out (recordFits s) badRecord (omega arith) (first-out (recordCode s ∷ sizes) lent 0)
+  pub record-in : RecordFits s → recordFits s ≡ true
+  unfolding recordFits
+  record-in h =
+      rw (
+        eq-eqb (queryCode (s .query)) 0 (query-in (s .query) (h .query)),
+        counts-in (s .query .block) (s .rows .field .0) (s .depth .field .0) (h .field),
+        counts-in (s .query .block) (s .rows .trim .0) (s .depth .trim .0) (h .trim),
+        le-leb (s .out + s .held) (s .query .k) (h .room),
+        h .pairs,
+        h .rank,
+        mark-in s (h .mark),
+        h .zeros,
+      )
+      (le-leb (s .joined) (mostJoined s) (h .joined))
 
--- a pair that fits has rows of both tables, so rows of both were read
-pair-reached : (s : Session) (p : Pair) → pairFits s p ≡ true → (0 < s .depth .field .0) × (0 < s .depth .trim .0)
-unfolding pairFits
-pair-reached s p h =
-    let a = between 1 (s .depth .field .0) (p .field) in
-    let b = between 1 (s .depth .trim .0) (p .trim) in
-    let c = leb (p .sum) 19998 in
-    let i = is-between 1 (s .depth .field .0) (p .field) (and-left a (b && c) h) in
-    let j = is-between 1 (s .depth .trim .0) (p .trim) (and-left b c (and-right a (b && c) h)) in
-    (omega arith, omega arith)
-
-first-passes : (test : Pair → Bool) (m : ℕ) (l : List Pair) → 0 < length l → 0 < m → every test (take m l) ≡ true → test (getD l 0 noPair) ≡ true
-unfolding every
-first-passes test zero l h k e = absurd (not-suc-le-zero k)
-first-passes test (suc m) [] h k e = absurd (not-suc-le-zero h)
-first-passes test (suc m) (p ∷ l) h k e = and-left (test p) (every test (take m l)) e
-
-pub held-reached : (s : Session) → Fits s → 0 < length (s .pairs) → 0 < s .held → (0 < s .depth .field .0) × (0 < s .depth .trim .0)
-held-reached s fits n h =
-    pair-reached s (getD (s .pairs) 0 noPair) (first-passes (pairFits s) (s .held) (s .pairs) n h (fits .pairs))
-
--- the last-read mark names a table of which rows were read
-pub mark-field : (s : Session) → Fits s → s .last ≡ 1 → 0 < s .depth .field .0
-unfolding markFits
-mark-field s fits e = ltb-true 0 (s .depth .field .0) (simp e at (fits .mark))
-
-pub mark-trim : (s : Session) → Fits s → s .last ≡ 2 → 0 < s .depth .trim .0
-unfolding markFits
-mark-trim s fits e = ltb-true 0 (s .depth .trim .0) (simp e at (fits .mark))
+  -- the first held pair
+  pub first-fits : RecordFits s → 0 < length (s .pairs) → 0 < s .held → PairFits s (firstHeld s)
+  first-fits fits n h =
+      pair-out s (firstHeld s) (every-first (pairFits s) noPair (s .held) (s .pairs) n h (fits .pairs))

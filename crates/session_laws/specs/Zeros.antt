@@ -8,7 +8,8 @@ use Rattle.rules.specs.declared.Query.{Query}
 use Rattle.rules.specs.declared.Answer.the-variants.{Refused}
 use Rattle.rules.specs.Session.{opened, zeros}
 use Rattle.rules.specs.Numbers.{badRecord}
-use Rattle.rules.specs.Calls.{queryCode, recordFits, recordCode, lentCode, callCode, step, openCode, openCall, readCall, takeCall}
+use Rattle.rules.specs.Calls.{queryCode, recordFits, recordCode, lentCode, callCode, step, openCode, openCall}
+use Rattle.rules.specs.Calls.{readCall, takeCall}
 
 pub zeros-read : (f t : List ℤ) → readCall f t zeros ≡ step (Refused badRecord) zeros
 unfolding readCall callCode lentCode recordCode recordFits queryCode zeros opened

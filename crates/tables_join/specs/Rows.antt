@@ -1,13 +1,29 @@
--- Document 01's tables as plain tables of the join: lists of rows. Definitions only. Assumes nothing.
-use Prim.Native.Nat.{ℕ}
-use mathlib.Core.Path.{_≡_}
+-- Document 01's tables as plain tables of the join, lists of rows: legal tables and their rows correspond one to one,
+-- and keep the laws of the join. Assumes nothing.
+use mathlib.Core.Path.{_≡_, refl, sym, ap, subst, subst₂, _∙_}
 use mathlib.Core.Bool.{Bool, true}
 use mathlib.Core.List.{List, [], _∷_, map}
-use lib.IntN.{ℤ, pos}
+use mathlib.Core.Logic.{⊎-elim}
+use Prim.Native.Nat.{ℕ, zero, suc, _+_, _*_, _-_, _/_, _%_, _≤_, _<_}
+use native.Mathlib.Omega.{arith}
+use native.Mathlib.Decide.{le-ind}
+use lib.Dec.{eqb, lit≤}
+use lib.IntN.{ℤ, pos, negsuc}
+use lib.Signed.{leZ}
+use lib.ListN.{length, getD, take}
+use lib.Seq.{ext-getD, take-nil}
+use borrow.Author.Tests.{leb-true, le-leb, eqb-true, ne-eqb, le-ltb}
 use Rattle.lists.specs.Lists.{range}
-use Rattle.join.specs.Join.{Side}
-use Rattle.join.specs.Plain.{Rows, plain}
-use Rattle.rules.specs.Tables.{rowCount, inRange, Row, row, qualifies}
+use Rattle.lists.specs.Bools.{clash, and-out, or-out}
+use Rattle.lists.specs.Parts.{map-range-at, length-map-range}
+use Rattle.join.specs.Join.{Side, Laws, flip}
+use Rattle.join.specs.Plain.{Rows, plain, PlainLegal, Matches}
+use Rattle.join.specs.PlainLaws.{plain-laws}
+use Rattle.rules.specs.Tables.{rowCount, inRange, Row, row, qualifies, num, within, rowInRange, rowInOrder, legal}
+use Rattle.rules.specs.Tables.{natOf, gap, squaredDistance}
+use Rattle.session_laws.specs.Tables.{range-out, range-in, legal-out, legal-in}
+
+-- ---- Definitions
 
 -- the rows of a table
 unfoldable pub rowsOf : List ℤ → List Row
@@ -36,3 +52,237 @@ near radius x y = qualifies radius (x .shade) (y .shade)
 unfoldable pub flat : List Row → List ℤ
 flat [] = []
 flat (x ∷ l) = pos (x .pattern) ∷ pos (x .score) ∷ x .shade .a ∷ x .shade .b ∷ flat l
+
+-- ---- Their laws
+
+pub length-rows : (t : List ℤ) → length (rowsOf t) ≡ rowCount t
+unfolding rowsOf
+length-rows t = length-map-range (row t) 0 (rowCount t)
+
+pub rows-at : (t : List ℤ) (i : ℕ) → i < rowCount t → getD (rowsOf t) i blankRow ≡ row t i
+unfolding rowsOf
+rows-at t i h = map-range-at (row t) 0 (rowCount t) i blankRow h ∙ ap (row t) (omega arith)
+
+-- a number that is not below 0
+pos-nat : (low n : ℕ) (x : ℤ) → within (pos low) (pos n) x ≡ true → pos (natOf x) ≡ x
+unfolding within
+pos-nat low n (pos m) h = refl
+pos-nat low n (negsuc m) h = clash h refl
+
+module _ (t : List ℤ) (i : ℕ) (h : rowInRange t i ≡ true) where
+  pattern-kept : pos (row t i .pattern) ≡ num t i 0
+  unfolding rowInRange row
+  pattern-kept = pos-nat 1 999999 (num t i 0) (range-out (num t i 0) (num t i 1) (num t i 2) (num t i 3) h .pattern)
+
+  score-kept : pos (row t i .score) ≡ num t i 1
+  unfolding rowInRange row
+  score-kept = pos-nat 0 9999 (num t i 1) (range-out (num t i 0) (num t i 1) (num t i 2) (num t i 3) h .score)
+
+  row-good : GoodRow (row t i)
+  unfolding rowInRange row
+  row-good =
+      subst (λ p. inRange p (pos (natOf (num t i 1))) (num t i 2) (num t i 3) ≡ true) (sym pattern-kept)
+      (subst (λ s. inRange (num t i 0) s (num t i 2) (num t i 3) ≡ true) (sym score-kept) h)
+
+module _ (t : List ℤ) (g : legal t ≡ true) where
+  in-range : (i : ℕ) → i < rowCount t → rowInRange t i ≡ true
+  in-range i h = legal-out t g .rows i h .range
+
+  pub score-most : (i : ℕ) → i < rowCount t → row t i .score ≤ 9999
+  unfolding rowInRange within
+  score-most i h =
+      let score = range-out (num t i 0) (num t i 1) (num t i 2) (num t i 3) (in-range i h) .score in
+      let high = and-out (leZ (pos 0) (num t i 1)) (leZ (num t i 1) (pos 9999)) score .1 in
+      leb-true (row t i .score) 9999 (subst (λ x. leZ x (pos 9999) ≡ true) (sym (score-kept t i (in-range i h))) high)
+
+  -- scores fall down a legal table
+  score-falls : (i : ℕ) → suc i < rowCount t → row t (suc i) .score ≤ row t i .score
+  unfolding rowInOrder
+  score-falls i h =
+      let below = leZ (num t (suc i) 1) (num t (suc i - 1) 1) in
+      let a : below ≡ true =
+      ⊎-elim (λ e. absurd (omega (arith, eqb-true (suc i) 0 e))) (λ e. e)
+      (or-out (eqb (suc i) 0) below (legal-out t g .rows (suc i) h .order)) in
+      let b : suc i - 1 ≡ i = omega arith in
+      let c : leZ (num t (suc i) 1) (num t i 1) ≡ true = subst (λ j. leZ (num t (suc i) 1) (num t j 1) ≡ true) b a in
+      leb-true (row t (suc i) .score) (row t i .score)
+      (subst₂ (λ x y. leZ x y ≡ true) (sym (score-kept t (suc i) (in-range (suc i) h)))
+      (sym (score-kept t i (in-range i (omega arith)))) c)
+
+  pub scores-fall : (i j : ℕ) → i ≤ j → j < rowCount t → row t j .score ≤ row t i .score
+  scores-fall i j h =
+      le-ind (λ j. j < rowCount t → row t j .score ≤ row t i .score) (λ k. omega arith)
+      (λ j m ih k. omega (arith, ih (omega arith), score-falls j k)) j h
+
+  pub legal-rows : PlainLegal rows (rowsOf t)
+  legal-rows = record {
+    short = omega (arith, length-rows t, legal-out t g .size .few);
+    good =
+        λ i h.
+        let k : i < rowCount t = omega (arith, length-rows t) in
+        subst GoodRow (sym (rows-at t i k)) (row-good t i (in-range i k));
+    falls =
+        λ i h.
+        let k : suc i < rowCount t = omega (arith, length-rows t) in
+        let x = ap (λ x. x .score) (rows-at t (suc i) k) in
+        let y = ap (λ x. x .score) (rows-at t i (omega arith)) in
+        omega (arith, x, y, score-falls i k);
+  }
+
+-- ---- Rows written out
+
+cell : Row → ℕ → ℤ
+cell x zero = pos (x .pattern)
+cell x (suc zero) = pos (x .score)
+cell x (suc (suc zero)) = x .shade .a
+cell x (suc (suc (suc j))) = x .shade .b
+
+pub length-flat : (l : List Row) → length (flat l) ≡ 4 * length l
+unfolding flat
+length-flat [] = refl
+length-flat (x ∷ l) = omega (arith, length-flat l)
+
+pub count-flat : (l : List Row) → rowCount (flat l) ≡ length l
+count-flat l = omega (arith, length-flat l)
+
+num-flat : (l : List Row) (i j : ℕ) → j < 4 → num (flat l) i j ≡ cell (getD l i blankRow) j
+unfolding flat cell
+num-flat [] i zero h = refl
+num-flat [] i (suc zero) h = refl
+num-flat [] i (suc (suc zero)) h = refl
+num-flat [] i (suc (suc (suc j))) h = refl
+num-flat (x ∷ l) zero zero h = refl
+num-flat (x ∷ l) zero (suc zero) h = refl
+num-flat (x ∷ l) zero (suc (suc zero)) h = refl
+num-flat (x ∷ l) zero (suc (suc (suc zero))) h = refl
+num-flat (x ∷ l) zero (suc (suc (suc (suc j)))) h = absurd (omega arith)
+num-flat (x ∷ l) (suc i) j h =
+    let on : 4 * suc i + j ≡ suc (suc (suc (suc (4 * i + j)))) = omega arith in
+    ap (λ n. getD (flat (x ∷ l)) n (pos 0)) on ∙ num-flat l i j h
+
+pub row-flat : (l : List Row) (i : ℕ) → row (flat l) i ≡ getD l i blankRow
+unfolding row cell
+row-flat l i =
+    λ k.
+    record {
+      pattern = natOf (num-flat l i 0 (lit≤ tt) k);
+      score = natOf (num-flat l i 1 (lit≤ tt) k);
+      shade = record { a = num-flat l i 2 (lit≤ tt) k; b = num-flat l i 3 (lit≤ tt) k };
+    }
+
+pub rows-flat : (l : List Row) → rowsOf (flat l) ≡ l
+rows-flat l =
+    ext-getD blankRow (rowsOf (flat l)) l (length-rows (flat l) ∙ count-flat l)
+    (λ i h. rows-at (flat l) i (omega (arith, length-rows (flat l))) ∙ row-flat l i)
+
+cell-row : (t : List ℤ) (i : ℕ) → rowInRange t i ≡ true → (j : ℕ) → j < 4 → cell (row t i) j ≡ num t i j
+unfolding cell row
+cell-row t i g zero h = pattern-kept t i g
+cell-row t i g (suc zero) h = score-kept t i g
+cell-row t i g (suc (suc zero)) h = refl
+cell-row t i g (suc (suc (suc zero))) h = refl
+cell-row t i g (suc (suc (suc (suc j)))) h = absurd (omega arith)
+
+pub flat-rows : (t : List ℤ) → legal t ≡ true → flat (rowsOf t) ≡ t
+flat-rows t g = ext-getD (pos 0) (flat (rowsOf t)) t lengths same
+  where
+    lengths : length (flat (rowsOf t)) ≡ length t
+    lengths = omega (arith, length-flat (rowsOf t), length-rows t, legal-out t g .size .whole)
+
+    same : (m : ℕ) → m < length (flat (rowsOf t)) → getD (flat (rowsOf t)) m (pos 0) ≡ getD t m (pos 0)
+    same m h =
+        let e : m ≡ 4 * (m / 4) + m % 4 = omega arith in
+        let k : m / 4 < rowCount t = omega (arith, length-flat (rowsOf t), length-rows t) in
+        let j : m % 4 < 4 = omega arith in
+        ap (λ n. getD (flat (rowsOf t)) n (pos 0)) e
+        ∙ num-flat (rowsOf t) (m / 4) (m % 4) j
+        ∙ ap (λ x. cell x (m % 4)) (rows-at t (m / 4) k)
+        ∙ cell-row t (m / 4) (legal-out t g .rows (m / 4) k .range) (m % 4) j
+        ∙ ap (λ n. getD t n (pos 0)) (sym e)
+
+-- past the end too
+pub row-at : (t : List ℤ) → legal t ≡ true → (i : ℕ) → getD (rowsOf t) i blankRow ≡ row t i
+row-at t g i = sym (row-flat (rowsOf t) i) ∙ ap (λ u. row u i) (flat-rows t g)
+
+pub flat-take : (n : ℕ) (l : List Row) → take (4 * n) (flat l) ≡ flat (take n l)
+unfolding flat
+flat-take zero l = refl
+flat-take (suc n) [] = take-nil (4 * suc n)
+flat-take (suc n) (x ∷ l) =
+    let on : 4 * suc n ≡ suc (suc (suc (suc (4 * n)))) = omega arith in
+    ap (λ m. take m (flat (x ∷ l))) on
+    ∙ ap (λ r. pos (x .pattern) ∷ pos (x .score) ∷ x .shade .a ∷ x .shade .b ∷ r) (flat-take n l)
+
+-- the first n rows, cut from the table or from the rows
+pub rows-take : (n : ℕ) (t : List ℤ) → legal t ≡ true → rowsOf (take (4 * n) t) ≡ take n (rowsOf t)
+rows-take n t g =
+    ap (λ u. rowsOf (take (4 * n) u)) (sym (flat-rows t g))
+    ∙ ap rowsOf (flat-take n (rowsOf t))
+    ∙ rows-flat (take n (rowsOf t))
+
+flat-order : (l : List Row) → PlainLegal rows l → (i : ℕ) → i < length l → rowInOrder (flat l) i ≡ true
+unfolding rowInOrder cell
+flat-order l g zero h = refl
+flat-order l g (suc i) h =
+    let e : suc i - 1 ≡ i = omega arith in
+    let before = ap (λ j. num (flat l) j 1) e ∙ num-flat l i 1 (lit≤ tt) in
+    rw (ne-eqb (suc i) 0 (λ z. omega arith), num-flat l (suc i) 1 (lit≤ tt), before)
+    (le-leb (getD l (suc i) blankRow .score) (getD l i blankRow .score) (g .falls i h))
+
+pub flat-legal : (l : List Row) → PlainLegal rows l → legal (flat l) ≡ true
+unfolding rowInRange cell
+flat-legal l g =
+    legal-in (flat l)
+    (record {
+      size =
+          record {
+            few = omega (arith, count-flat l, g .short);
+            whole = omega (arith, count-flat l, length-flat l);
+          };
+      rows =
+          λ i h.
+          let k : i < length l = omega (arith, count-flat l) in
+          let cells = num-flat l i in
+          record {
+            range = rw (cells 0 (lit≤ tt), cells 1 (lit≤ tt), cells 2 (lit≤ tt), cells 3 (lit≤ tt)) (g .good i k);
+            order = flat-order l g i k;
+          };
+    })
+
+-- ---- The laws of the join
+
+gap-same : (x : ℤ) → gap x x ≡ 0
+unfolding gap
+gap-same (pos zero) = refl
+gap-same (pos (suc n)) = rw (le-ltb (suc n) (suc n) (omega arith)) (omega arith)
+gap-same (negsuc n) = rw (le-ltb (suc n) (suc n) (omega arith)) (omega arith)
+
+same-place : (radius : ℕ) (x : Row) → near radius x x ≡ true
+unfolding qualifies squaredDistance
+same-place radius x = rw (gap-same (x .shade .a), gap-same (x .shade .b)) (le-leb 0 (radius * radius) (omega arith))
+
+-- x at y's place
+abbrev moved : Row → Row → Row
+moved x y = record { pattern = x .pattern; score = x .score; shade = y .shade }
+
+moved-good : (x y : Row) → GoodRow x → GoodRow y → GoodRow (moved x y)
+moved-good x y g h =
+    let a = range-out (pos (x .pattern)) (pos (x .score)) (x .shade .a) (x .shade .b) g in
+    let b = range-out (pos (y .pattern)) (pos (y .score)) (y .shade .a) (y .shade .b) h in
+    range-in (pos (x .pattern)) (pos (x .score)) (y .shade .a) (y .shade .b)
+    (record { pattern = a .pattern; score = a .score; a = b .a; b = b .b })
+
+pub laws : (radius : ℕ) → Laws side side (near radius)
+laws radius = plain-laws rows rows (near radius) match match′ (lit≤ tt) (lit≤ tt) some some good good
+  where
+    match : Matches rows rows (near radius)
+    match = record { like = moved; good = moved-good; level = λ x y g h. refl; fits = λ x y g h. same-place radius y }
+
+    match′ : Matches rows rows (flip (near radius))
+    match′ = record { like = moved; good = moved-good; level = λ x y g h. refl; fits = λ x y g h. same-place radius y }
+
+    some : Row
+    some = record { pattern = 1; score = 0; shade = record { a = pos 0; b = pos 0 } }
+
+    good : GoodRow some
+    good = unfold inRange within in refl

@@ -1,23 +1,41 @@
--- A read that skips no block pair: the pairs that it holds. Definitions only. Assumes nothing.
-use Prim.Native.Nat.{ℕ, zero, suc, _-_}
-use mathlib.Core.Bool.{Bool, cond}
-use mathlib.Core.List.{List, _++_}
+-- "Skipping never changes them": every accepted read, of a forged record too, holds what it would hold had it skipped
+-- nothing. Assumes nothing.
+use mathlib.Core.Path.{_≡_, refl, sym, ap, ap₂, subst, _∙_}
+use mathlib.Core.Bool.{Bool, cond, true, false}
+use mathlib.Core.List.{List, _++_, List·Memᴰ, List·Memᴰ·append-cases}
+use mathlib.Core.Logic.{_⊎_, inl, inr, ⊎-elim}
+use Prim.Native.Nat.{ℕ, zero, suc, _-_, _+_, _*_, _≤_, min}
+use native.Mathlib.Nat.{suc-mul}
+use native.Mathlib.Omega.{arith}
 use lib.IntN.{ℤ}
-use lib.ListN.{take}
-use Rattle.lists.specs.Lists.{sort}
+use lib.ListN.{take, length, length-take}
+use Rattle.lists.specs.Lists.{sort, ranked}
+use Rattle.lists.specs.Parts.{append-distinct, every-at}
+use Rattle.lists.specs.Members.{mem-take, mem-sort, sort-ranked, ranked-take, ranked-distinct}
 use Rattle.rules.specs.declared.Pair.{Pair}
 use Rattle.rules.specs.declared.Session.{Session}
-use Rattle.rules.specs.Tables.{ahead, Block, qualifying}
-use Rattle.rules.specs.Session.{heldPairs}
-use Rattle.rules.specs.Read.{rowsBetween, blockCount, blockAt, oldDepth, newDepth}
+use Rattle.rules.specs.Tables.{ahead, Block, qualifying, rowCount, legal}
+use Rattle.rules.specs.Session.{heldPairs, firstScore}
+use Rattle.rules.specs.Read.{rowsBetween, blockCount, blockAt, oldDepth, newDepth, fieldNext, bestHeld, meet}
+use Rattle.rules.specs.Read.{meetBlocks, readTo, readTable, readBlock}
+use Rattle.rules.specs.Calls.{pairFits, callCode, newBlockCode}
+use Rattle.session_laws.specs.Record.{PairFits, pair-out, RecordFits}
+use Rattle.session_laws.specs.Calls.{Accepted, call-out, NewRowsFit, new-block-out, read-rows}
+use Rattle.session_laws.specs.Read.{new-within, own-within, Kept, blocks-keep}
+use Rattle.session_laws.specs.Alike.{SameRows, same-part, cut-same, cut-count, cut-legal, same-new, same-old, same-read}
+use Rattle.tables_join.specs.Pairs.{ownRow, otherRow, Between, pair-rank, qualifying-distinct, mem-between}
+use Rattle.tables_join.specs.Pairs.{between-low}
+use Rattle.tables_join.specs.Held.{meet-held, meet-stored}
+
+-- ---- The pairs that a read which skips no block pair holds
 
 -- after the new block met the first n blocks of the other table
 unfoldable pub heldUnskipped : Bool → Session → Block → List ℤ → ℕ → ℕ → List Pair
 heldUnskipped field s new t depth zero = heldPairs s
 heldUnskipped field s new t depth (suc n) =
     let old = blockAt t (s .query .block) depth n in
-    take (s .query .k - s .out)
-    (sort ahead (heldUnskipped field s new t depth n ++ qualifying (s .query .radius) (cond field new old) (cond field old new)))
+    let met = qualifying (s .query .radius) (cond field new old) (cond field old new) in
+    take (s .query .k - s .out) (sort ahead (heldUnskipped field s new t depth n ++ met))
 
 -- after one block of the field table, or of the trim table
 unfoldable pub readUnskipped : Bool → List ℤ → List ℤ → Session → List Pair
@@ -25,3 +43,181 @@ readUnskipped field f t s =
     let depth = cond field (s .depth .trim .0) (s .depth .field .0) in
     heldUnskipped field s (rowsBetween (cond field f t) (oldDepth field s) (newDepth field s)) (cond field t f) depth
     (blockCount (s .query .block) depth)
+
+-- ---- Blocks of legal tables
+
+-- what a record holds while the new block meets the others: ranked, as many as it says, no pair of blocks yet to come,
+-- and what it would hold had it skipped nothing
+record Unskipping (field : Bool) (a m : ℕ) (l : List Pair) (r : Session) : Type 0 where
+  stored : length (heldPairs r) ≡ r .held
+  in-rank : ranked ahead (heldPairs r) ≡ true
+  seen : (p : Pair) → List·Memᴰ p (heldPairs r) → (ownRow field p ≤ a) ⊎ (otherRow field p ≤ m)
+  same : heldPairs r ≡ l
+
+module _ (field : Bool) (f t : List ℤ) (g : legal f ≡ true) (h : legal t ≡ true) (s : Session) (a b c : ℕ)
+    (hb : b ≤ rowCount (cond field f t)) (hc : c ≤ rowCount (cond field t f)) where
+  abbrev new : Block
+  new = rowsBetween (cond field f t) a b
+
+  abbrev after : ℕ → Session
+  after n = meetBlocks field s new (cond field t f) c n
+
+  abbrev unskipped : ℕ → List Pair
+  unskipped n = heldUnskipped field s new (cond field t f) c n
+
+  block-unskipping : (n : ℕ) → Unskipping field a (n * s .query .block) (unskipped n) (after n)
+      → Unskipping field a (suc n * s .query .block) (unskipped (suc n)) (after (suc n))
+  unfolding meetBlocks heldUnskipped bestHeld
+  block-unskipping n u = record {
+    stored = meet-stored (after n) x y (u .stored) (u .in-rank) low;
+    in-rank =
+        subst (λ l. ranked ahead l ≡ true) (sym held)
+        (ranked-take ahead (pair-rank .order) room (sort ahead (heldPairs (after n) ++ met))
+        (sort-ranked ahead (pair-rank .order) (heldPairs (after n) ++ met)
+        (append-distinct (heldPairs (after n)) met
+        (ranked-distinct ahead (pair-rank .order) (heldPairs (after n)) (u .in-rank))
+        (qualifying-distinct (after n .query .radius) x y) fresh)));
+    seen =
+        λ p m. ⊎-elim (λ k. ⊎-elim inl (λ z. inr (omega (arith, suc-mul n B))) (u .seen p k))
+        (λ k. inr (omega (arith, suc-mul n B, inside p k .other-part)))
+        (List·Memᴰ·append-cases (heldPairs (after n))
+        (mem-sort ahead p (heldPairs (after n) ++ met) .0
+        (mem-take room p (sort ahead (heldPairs (after n) ++ met)) (subst (List·Memᴰ p) held m))));
+    same =
+        held
+        ∙ ap₂ (λ k l. take k (sort ahead l)) (ap₂ (λ q o. q .k - o) (kept .query) (kept .out))
+        (ap₂ (λ l radius. l ++ qualifying radius x y) (u .same) (ap (λ q. q .radius) (kept .query)));
+  }
+    where
+      B : ℕ
+      B = s .query .block
+
+      old : Block
+      old = blockAt (cond field t f) B c n
+
+      x : Block
+      x = cond field new old
+
+      y : Block
+      y = cond field old new
+
+      room : ℕ
+      room = after n .query .k - after n .out
+
+      met : List Pair
+      met = qualifying (after n .query .radius) x y
+
+      kept : Kept s (after n)
+      kept = blocks-keep field s new (cond field t f) c n
+
+      radius : ℕ
+      radius = after n .query .radius
+
+      inside : (p : Pair) → List·Memᴰ p met → Between field radius f t a b (n * B) (min (n * B + B) c) p
+      inside p m = mem-between field radius f t a b (n * B) (min (n * B + B) c) hb (omega arith) p .0 m
+
+      low : (p : Pair) → List·Memᴰ p met → p .sum ≤ firstScore (x .rows) + firstScore (y .rows)
+      low p m = between-low field radius f t a b (n * B) (min (n * B + B) c) g h p (inside p m)
+
+      held : heldPairs (meet (after n) x y) ≡ take room (sort ahead (heldPairs (after n) ++ met))
+      held = meet-held (after n) x y (u .stored) (u .in-rank) low
+
+      fresh : (p : Pair) → List·Memᴰ p (heldPairs (after n)) → List·Memᴰ p met → ⊥
+      fresh p i j =
+          ⊎-elim (λ z. omega (arith, inside p j .own-part)) (λ z. omega (arith, inside p j .other-part)) (u .seen p i)
+
+  module _ (stored : length (heldPairs s) ≡ s .held) (in-rank : ranked ahead (heldPairs s) ≡ true)
+      (seen : (p : Pair) → List·Memᴰ p (heldPairs s) → ownRow field p ≤ a) where
+    unskipping : (n : ℕ) → Unskipping field a (n * s .query .block) (unskipped n) (after n)
+    unfolding meetBlocks heldUnskipped
+    unskipping zero = record { stored = stored; in-rank = in-rank; seen = λ p m. inl (seen p m); same = refl }
+    unskipping (suc n) = block-unskipping n (unskipping n)
+
+    unskipped-same : (n : ℕ) → heldPairs (after n) ≡ unskipped n
+    unskipped-same n = unskipping n .same
+
+-- ---- The rows that a read looks at
+
+same-held-unskipped : (field : Bool) (s : Session) (new : Block) (t u : List ℤ) (depth n : ℕ) → SameRows depth t u
+    → heldUnskipped field s new u depth n ≡ heldUnskipped field s new t depth n
+unfolding heldUnskipped
+same-held-unskipped field s new t u depth zero e = refl
+same-held-unskipped field s new t u depth (suc n) e =
+    ap₂
+    (λ l old.
+    take (s .query .k - s .out)
+    (sort ahead (l ++ qualifying (s .query .radius) (cond field new old) (cond field old new))))
+    (same-held-unskipped field s new t u depth n e)
+    (same-part depth t u e (n * s .query .block) (min (n * s .query .block + s .query .block) depth) (omega arith))
+
+same-unskipped : (field : Bool) (f t f′ t′ : List ℤ) (s : Session)
+    → SameRows (cond field (newDepth field s) (s .depth .field .0)) f f′
+    → SameRows (cond field (s .depth .trim .0) (newDepth field s)) t t′
+    → readUnskipped field f′ t′ s ≡ readUnskipped field f t s
+unfolding readUnskipped
+same-unskipped field f t f′ t′ s h k =
+    let c : ℕ = cond field (s .depth .trim .0) (s .depth .field .0) in
+    let n : ℕ = blockCount (s .query .block) c in
+    ap (λ new. heldUnskipped field s new (cond field t′ f′) c n) (same-new field f t f′ t′ s h k)
+    ∙ same-held-unskipped field s (rowsBetween (cond field f t) (oldDepth field s) (newDepth field s)) (cond field t f)
+    (cond field t′ f′) c n (same-old field f t f′ t′ s h k)
+
+-- the rows of a held pair lie within the depths
+held-own : (field : Bool) (s : Session) (p : Pair) → PairFits s p → ownRow field p ≤ oldDepth field s
+held-own true s p h = h .field-row .1
+held-own false s p h = h .trim-row .1
+
+module _ (field : Bool) (f t : List ℤ) (s : Session) (a : Accepted f t s) (new : NewRowsFit field f t s)
+    (places : length (s .pairs) ≡ 64) where
+  abbrev m : ℕ
+  m = cond field (newDepth field s) (s .depth .field .0)
+
+  abbrev n : ℕ
+  n = cond field (s .depth .trim .0) (newDepth field s)
+
+  -- the rows that the read looks at, as tables by themselves
+  abbrev f′ : List ℤ
+  f′ = take (4 * m) f
+
+  abbrev t′ : List ℤ
+  t′ = take (4 * n) t
+
+  abbrev fits : RecordFits s
+  fits = a .lent .fits
+
+  down : (m ≤ s .rows .field .0) × (n ≤ s .rows .trim .0)
+  down = new-within s (fits .field .within) (fits .trim .within) field
+
+  m-within : m ≤ rowCount f
+  m-within = omega (arith, down, a .lent .field .count)
+
+  n-within : n ≤ rowCount t
+  n-within = omega (arith, down, a .lent .trim .count)
+
+  cut-unskipped : heldPairs (readTable field f′ t′ s) ≡ readUnskipped field f′ t′ s
+  unfolding readTable readTo readUnskipped
+  cut-unskipped =
+      let good = read-rows field f t s a new in
+      let d = s .depth .field .0 in
+      let e = s .depth .trim .0 in
+      let has-m : m ≤ rowCount f′ = omega (arith, cut-count f m m-within) in
+      let has-n : n ≤ rowCount t′ = omega (arith, cut-count t n n-within) in
+      let cut = own-within field f′ t′ (newDepth field s) d e has-m has-n in
+      unskipped-same field f′ t′ (cut-legal f m m-within (omega (arith, down, fits .field .few)) (good .0))
+      (cut-legal t n n-within (omega (arith, down, fits .trim .few)) (good .1)) s (oldDepth field s) (newDepth field s)
+      (cond field e d) (cut .0) (cut .1)
+      (length-take (s .held) (s .pairs) ∙ omega (arith, fits .room, fits .query .k)) (fits .rank)
+      (λ p i. held-own field s p (pair-out s p (every-at (pairFits s) p (fits .pairs) i)))
+      (blockCount (s .query .block) (cond field e d))
+
+  table-unskipped : heldPairs (readTable field f t s) ≡ readUnskipped field f t s
+  table-unskipped =
+      ap heldPairs (sym (same-read field f t f′ t′ s (cut-same f m m-within) (cut-same t n n-within)))
+      ∙ cut-unskipped
+      ∙ same-unskipped field f t f′ t′ s (cut-same f m m-within) (cut-same t n n-within)
+
+-- every accepted read, over any slices and of any record with its 64 places
+pub skipping-changes-nothing : (f t : List ℤ) (s : Session) → callCode f t s ≡ 0 → newBlockCode f t s ≡ 0
+    → length (s .pairs) ≡ 64 → heldPairs (readBlock f t s) ≡ readUnskipped (fieldNext f t s) f t s
+skipping-changes-nothing f t s a b places =
+    table-unskipped (fieldNext f t s) f t s (call-out f t s a) (new-block-out f t s b) places

@@ -28,15 +28,18 @@ module _ (f t : List ℤ) (s : Session) where
   unfolding takeCall takeAnswer
   take-is = go (callCode f t s) (eqb (callCode f t s) 0) (givesPair f t s) (finished s)
     where
-      go : (code : ℕ) (a b c : Bool) → let x = cond a (cond b (Given (firstHeld s)) (cond c Finished NotYet)) (Refused code) in
+      go : (code : ℕ) (a b c : Bool)
+          → let x = cond a (cond b (Given (firstHeld s)) (cond c Finished NotYet)) (Refused code) in
           step x (afterTake x)
-          ≡ cond a (cond b (step (Given (firstHeld s)) (movedOut s)) (cond c (step Finished s) (step NotYet s))) (step (Refused code) s)
+          ≡ cond a (cond b (step (Given (firstHeld s)) (movedOut s)) (cond c (step Finished s) (step NotYet s)))
+          (step (Refused code) s)
       go code false b c = refl
       go code true true c = refl
       go code true false true = refl
       go code true false false = refl
 
-  pub take-ends : (code : ℕ) (a : Answer) → code ≡ callCode f t s → a ≡ takeAnswer code f t s → step a (afterTake a) ≡ takeCall f t s
+  pub take-ends : (code : ℕ) (a : Answer) → code ≡ callCode f t s → a ≡ takeAnswer code f t s
+      → step a (afterTake a) ≡ takeCall f t s
   take-ends code a e h = ap (λ (x : Answer). step x (afterTake x)) (h ∙ ap (λ (n : ℕ). takeAnswer n f t s) e) ∙ take-is
 
   -- a take that gives no pair leaves the record as it was

@@ -1,5 +1,5 @@
-// Take: the next pair out of a session over two lent tables. The record is a value that goes in and comes back; whatever
-// comes in is checked.
+// Take: the next pair out of a session over two lent tables. The record is a value that goes in and comes back;
+// whatever comes in is checked.
 use rules::Answer;
 use rules::Pair;
 use rules::Session;
@@ -8,7 +8,7 @@ ghost use mathlib.Core.Path.{_≡_};
 ghost use Prim.Native.Nat.{_+_, _-_, _≤_, _<_};
 ghost use Rattle.rules.specs.Take.{givesPair, finished};
 ghost use Rattle.rules.specs.Calls.{takeCall};
-ghost use Rattle.session_laws.specs.Sizes.{Lent};
+ghost use Rattle.session_laws.specs.Calls.{Lent};
 ghost use Rattle.taking.specs.Answers.{takeAnswer};
 
 // Whether a take answers the first held pair.

@@ -23,7 +23,11 @@ returns-3 c =
     let second = c .all-small2 in
     λ h.
     let both = and-out (first .result) (second .result) h in
-    record { within = c .before .before .if2 .left; first = first .ensures (both .0); second = second .ensures (both .1) }
+    record {
+      within = c .before .before .if2 .left;
+      first = first .ensures (both .0);
+      second = second .ensures (both .1);
+    }
 
 pub both-small-spec : {M : Type 1} → statement M
 both-small-spec =

@@ -17,7 +17,8 @@ use Rattle.block.proofs.join.Tie as tie
 
 abbrev Inv-loop : tie.InvT-loop
 Inv-loop radius room x a y c keys₀ held m n last small g₀ i₀ j₀ keys g i j =
-    (i ≤ m) × (j ≤ n) × (m ≤ i → j ≡ 0) × (g ≤ room) × (length keys ≡ 64) × Turns.Met radius room (at a x) (at c y) held keys₀ i j g keys
+    (i ≤ m) × (j ≤ n) × (m ≤ i → j ≡ 0) × (g ≤ room) × (length keys ≡ 64) × Turns.Met radius room (at a x)
+    (at c y) held keys₀ i j g keys
 
 -- the pairs of rows that are left, one more for the end of each row
 abbrev μ-loop : tie.MeasureT-loop
@@ -26,7 +27,8 @@ abbrev μ-loop : tie.MeasureT-loop
 row-less : (m n i j : ℕ) → i < m → (m - (i + 1)) * (n + 1) + (n - 0) < (m - i) * (n + 1) + (n - j)
 row-less m n i j h =
     let a = m - (i + 1) in
-    let e : (m - i) * (n + 1) ≡ a * (n + 1) + (n + 1) = ap (λ (k : ℕ). k * (n + 1)) (omega (arith, h)) ∙ suc-mul a (n + 1) in
+    let e : (m - i) * (n + 1) ≡ a * (n + 1) + (n + 1) =
+    ap (λ (k : ℕ). k * (n + 1)) (omega (arith, h)) ∙ suc-mul a (n + 1) in
     omega (arith, e)
 
 add-last : tie.Need-add-last Inv-loop μ-loop
@@ -43,7 +45,8 @@ loop-holds c =
       λ _. refl,
       s .pre .0 .0,
       s .pre .0 .2,
-      Turns.start (s .args .radius) (s .args .room) (at (s .args .a) (s .args .x .now)) (at (s .args .c) (s .args .y .now)) (s .args .held) (s .args .keys .now),
+      Turns.start (s .args .radius) (s .args .room) (at (s .args .a) (s .args .x .now))
+          (at (s .args .c) (s .args .y .now)) (s .args .held) (s .args .keys .now),
     )
 
 next-near-requires : tie.Need-next-near-requires Inv-loop μ-loop
@@ -55,7 +58,15 @@ pair-at-requires : tie.Need-pair-at-requires Inv-loop μ-loop
 pair-at-requires c κs =
     let s = c .before .before .before .before .before in
     let h : c .before .next-near .result < length (s .args .y .now) / 4 = c .if1 .taken in
-    omega (arith, h, c .before .before .loop-test .taken, s .pre .1 .0 .whole, s .pre .1 .0 .few, s .pre .1 .1 .whole, s .pre .1 .1 .few)
+    omega (
+      arith,
+      h,
+      c .before .before .loop-test .taken,
+      s .pre .1 .0 .whole,
+      s .pre .1 .0 .few,
+      s .pre .1 .1 .whole,
+      s .pre .1 .1 .few,
+    )
 
 key-requires : tie.Need-key-requires Inv-loop μ-loop
 key-requires c κs = c .pair-at .ensures .1
@@ -91,14 +102,18 @@ loop-again c =
     let p = c .before .before .before .pair-at in
     let key = c .before .before .key in
     let h : near .result < length (s .args .y .now) / 4 = c .before .before .before .before .if1 .taken in
-    let turn : v .i < length (s .args .x .now) / 4 = c .before .before .before .before .before .before .loop-test .taken in
-    let here = Turns.skipped (s .args .radius) (s .args .room) x y n a (v .i) (v .g) (v .keys) (v .j) (near .result) (near .ensures) (v .inv .5) in
+    let turn : v .i < length (s .args .x .now) / 4 =
+    c .before .before .before .before .before .before .loop-test .taken in
+    let here =
+    Turns.skipped (s .args .radius) (s .args .room) x y n a (v .i) (v .g) (v .keys) (v .j) (near .result)
+    (near .ensures) (v .inv .5) in
     let Met = Turns.Met (s .args .radius) (s .args .room) x y n a (v .i) (near .result + 1) in
     let after : (c .if2 .g ≤ s .args .room) × (length (c .if2 .keys) ≡ 64) × Met (c .if2 .g) (c .if2 .keys) =
     ⊎-elim
     (λ w.
     let next : Met (w .2 .result) (w .2 .last .0) =
-    Turns.joined (s .args .radius) (s .args .room) x y n a (v .i) (v .g) (v .keys) (near .result) (w .2 .result) (w .2 .last .0) (p .result)
+    Turns.joined (s .args .radius) (s .args .room) x y n a (v .i) (v .g) (v .keys) (near .result) (w .2 .result)
+    (w .2 .last .0) (p .result)
     here (near .ensures .found h) (p .ensures .0) (w .2 .ensures) in
     rw (w .3, w .4) (w .2 .ensures .few, w .2 .ensures .long, next))
     (λ w.
@@ -107,7 +122,8 @@ loop-again c =
     let behind = ap (ltb last) (sym (key .ensures)) ∙ both .1 in
     let next : Met (v .g) (v .keys) =
     Turns.fallen (s .args .radius) (s .args .room) x y n a (v .i) (v .g) (v .keys) (near .result) (p .result)
-    here (near .ensures .found h) (p .ensures .0) (p .ensures .1) (v .inv .4) (s .pre .0 .1) (eqb-true (v .g) (s .args .room) (both .0)) behind in
+    here (near .ensures .found h) (p .ensures .0) (p .ensures .1) (v .inv .4) (s .pre .0 .1)
+    (eqb-true (v .g) (s .args .room) (both .0)) behind in
     rw (w .1, w .2) (v .inv .3, v .inv .4, next))
     (c .if2 .came) in
     (omega (arith, turn), omega (arith, h), λ z. absurd (omega (arith, z, turn)), after .0, after .1, after .2)
@@ -131,7 +147,8 @@ loop-again-2 c =
     let n = s .args .held in
     let a = s .args .keys .now in
     let e : near .result ≡ length (s .args .y .now) / 4 = omega (arith, near .ensures .upto, c .if1 .left) in
-    let here = Turns.skipped (s .args .radius) (s .args .room) x y n a (v .i) (v .g) (v .keys) (v .j) (near .result) (near .ensures) (v .inv .5) in (
+    let here = Turns.skipped (s .args .radius) (s .args .room) x y n a (v .i) (v .g) (v .keys) (v .j) (near .result)
+    (near .ensures) (v .inv .5) in (
       omega (arith, c .before .before .loop-test .taken),
       omega arith,
       λ _. refl,
@@ -150,8 +167,10 @@ returns c =
     let a = s .args .keys .now in
     let e : v .i ≡ length (s .args .x .now) / 4 = omega (arith, v .inv .0, c .loop-test .left) in
     let z : v .j ≡ 0 = v .inv .2 (omega (arith, c .loop-test .left)) in
-    let met = subst (λ (j : ℕ). Turns.Met (s .args .radius) (s .args .room) x y n a (v .i) j (v .g) (v .keys)) z (v .inv .5) in
-    Turns.all-met (s .args .radius) (s .args .room) x y n a (v .i) (v .g) (v .keys) e met (s .pre .0 .0) (v .inv .3) (v .inv .4)
+    let met =
+    subst (λ (j : ℕ). Turns.Met (s .args .radius) (s .args .room) x y n a (v .i) j (v .g) (v .keys)) z (v .inv .5) in
+    Turns.all-met (s .args .radius) (s .args .room) x y n a (v .i) (v .g) (v .keys) e met (s .pre .0 .0) (v .inv .3)
+    (v .inv .4)
 
 pub join-spec : {M : Type 1} → statement M
 join-spec =

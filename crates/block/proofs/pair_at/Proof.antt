@@ -35,7 +35,10 @@ cast-t15 c = search needs
 
 returns : tie.Need-returns
 unfolding pairAt pairSum
-returns c = (simp (c .before .score .ensures .0, c .score2 .ensures .0) refl, record { sum = omega arith; field = omega arith; trim = omega arith })
+returns c = (
+  simp (c .before .score .ensures .0, c .score2 .ensures .0) refl,
+  record { sum = omega arith; field = omega arith; trim = omega arith },
+)
 
 pub pair-at-spec : {M : Type 1} → statement M
 pair-at-spec =

@@ -2,7 +2,7 @@
 use mathlib.Core.Path.{_≡_, refl}
 use mathlib.Core.Bool.{true, false}
 use Rattle.rules.specs.Session.{bothReadOut}
-use Rattle.ceiling.specs.Last.{reached-secured}
+use Rattle.ceiling.specs.Last.{read-secured}
 use borrow.Author.Needs.{needs}
 use Rattle.ceiling.proofs.is_secured.Statement.{statement}
 use Rattle.ceiling.proofs.is_secured.Tie as tie
@@ -11,7 +11,7 @@ returns : tie.Need-returns
 returns c =
     let s = c .before .before .before in
     let out : bothReadOut (s .args .s) ≡ true = c .if1 .taken in
-    rw (reached-secured (s .args .f .now) (s .args .t .now) (s .args .s) (s .args .p) (s .pre)) (simp out refl)
+    rw (read-secured (s .args .f .now) (s .args .t .now) (s .args .s) (s .args .p) (s .pre)) (simp out refl)
 
 threshold-requires : tie.Need-threshold-requires
 threshold-requires c κs = search needs
@@ -20,7 +20,7 @@ returns-2 : tie.Need-returns-2
 returns-2 c =
     let s = c .before .before .before .before .before in
     let out : bothReadOut (s .args .s) ≡ false = c .before .before .if1 .left in
-    rw (reached-secured (s .args .f .now) (s .args .t .now) (s .args .s) (s .args .p) (s .pre))
+    rw (read-secured (s .args .f .now) (s .args .t .now) (s .args .s) (s .args .p) (s .pre))
     (simp (out, c .before .threshold .ensures) refl)
 
 pub is-secured-spec : {M : Type 1} → statement M

@@ -6,21 +6,22 @@ use Prim.Native.Nat.{ℕ, _+_, _*_, _≤_}
 use native.Mathlib.Omega.{arith}
 use lib.IntN.{ℤ}
 use lib.ListN.{length}
-use borrow.Author.Tests.{eq-eqb, ne-eqb}
-use Rattle.session_laws.specs.Record.{CountsFit}
-use Rattle.session_laws.specs.Sizes.{SameSize}
-use Rattle.checks.specs.Codes.{callOf, lent-passed}
+use borrow.Author.Tests.{ne-eqb}
+use Rattle.session_laws.specs.Calls.{SameSize}
+use Rattle.checks.specs.Codes.{callOf, lent-of-out}
 use borrow.Author.Needs.{needs}
 use Rattle.checks.proofs.call_code.Statement.{statement}
 use Rattle.checks.proofs.call_code.Tie as tie
 
-known : (c : tie.Else1) → (c .before .before .args .fits ≡ true) × (SameSize (c .before .before .args .rows .field .0) (c .before .before .args .f .now) × SameSize (c .before .before .args .rows .trim .0) (c .before .before .args .t .now))
+known : (c : tie.Else1) → let s = c .before .before .args in
+    (s .fits ≡ true) × (SameSize (s .rows .field .0) (s .f .now) × SameSize (s .rows .trim .0) (s .t .now))
 known c =
     let s = c .before .before .args in
-    lent-passed (s .fits) (s .rows) (s .f .now) (s .t .now) (eq-eqb _ _ (sym (c .before .lent-code .ensures) ∙ c .if1 .left))
+    lent-of-out (s .fits) (s .rows) (s .f .now) (s .t .now) (sym (c .before .lent-code .ensures) ∙ c .if1 .left)
 
-rows-within : (t : List ℤ) (rows depth : ℕ) → SameSize rows t → CountsFit rows depth → (0 + depth ≤ 65535) × (4 * (0 + depth) ≤ length t)
-rows-within t rows depth h k = omega (arith, h .size .whole, h .count, k .few, k .within)
+rows-within : (t : List ℤ) (rows depth : ℕ) → SameSize rows t → (depth ≤ rows) × (rows ≤ 65535)
+    → (0 + depth ≤ 65535) × (4 * (0 + depth) ≤ length t)
+rows-within t rows depth h k = omega (arith, h .size .whole, h .count, k)
 
 lent-code-requires : tie.Need-lent-code-requires
 lent-code-requires c κs = search needs
@@ -40,7 +41,13 @@ rows-code-requires c κs =
 returns-2 : tie.Need-returns-2
 unfolding callOf
 returns-2 c =
-    simp (← c .before .before .before .before .lent-code .ensures, c .before .before .before .if1 .left, ← c .before .rows-code .ensures, ne-eqb _ _ (c .if2 .taken)) refl
+    simp (
+      ← c .before .before .before .before .lent-code .ensures,
+      c .before .before .before .if1 .left,
+      ← c .before .rows-code .ensures,
+      ne-eqb _ _ (c .if2 .taken),
+    )
+    refl
 
 cast-rows-code-2 : tie.Need-cast-rows-code-2
 cast-rows-code-2 c = search needs

@@ -27,7 +27,8 @@ loop-holds : tie.Need-loop-holds Inv-loop μ-loop
 loop-holds c =
     let s = c .before .before .before .before .before .before in
     let n = c .before .numbers-fit in
-    let long : length (s .args .t1 .pairs) ≡ 64 = sym (length-map (s .args .t1 .pairs) _) ∙ s .good .0 .1 .1 .1 .1 .1 .1 .1 .1 .0 .1 .0 .1 in
+    let long : length (s .args .t1 .pairs) ≡ 64 =
+    sym (length-map (s .args .t1 .pairs) _) ∙ s .good .0 .1 .1 .1 .1 .1 .1 .1 .1 .0 .1 .0 .1 in
     look-starts (s .args .t1) (n .result) (c .first-place .result) long (n .ensures) (c .first-place .ensures)
 
 mul-p : tie.Need-mul-p Inv-loop μ-loop
@@ -52,7 +53,8 @@ loop-again c =
     let s = c .before .before .before .before .before .before .before .before .before .before .before .args .t1 in
     let v = c .before .before .before .before .loop in
     let k = c .before .place-key in
-    look-on s (v .i) (v .before) (v .fits) (v .inv) (c .before .before .before .loop-test .taken) (k .result) (k .ensures) (c .if1 .left)
+    look-on s (v .i) (v .before) (v .fits) (v .inv) (c .before .before .before .loop-test .taken) (k .result)
+    (k .ensures) (c .if1 .left)
 
 returns : tie.Need-returns Inv-loop μ-loop
 returns c =
@@ -65,7 +67,8 @@ returns-2 c =
     let s = c .before .before .before .before .before .before .before .before .before .before .before .args .t1 in
     let v = c .before .before .before .before .loop in
     let k = c .before .place-key in
-    look-stops s (v .i) (v .before) (v .fits) (v .inv) (c .before .before .before .loop-test .taken) (k .result) (k .ensures) (c .if1 .taken)
+    look-stops s (v .i) (v .before) (v .fits) (v .inv) (c .before .before .before .loop-test .taken) (k .result)
+    (k .ensures) (c .if1 .taken)
 
 pub fits-spec : {M : Type 1} → statement M
 fits-spec =

@@ -16,7 +16,12 @@ same-size-code-requires c κs = search needs
 returns-2 : tie.Need-returns-2
 unfolding lentOf
 returns-2 c =
-    simp (not-false (c .before .before .before .args .fits) (c .before .before .if1 .left), ← c .before .same-size-code .ensures, ne-eqb _ _ (c .if2 .taken)) refl
+    simp (
+      not-false (c .before .before .before .args .fits) (c .before .before .if1 .left),
+      ← c .before .same-size-code .ensures,
+      ne-eqb _ _ (c .if2 .taken),
+    )
+    refl
 
 same-size-code-requires-2 : tie.Need-same-size-code-requires-2
 same-size-code-requires-2 c κs = search needs

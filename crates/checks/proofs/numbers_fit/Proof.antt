@@ -6,23 +6,25 @@ use native.Mathlib.Nat.{mul-le-mul}
 use lib.Dec.{eqb}
 use borrow.Author.Tests.{eq-eqb, ne-eqb, not-true, not-false}
 use Rattle.rules.specs.Calls.{queryCode, countsFit}
-use Rattle.session_laws.specs.Record.{QueryFits, query-fits, counts-fit}
+use Rattle.session_laws.specs.Record.{QueryFits, query-out, counts-out}
 use Rattle.checks.specs.Grounds.{numbersFit}
 use borrow.Author.Needs.{needs}
 use Rattle.checks.proofs.numbers_fit.Statement.{statement}
 use Rattle.checks.proofs.numbers_fit.Tie as tie
 
 -- what the tests passed say
-queried : (c : tie.Else1) → eqb (queryCode (c .before .before .args .q)) 0 ≡ true
-queried c = eq-eqb _ _ (sym (c .before .query-code .ensures) ∙ c .if1 .left)
+queried : (c : tie.Else1) → queryCode (c .before .before .args .q) ≡ 0
+queried c = sym (c .before .query-code .ensures) ∙ c .if1 .left
 
 fits : (c : tie.Else1) → QueryFits (c .before .before .args .q)
-fits c = query-fits (c .before .before .args .q) (queried c)
+fits c = query-out (c .before .before .args .q) (queried c)
 
-field : (c : tie.Else2) → countsFit (c .before .before .before .before .args .q .block) (c .before .before .before .before .args .rows .field .0) (c .before .before .before .before .args .depth .field .0) ≡ true
+field : (c : tie.Else2) → let a = c .before .before .before .before .args in
+    countsFit (a .q .block) (a .rows .field .0) (a .depth .field .0) ≡ true
 field c = sym (c .before .counts-fit .ensures) ∙ not-false (c .before .counts-fit .result) (c .if2 .left)
 
-trim : (c : tie.Else3) → countsFit (c .before .before .before .before .before .before .args .q .block) (c .before .before .before .before .before .before .args .rows .trim .0) (c .before .before .before .before .before .before .args .depth .trim .0) ≡ true
+trim : (c : tie.Else3) → let a = c .before .before .before .before .before .before .args in
+    countsFit (a .q .block) (a .rows .trim .0) (a .depth .trim .0) ≡ true
 trim c = sym (c .before .counts-fit2 .ensures) ∙ not-false (c .before .counts-fit2 .result) (c .if3 .left)
 
 query-code-requires : tie.Need-query-code-requires
@@ -40,7 +42,11 @@ counts-fit-requires c κs = omega (arith, fits c .block .0)
 returns-2 : tie.Need-returns-2
 unfolding numbersFit
 returns-2 c =
-    simp (queried (c .before .before), sym (c .before .counts-fit .ensures) ∙ not-true (c .before .counts-fit .result) (c .if2 .taken)) refl
+    simp (
+      eq-eqb _ _ (queried (c .before .before)),
+      sym (c .before .counts-fit .ensures) ∙ not-true (c .before .counts-fit .result) (c .if2 .taken),
+    )
+    refl
 
 counts-fit-requires-2 : tie.Need-counts-fit-requires-2
 counts-fit-requires-2 c κs = omega (arith, fits (c .before .before) .block .0)
@@ -49,7 +55,7 @@ returns-3 : tie.Need-returns-3
 unfolding numbersFit
 returns-3 c =
     simp (
-      queried (c .before .before .before .before),
+      eq-eqb _ _ (queried (c .before .before .before .before)),
       field (c .before .before),
       sym (c .before .counts-fit2 .ensures) ∙ not-true (c .before .counts-fit2 .result) (c .if3 .taken),
     )
@@ -67,13 +73,13 @@ mark-fits-requires c κs = search needs
 block-count-requires : tie.Need-block-count-requires
 block-count-requires c κs =
     let q = fits (c .before .before .before .before .before .before) in
-    let f = counts-fit _ _ _ (field (c .before .before .before .before)) in
+    let f = counts-out _ _ _ (field (c .before .before .before .before)) in
     omega (arith, q .block .0, q .block .1, f .few, f .within)
 
 block-count-requires-2 : tie.Need-block-count-requires-2
 block-count-requires-2 c κs =
     let q = fits (c .before .before .before .before .before .before .before) in
-    let t = counts-fit _ _ _ (trim (c .before .before .before)) in
+    let t = counts-out _ _ _ (trim (c .before .before .before)) in
     omega (arith, q .block .0, q .block .1, t .few, t .within)
 
 mul-most : tie.Need-mul-most
@@ -85,7 +91,7 @@ returns-4 : tie.Need-returns-4
 unfolding numbersFit
 returns-4 c =
     simp (
-      queried (c .before .before .before .before .before .before .before .before),
+      eq-eqb _ _ (queried (c .before .before .before .before .before .before .before .before)),
       field (c .before .before .before .before .before .before),
       trim (c .before .before .before .before),
       c .before .before .mark-fits .ensures,

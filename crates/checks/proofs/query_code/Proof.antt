@@ -15,8 +15,10 @@ returns-2 : tie.Need-returns-2
 unfolding queryCode
 returns-2 c =
     let q = c .before .before .before .before .before .before .args .q in
-    simp
-    (not-false (between 1 64 (q .k)) (c .before .before .before .if1 .left), not-true (between 1 1024 (q .block)) (c .if2 .taken))
+    simp (
+      not-false (between 1 64 (q .k)) (c .before .before .before .if1 .left),
+      not-true (between 1 1024 (q .block)) (c .if2 .taken),
+    )
 
 returns-3 : tie.Need-returns-3
 unfolding queryCode

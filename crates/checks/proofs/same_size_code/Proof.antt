@@ -15,14 +15,20 @@ returns c = simp (← c .before .size-fits .ensures, not-true (c .before .size-f
 returns-2 : tie.Need-returns-2
 unfolding sameSizeCode
 returns-2 c =
-    simp
-    (← c .before .before .size-fits .ensures, not-false (c .before .before .size-fits .result) (c .before .if1 .left), eq-eqb _ _ (c .if2 .taken))
+    simp (
+      ← c .before .before .size-fits .ensures,
+      not-false (c .before .before .size-fits .result) (c .before .if1 .left),
+      eq-eqb _ _ (c .if2 .taken),
+    )
 
 returns-3 : tie.Need-returns-3
 unfolding sameSizeCode
 returns-3 c =
-    simp
-    (← c .before .before .size-fits .ensures, not-false (c .before .before .size-fits .result) (c .before .if1 .left), ne-eqb _ _ (c .if2 .left))
+    simp (
+      ← c .before .before .size-fits .ensures,
+      not-false (c .before .before .size-fits .result) (c .before .if1 .left),
+      ne-eqb _ _ (c .if2 .left),
+    )
 
 pub same-size-code-spec : {M : Type 1} → statement M
 same-size-code-spec = tie.close (tie.spec size-fits-requires returns returns-2 returns-3)

@@ -17,13 +17,22 @@ returns-2 c = simp (ne-eqb _ _ (c .before .if1 .left), eq-eqb _ _ (c .if2 .taken
 
 returns-3 : tie.Need-returns-3
 unfolding fieldNext
-returns-3 c = simp (ne-eqb _ _ (c .before .before .before .if1 .left), ne-eqb _ _ (c .before .before .if2 .left), eq-eqb _ _ (c .if3 .taken))
+returns-3 c =
+    simp (
+      ne-eqb _ _ (c .before .before .before .if1 .left),
+      ne-eqb _ _ (c .before .before .if2 .left),
+      eq-eqb _ _ (c .if3 .taken),
+    )
 
 returns-4 : tie.Need-returns-4
 unfolding fieldNext
 returns-4 c =
-    simp
-    (ne-eqb _ _ (c .before .before .before .before .before .if1 .left), ne-eqb _ _ (c .before .before .before .before .if2 .left), ne-eqb _ _ (c .before .before .if3 .left), eq-eqb _ _ (c .if4 .taken))
+    simp (
+      ne-eqb _ _ (c .before .before .before .before .before .if1 .left),
+      ne-eqb _ _ (c .before .before .before .before .if2 .left),
+      ne-eqb _ _ (c .before .before .if3 .left),
+      eq-eqb _ _ (c .if4 .taken),
+    )
 
 drop-of-requires : tie.Need-drop-of-requires
 drop-of-requires c κs = search needs
@@ -56,8 +65,16 @@ returns-6 c =
       ne-eqb _ _ (c .before .before .before .before .before .before .before .before .if2 .left),
       ne-eqb _ _ (c .before .before .before .before .before .before .if3 .left),
       ne-eqb _ _ (c .before .before .before .before .if4 .left),
-      le-ltb x y (omega (arith, c .before .before .before .drop-of .ensures, c .before .before .drop-of2 .ensures, c .before .if5 .left)),
-      lt-ltb y x (omega (arith, c .before .before .before .drop-of .ensures, c .before .before .drop-of2 .ensures, c .if6 .taken)),
+      le-ltb x y
+          (omega (
+            arith,
+            c .before .before .before .drop-of .ensures,
+            c .before .before .drop-of2 .ensures,
+            c .before .if5 .left,
+          )),
+      lt-ltb y x
+          (omega
+          (arith, c .before .before .before .drop-of .ensures, c .before .before .drop-of2 .ensures, c .if6 .taken)),
     )
 
 returns-7 : tie.Need-returns-7
@@ -71,8 +88,16 @@ returns-7 c =
       ne-eqb _ _ (c .before .before .before .before .before .before .before .before .if2 .left),
       ne-eqb _ _ (c .before .before .before .before .before .before .if3 .left),
       ne-eqb _ _ (c .before .before .before .before .if4 .left),
-      le-ltb x y (omega (arith, c .before .before .before .drop-of .ensures, c .before .before .drop-of2 .ensures, c .before .if5 .left)),
-      le-ltb y x (omega (arith, c .before .before .before .drop-of .ensures, c .before .before .drop-of2 .ensures, c .if6 .left)),
+      le-ltb x y
+          (omega (
+            arith,
+            c .before .before .before .drop-of .ensures,
+            c .before .before .drop-of2 .ensures,
+            c .before .if5 .left,
+          )),
+      le-ltb y x
+          (omega
+          (arith, c .before .before .before .drop-of .ensures, c .before .before .drop-of2 .ensures, c .if6 .left)),
     ) refl
 
 pub field-next-spec : {M : Type 1} → statement M

@@ -6,7 +6,7 @@ use native.Mathlib.Omega.{arith}
 use lib.ListN.{length, length-map}
 use borrow.Author.Tests.{eq-eqb, ne-eqb}
 use Rattle.rules.specs.Session.{aTableIsEmpty, settled}
-use Rattle.ceiling.specs.Last.{held-then-reached, held-secured}
+use Rattle.ceiling.specs.Last.{held-then-read, held-secured}
 use borrow.Author.Needs.{needs}
 use Rattle.choosing.proofs.is_settled.Statement.{statement}
 use Rattle.choosing.proofs.is_settled.Tie as tie
@@ -31,7 +31,13 @@ returns-2 c = simp (c .before .before .before .if1 .left, c .if2 .taken) refl
 
 returns-3 : tie.Need-returns-3
 unfolding settled
-returns-3 c = simp (c .before .before .before .before .before .if1 .left, c .before .before .if2 .left, eq-eqb _ _ (c .if3 .taken)) refl
+returns-3 c =
+    simp (
+      c .before .before .before .before .before .if1 .left,
+      c .before .before .if2 .left,
+      eq-eqb _ _ (c .if3 .taken),
+    )
+    refl
 
 add-if4 : tie.Need-add-if4
 add-if4 c = search needs
@@ -39,12 +45,18 @@ add-if4 c = search needs
 returns-4 : tie.Need-returns-4
 unfolding settled
 returns-4 c =
-    simp (c .before .before .before .before .before .before .before .before .if1 .left, c .before .before .before .before .before .if2 .left, ne-eqb _ _ (c .before .before .before .if3 .left), ne-eqb _ _ (c .if4 .taken)) refl
+    simp (
+      c .before .before .before .before .before .before .before .before .if1 .left,
+      c .before .before .before .before .before .if2 .left,
+      ne-eqb _ _ (c .before .before .before .if3 .left),
+      ne-eqb _ _ (c .if4 .taken),
+    )
+    refl
 
 is-secured-requires : tie.Need-is-secured-requires
 is-secured-requires c κs =
     let s = c .before .before .before .before .before .before .before .before .before in
-    held-then-reached (s .args .f .now) (s .args .t .now) (s .args .s) (s .pre .0) (omega (arith, long s)) (some c)
+    held-then-read (s .args .f .now) (s .args .t .now) (s .args .s) (s .pre .0) (omega (arith, long s)) (some c)
 
 returns-5 : tie.Need-returns-5
 unfolding settled

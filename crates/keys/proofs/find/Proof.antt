@@ -43,7 +43,8 @@ loop-again c =
     let p = s .args .p in
     let l = take n a in
     let len : i < length l = simp (length-take-le n a (s .pre)) (omega arith) in
-    let lower : ltb (getD l i 0) p ≡ true = ap (λ (q : ℕ). ltb q p) (getD-take n a i 0 (omega arith)) ∙ lt-ltb (getD a i 0) p (c .if1 .taken) in
+    let lower : ltb (getD l i 0) p ≡ true =
+    ap (λ (q : ℕ). ltb q p) (getD-take n a i 0 (omega arith)) ∙ lt-ltb (getD a i 0) p (c .if1 .taken) in
     (search needs, c .before .before .before .loop .inv .1 ∙ omega (arith, place-on p l i len lower))
 
 returns : tie.Need-returns Inv-loop μ-loop
@@ -55,14 +56,16 @@ returns c =
     let p = s .args .p in
     let l = take n a in
     let len : i < length l = simp (length-take-le n a (s .pre)) (omega arith) in
-    let not-lower : ltb (getD l i 0) p ≡ false = ap (λ (q : ℕ). ltb q p) (getD-take n a i 0 (omega arith)) ∙ le-ltb (getD a i 0) p (c .if1 .left) in
+    let not-lower : ltb (getD l i 0) p ≡ false =
+    ap (λ (q : ℕ). ltb q p) (getD-take n a i 0 (omega arith)) ∙ le-ltb (getD a i 0) p (c .if1 .left) in
     (omega (arith, place-here p l i len not-lower), search needs)
 
 returns-2 : tie.Need-returns-2 Inv-loop μ-loop
 returns-2 c =
     let s = c .before .before in
     let l = take (s .args .n) (s .args .a .now) in
-    let len : length l ≤ c .before .loop .i = simp (length-take-le (s .args .n) (s .args .a .now) (s .pre)) (omega arith) in
+    let len : length l ≤ c .before .loop .i =
+    simp (length-take-le (s .args .n) (s .args .a .now) (s .pre)) (omega arith) in
     (omega (arith, place-none (s .args .p) l (c .before .loop .i) len), search needs)
 
 pub find-spec : {M : Type 1} → statement M

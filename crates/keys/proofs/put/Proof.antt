@@ -19,7 +19,8 @@ returns c =
     let a = s .args .a .now in
     let k = c .before .before .before .before .key in
     let i = c .before .find in
-    P.unchanged (s .args .n) (s .args .room) (s .args .p) a (s .pre) (omega arith) (k .result) (i .result) (k .ensures) (i .ensures .0) (c .if1 .taken)
+    P.unchanged (s .args .n) (s .args .room) (s .args .p) a (s .pre) (omega arith) (k .result) (i .result) (k .ensures)
+    (i .ensures .0) (c .if1 .taken)
 
 shift-requires : tie.Need-shift-requires
 shift-requires c κs = search needs
@@ -34,7 +35,8 @@ returns-2 c =
     let k = c .before .before .before .before .before .before .before .key in
     let i = c .before .before .before .before .find in
     let long : length a ≡ 64 = omega arith in
-    P.grown (s .args .n) (s .args .room) (s .args .p) a (s .pre) long (k .result) (i .result) (k .ensures) (i .ensures .0)
+    P.grown (s .args .n) (s .args .room) (s .args .p) a (s .pre) long (k .result) (i .result) (k .ensures)
+    (i .ensures .0)
     (c .shift .last .0) (c .shift .kept .0 ∙ long) (c .before .before .if2 .taken) (c .shift .ensures)
 
 sub-shift : tie.Need-sub-shift
@@ -50,7 +52,8 @@ returns-3 c =
     let k = c .before .before .before .before .before .before .before .key in
     let i = c .before .before .before .before .find in
     let long : length a ≡ 64 = omega arith in
-    P.replaced (s .args .n) (s .args .room) (s .args .p) a (s .pre) long (k .result) (i .result) (k .ensures) (i .ensures .0)
+    P.replaced (s .args .n) (s .args .room) (s .args .p) a (s .pre) long (k .result) (i .result) (k .ensures)
+    (i .ensures .0)
     (c .shift2 .last .0) (c .shift2 .kept .0 ∙ long) (c .before .before .if2 .left) (omega arith) (c .shift2 .ensures)
 
 pub put-spec : {M : Type 1} → statement M

@@ -12,7 +12,8 @@ use Rattle.keys.proofs.shift.Statement.{statement}
 use Rattle.keys.proofs.shift.Tie as tie
 
 abbrev Inv-loop : tie.InvT-loop
-Inv-loop a₀ n i p c₀ j₀ a c j = (j ≤ n) × (length a ≡ length a₀) × (take j a ++ c ∷ drop j (take n a) ≡ putAt i p (take n a₀))
+Inv-loop a₀ n i p c₀ j₀ a c j =
+    (j ≤ n) × (length a ≡ length a₀) × (take j a ++ c ∷ drop j (take n a) ≡ putAt i p (take n a₀))
 
 abbrev μ-loop : tie.MeasureT-loop
 μ-loop a₀ n i p c₀ j₀ a c j = n - j
@@ -43,8 +44,11 @@ loop-again : tie.Need-loop-again Inv-loop μ-loop
 loop-again c =
     let v = c .before .before .loop in
     let n = c .before .before .before .args .n in
-    let turn : v .j < n = omega arith in
-    (search needs, length-set (v .a) (v .j) (v .c) ∙ v .inv .1, one-on (v .a) (v .j) n (v .c) 0 turn (omega arith) ∙ v .inv .2)
+    let turn : v .j < n = omega arith in (
+      search needs,
+      length-set (v .a) (v .j) (v .c) ∙ v .inv .1,
+      one-on (v .a) (v .j) n (v .c) 0 turn (omega arith) ∙ v .inv .2,
+    )
 
 mul-a-2 : tie.Need-mul-a-2 Inv-loop μ-loop
 mul-a-2 c = omega arith
@@ -53,7 +57,8 @@ slice-write-a-2 : tie.Need-slice-write-a-2 Inv-loop μ-loop
 slice-write-a-2 c = omega arith
 
 same-length : tie.Need-same-length Inv-loop μ-loop
-same-length c = length-set (c .before .loop .a) (c .before .before .args .n) (c .before .loop .c) ∙ c .before .loop .inv .1
+same-length c =
+    length-set (c .before .loop .a) (c .before .before .args .n) (c .before .loop .c) ∙ c .before .loop .inv .1
 
 returns : tie.Need-returns Inv-loop μ-loop
 returns c =

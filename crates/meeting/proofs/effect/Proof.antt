@@ -16,25 +16,45 @@ add-if1 c = search needs
 
 returns : tie.Need-returns
 returns c =
-    effect-skip (c .before .before .before .args .full) (c .before .before .before .args .low) (c .before .before .before .args .radius) (c .before .before .before .args .x .now) (c .before .before .before .args .y .now) (simp (c .before .before .score .ensures .0, c .before .score2 .ensures .0) at (c .if1 .taken))
+    effect-skip (c .before .before .before .args .full) (c .before .before .before .args .low)
+    (c .before .before .before .args .radius) (c .before .before .before .args .x .now)
+    (c .before .before .before .args .y .now)
+    (simp (c .before .before .score .ensures .0, c .before .score2 .ensures .0) at (c .if1 .taken))
 
 returns-2 : tie.Need-returns-2
 returns-2 c =
-    effect-open (c .before .before .before .before .args .full) (c .before .before .before .before .args .low) (c .before .before .before .before .args .radius) (c .before .before .before .before .args .x .now) (c .before .before .before .before .args .y .now)
-    (simp (c .before .before .before .score .ensures .0, c .before .before .score2 .ensures .0) at (c .before .if1 .left))
+    effect-open (c .before .before .before .before .args .full) (c .before .before .before .before .args .low)
+    (c .before .before .before .before .args .radius) (c .before .before .before .before .args .x .now)
+    (c .before .before .before .before .args .y .now)
+    (simp (c .before .before .before .score .ensures .0, c .before .before .score2 .ensures .0) at
+    (c .before .if1 .left))
 
 any-near-requires : tie.Need-any-near-requires
 any-near-requires c κs = search needs
 
 returns-3 : tie.Need-returns-3
 returns-3 c =
-    effect-open (c .before .before .before .before .before .before .args .full) (c .before .before .before .before .before .before .args .low) (c .before .before .before .before .before .before .args .radius) (c .before .before .before .before .before .before .args .x .now) (c .before .before .before .before .before .before .args .y .now)
-    (simp (c .before .before .before .before .before .score .ensures .0, c .before .before .before .before .score2 .ensures .0) at (c .before .before .before .if1 .left))
+    effect-open (c .before .before .before .before .before .before .args .full)
+    (c .before .before .before .before .before .before .args .low)
+    (c .before .before .before .before .before .before .args .radius)
+    (c .before .before .before .before .before .before .args .x .now)
+    (c .before .before .before .before .before .before .args .y .now)
+    (simp (
+      c .before .before .before .before .before .score .ensures .0,
+      c .before .before .before .before .score2 .ensures .0,
+    ) at (c .before .before .before .if1 .left))
 
 returns-4 : tie.Need-returns-4
 returns-4 c =
-    effect-quiet (c .before .before .before .before .before .before .args .full) (c .before .before .before .before .before .before .args .low) (c .before .before .before .before .before .before .args .radius) (c .before .before .before .before .before .before .args .x .now) (c .before .before .before .before .before .before .args .y .now)
-    (simp (c .before .before .before .before .before .score .ensures .0, c .before .before .before .before .score2 .ensures .0) at (c .before .before .before .if1 .left))
+    effect-quiet (c .before .before .before .before .before .before .args .full)
+    (c .before .before .before .before .before .before .args .low)
+    (c .before .before .before .before .before .before .args .radius)
+    (c .before .before .before .before .before .before .args .x .now)
+    (c .before .before .before .before .before .before .args .y .now)
+    (simp (
+      c .before .before .before .before .before .score .ensures .0,
+      c .before .before .before .before .score2 .ensures .0,
+    ) at (c .before .before .before .if1 .left))
     (sym (c .before .any-near .ensures) ∙ c .if3 .left)
 
 pub effect-spec : {M : Type 1} → statement M

@@ -4,7 +4,7 @@ use Prim.Native.Nat.{_*_, _-_}
 use lib.ListN.{take, drop}
 use Rattle.rules.specs.Tables.{Block}
 use Rattle.meeting.specs.Meets.{part-is}
-use Rattle.meeting.specs.Side.{rowsOf}
+use Rattle.meeting.specs.Side.{spanBlock}
 use Rattle.meeting.specs.Effect.{Effect}
 use borrow.Author.Needs.{needs}
 use Rattle.meeting.proofs.effect_parts.Statement.{statement}
@@ -55,9 +55,11 @@ returns c =
     let x = s .x in
     let y = s .y in
     let cut = take (4 * x .to - 4 * x .from) (drop (4 * x .from) (s .f .now)) in
-    subst (λ (b : Block). Effect (s .full) (s .low) (s .radius) (b .rows) (rowsOf (s .t .now) y .rows) (c .effect .result)) (part-is (s .f .now) (x .from) (x .to))
-    (subst (λ (b : Block). Effect (s .full) (s .low) (s .radius) cut (b .rows) (c .effect .result)) (part-is (s .t .now) (y .from) (y .to))
-    (c .effect .ensures))
+    subst
+    (λ (b : Block). Effect (s .full) (s .low) (s .radius) (b .rows) (spanBlock (s .t .now) y .rows) (c .effect .result))
+    (part-is (s .f .now) (x .from) (x .to))
+    (subst (λ (b : Block). Effect (s .full) (s .low) (s .radius) cut (b .rows) (c .effect .result))
+    (part-is (s .t .now) (y .from) (y .to)) (c .effect .ensures))
 
 pub effect-parts-spec : {M : Type 1} → statement M
 effect-parts-spec =

@@ -59,7 +59,8 @@ join-requires c κs =
 returns : tie.Need-returns
 returns c =
     let s = c .before .before .before .before .before .before .before .before .args in
-    rw (sym (part-is (s .f .now) (s .x .from) (s .x .to)), sym (part-is (s .t .now) (s .y .from) (s .y .to))) (c .join .ensures)
+    rw (sym (part-is (s .f .now) (s .x .from) (s .x .to)), sym (part-is (s .t .now) (s .y .from) (s .y .to)))
+    (c .join .ensures)
 
 pub join-parts-spec : {M : Type 1} → statement M
 join-parts-spec =

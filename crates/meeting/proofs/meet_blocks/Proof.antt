@@ -13,9 +13,10 @@ use Rattle.rules.specs.Read.{meet, meetBlocks}
 use Rattle.session_laws.specs.Read.{blocks-keep, blocks-joined}
 use Rattle.meeting.specs.declared.Span.{Span}
 use Rattle.choosing.specs.Ready.{Ready}
-use Rattle.meeting.specs.Side.{Inside, rowsOf}
+use Rattle.meeting.specs.Side.{SpanFits, spanBlock}
 use Rattle.meeting.specs.Stands.{Stands}
-use Rattle.meeting.specs.Meets.{blocks-ready, block-begins, block-next, blocks-next, inside-field, inside-trim, parts-meet}
+use Rattle.meeting.specs.Meets.{blocks-ready, block-begins, block-next, blocks-next, inside-field, inside-trim}
+use Rattle.meeting.specs.Meets.{parts-meet}
 use Rattle.meeting.proofs.meet_blocks.Statement.{statement}
 use Rattle.meeting.proofs.meet_blocks.Tie as tie
 
@@ -26,7 +27,7 @@ Inv-loop field s f t new depth n keys₀ block room m₀ c₀ i₀ keys m c i =
     × (room ≡ s .query .k - s .out)
     × (c ≡ i * block)
     × (m .held ≤ room)
-    × Stands (meetBlocks field s (rowsOf (cond field f t) new) (cond field t f) depth i) m keys
+    × Stands (meetBlocks field s (spanBlock (cond field f t) new) (cond field t f) depth i) m keys
 
 abbrev μ-loop : tie.MeasureT-loop
 μ-loop field s f t new depth n keys₀ block room m₀ c₀ i₀ keys m c i = n - i
@@ -40,17 +41,21 @@ other s = cond (s .args .field) (s .args .t .now) (s .args .f .now)
 
 -- the record after i blocks
 abbrev after : tie.Start Inv-loop μ-loop → ℕ → Session
-after s i = meetBlocks (s .args .field) (s .args .s) (rowsOf (own s) (s .args .new)) (other s) (s .args .depth) i
+after s i = meetBlocks (s .args .field) (s .args .s) (spanBlock (own s) (s .args .new)) (other s) (s .args .depth) i
 
 ready : (s : tie.Start Inv-loop μ-loop) (i : ℕ) → Ready (after s i)
-ready s i = blocks-ready (s .args .field) (s .args .s) (rowsOf (own s) (s .args .new)) (other s) (s .args .depth) i (s .pre .0 .0)
+ready s i =
+    blocks-ready (s .args .field) (s .args .s) (spanBlock (own s) (s .args .new)) (other s) (s .args .depth) i
+    (s .pre .0 .0)
 
 -- the turn's block begins above the depth
 begins : (c : tie.In-loop Inv-loop μ-loop) → c .before .loop .c < c .before .before .before .before .before .args .depth
 begins c =
     let s = c .before .before .before .before .before in
     let v = c .before .loop in
-    let low = block-begins (s .args .n) (s .args .s .query .block) (s .args .depth) (v .i) (s .pre .1 .1 .2) (c .loop-test .taken) in
+    let low =
+    block-begins (s .args .n) (s .args .s .query .block) (s .args .depth) (v .i) (s .pre .1 .1 .2)
+    (c .loop-test .taken) in
     omega (arith, v .inv .3)
 
 -- the joined count has room for what is left
@@ -58,7 +63,8 @@ room : (c : tie.In-loop Inv-loop μ-loop) → c .before .loop .m .joined < 2 ^ 6
 room c =
     let s = c .before .before .before .before .before in
     let v = c .before .loop in
-    let few = blocks-joined (s .args .field) (s .args .s) (rowsOf (own s) (s .args .new)) (other s) (s .args .depth) (v .i) in
+    let few =
+    blocks-joined (s .args .field) (s .args .s) (spanBlock (own s) (s .args .new)) (other s) (s .args .depth) (v .i) in
     omega (arith, c .loop-test .taken, s .pre .0 .1, v .inv .5 .joined)
 
 -- the turn's old block
@@ -66,7 +72,8 @@ abbrev old : tie.After-lesser Inv-loop μ-loop → Span
 old c = record { from = c .before .before .loop .c; to = c .lesser .result }
 
 -- it lies within its table, and so do the two blocks as field and trim
-old-inside : (c : tie.After-lesser Inv-loop μ-loop) → Inside (old c) (other (c .before .before .before .before .before .before))
+old-inside : (c : tie.After-lesser Inv-loop μ-loop)
+    → SpanFits (old c) (other (c .before .before .before .before .before .before))
 old-inside c =
     let s = c .before .before .before .before .before .before in
     let least = s .pre .0 .0 .query .block .0 in
@@ -76,14 +83,18 @@ old-inside c =
       within = omega (arith, c .lesser .ensures, s .pre .1 .1 .1);
     }
 
-inside : (c : tie.After-either2 Inv-loop μ-loop) → Inside (c .before .either .result) (c .before .before .before .before .before .before .before .before .args .f .now)
-    × Inside (c .either2 .result) (c .before .before .before .before .before .before .before .before .args .t .now)
+inside : (c : tie.After-either2 Inv-loop μ-loop)
+    → SpanFits (c .before .either .result)
+    (c .before .before .before .before .before .before .before .before .args .f .now)
+    × SpanFits (c .either2 .result) (c .before .before .before .before .before .before .before .before .args .t .now)
 inside c =
     let s = c .before .before .before .before .before .before .before .before in
     let a = s .args in
     let l = c .before .before in (
-      rw (c .before .either .ensures) (inside-field (a .f .now) (a .t .now) (a .new) (old l) (a .field) (s .pre .1 .0) (old-inside l)),
-      rw (c .either2 .ensures) (inside-trim (a .f .now) (a .t .now) (a .new) (old l) (a .field) (s .pre .1 .0) (old-inside l)),
+      rw (c .before .either .ensures)
+          (inside-field (a .f .now) (a .t .now) (a .new) (old l) (a .field) (s .pre .1 .0) (old-inside l)),
+      rw (c .either2 .ensures)
+          (inside-trim (a .f .now) (a .t .now) (a .new) (old l) (a .field) (s .pre .1 .0) (old-inside l)),
     )
 
 cast-block : tie.Need-cast-block Inv-loop μ-loop
@@ -127,13 +138,27 @@ either-requires-2 c κs = search needs
 meet-parts-requires : tie.Need-meet-parts-requires Inv-loop μ-loop
 meet-parts-requires c κs =
     let s = c .before .before .before .before .before .before .before .before .before in
-    let v = c .before .before .before .before .before .loop in
-    ((v .inv .4, omega (arith, s .pre .0 .0 .query .k .1), room (c .before .before .before .before), v .inv .5 .pairs .long), inside (c .before))
+    let v = c .before .before .before .before .before .loop in (
+      (
+        v .inv .4,
+        omega (arith, s .pre .0 .0 .query .k .1),
+        room (c .before .before .before .before),
+        v .inv .5 .pairs .long,
+      ),
+      inside (c .before),
+    )
 
 add-c : tie.Need-add-c Inv-loop μ-loop
 add-c c =
     let s = c .before .before .before .before .before .before .before .before .before .before in
-    record { fits = omega (arith, begins (c .before .before .before .before .before), s .pre .1 .1 .0, s .pre .0 .0 .query .block .1) }
+    record {
+      fits = omega (
+        arith,
+        begins (c .before .before .before .before .before),
+        s .pre .1 .1 .0,
+        s .pre .0 .0 .query .block .1,
+      );
+    }
 
 add-i : tie.Need-add-i Inv-loop μ-loop
 add-i c = omega arith
@@ -149,15 +174,20 @@ loop-again c =
     let l = c .before .before .before .before in
     let x = c .before .before .before .either in
     let y = c .before .before .either2 in
-    let new = rowsOf (own start) (s .new) in
+    let new = spanBlock (own start) (s .new) in
     let r = after start (v .i) in
     let kept = blocks-keep (s .field) (s .s) new (other start) (s .depth) (v .i) in
-    let left : r .query .k - r .out ≡ s .s .query .k - s .s .out = ap₂ (λ (q : Query) (out : ℕ). q .k - out) (kept .query) (kept .out) in
-    let met = c .meet-parts .ensures .meets r (ready start (v .i)) (ap (λ (q : Query). q .radius) (kept .query)) left (v .inv .5) in
-    let as-rule : meet r (rowsOf (s .f .now) (x .result)) (rowsOf (s .t .now) (y .result)) ≡ after start (v .i + 1) =
-    ap₂ (λ (a b : Span). meet r (rowsOf (s .f .now) a) (rowsOf (s .t .now) b)) (x .ensures) (y .ensures)
+    let left : r .query .k - r .out ≡ s .s .query .k - s .s .out =
+    ap₂ (λ (q : Query) (out : ℕ). q .k - out) (kept .query) (kept .out) in
+    let met =
+    c .meet-parts .ensures .meets r (ready start (v .i)) (ap (λ (q : Query). q .radius) (kept .query)) left
+    (v .inv .5) in
+    let as-rule : meet r (spanBlock (s .f .now) (x .result)) (spanBlock (s .t .now) (y .result)) ≡ after start
+    (v .i + 1) =
+    ap₂ (λ (a b : Span). meet r (spanBlock (s .f .now) a) (spanBlock (s .t .now) b)) (x .ensures) (y .ensures)
     ∙ parts-meet (s .f .now) (s .t .now) (s .new) (old l) (s .field) r
-    ∙ blocks-next (s .field) (s .s) new (other start) (s .depth) (v .i) (v .c) (l .lesser .result) (s .s .query .block) r _ refl (v .inv .3) refl (l .lesser .ensures) refl in (
+    ∙ blocks-next (s .field) (s .s) new (other start) (s .depth) (v .i) (v .c) (l .lesser .result)
+    (s .s .query .block) r _ refl (v .inv .3) refl (l .lesser .ensures) refl in (
       omega arith,
       refl,
       refl,

@@ -15,14 +15,21 @@ read-on-requires : tie.Need-read-on-requires
 read-on-requires c κs =
     let s = c .before .before in
     let a = s .args in
-    let long : length (a .s .pairs) ≡ 64 = sym (length-map (a .s .pairs) _) ∙ s .good .1 .1 .0 .1 .1 .1 .1 .1 .1 .1 .1 .0 .1 .0 .1 in
-    (due (a .f .now) (a .t .now) (a .s) (s .pre .0) long (s .pre .1) (c .before .field-next .result) (c .before .field-next .ensures), s .pre .2)
+    let long : length (a .s .pairs) ≡ 64 =
+    sym (length-map (a .s .pairs) _) ∙ s .good .1 .1 .0 .1 .1 .1 .1 .1 .1 .1 .1 .0 .1 .0 .1 in (
+      due (a .f .now) (a .t .now) (a .s) (s .pre .0) long (s .pre .1) (c .before .field-next .result)
+          (c .before .field-next .ensures),
+      s .pre .2,
+    )
 
 returns : tie.Need-returns
 returns c =
     let a = c .before .before .before .args in
-    let e = c .read-on .ensures in
-    (e .0 ∙ ap (λ (b : Bool). readTable b (a .f .now) (a .t .now) (a .s)) (c .before .before .field-next .ensures), e .1, e .2)
+    let e = c .read-on .ensures in (
+      e .0 ∙ ap (λ (b : Bool). readTable b (a .f .now) (a .t .now) (a .s)) (c .before .before .field-next .ensures),
+      e .1,
+      e .2,
+    )
 
 pub read-block-spec : {M : Type 1} → statement M
 read-block-spec = tie.close (tie.spec field-next-requires read-on-requires returns)

@@ -73,13 +73,17 @@ abbrev met : tie.Start → Session
 met s =
     let a = s .args in
     let depth = otherDepth (a .field) (a .s) in
-    meetBlocks (a .field) (a .s) (rowsBetween (cond (a .field) (a .f .now) (a .t .now)) (oldDepth (a .field) (a .s)) (newDepth (a .field) (a .s))) (cond (a .field) (a .t .now) (a .f .now)) depth (blockCount (a .s .query .block) depth)
+    meetBlocks (a .field) (a .s)
+    (rowsBetween (cond (a .field) (a .f .now) (a .t .now)) (oldDepth (a .field) (a .s)) (newDepth (a .field) (a .s)))
+    (cond (a .field) (a .t .now) (a .f .now)) depth (blockCount (a .s .query .block) depth)
 
 ready : (s : tie.Start) → Ready (met s)
 ready s = blocks-ready (s .args .field) (s .args .s) _ _ _ _ (s .pre .0 .ready)
 
 -- the numbers and keys stand for it
-stands : (c : tie.After-meet-blocks) → Stands (met (c .before .before .before .before .before .before .before)) (c .meet-blocks .result) (c .meet-blocks .last .1 .1 .1 .1 .1 .1 .1 .0)
+stands : (c : tie.After-meet-blocks)
+    → Stands (met (c .before .before .before .before .before .before .before)) (c .meet-blocks .result)
+    (c .meet-blocks .last .1 .1 .1 .1 .1 .1 .1 .0)
 stands c =
     simp (
       c .before .before .block-count .ensures .0,
@@ -104,7 +108,8 @@ returns c =
     let m = c .before .before .before in
     let s = m .before .before .before .before .before .before .before in
     let a = s .args in
-    let is = read-is (a .field) (newDepth (a .field) (a .s)) (a .s) (met s) (blocks-keep (a .field) (a .s) _ _ _ _) (ready s) (m .meet-blocks .result) (m .meet-blocks .last .1 .1 .1 .1 .1 .1 .1 .0) (stands m) in (
+    let is = read-is (a .field) (newDepth (a .field) (a .s)) (a .s) (met s) (blocks-keep (a .field) (a .s) _ _ _ _)
+    (ready s) (m .meet-blocks .result) (m .meet-blocks .last .1 .1 .1 .1 .1 .1 .1 .0) (stands m) in (
       simp (
         c .before .pick4 .ensures,
         c .before .before .down-to .ensures,

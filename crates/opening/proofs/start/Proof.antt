@@ -1,20 +1,18 @@
 -- `start` meets its contract: document 01's opening. Assumes nothing.
 use mathlib.Core.Path.{_≡_, refl, sym, _∙_}
-use mathlib.Core.Bool.{true}
 use native.Mathlib.Omega.{arith}
-use lib.Dec.{eqb}
 use borrow.Author.Tests.{eq-eqb, ne-eqb}
 use Rattle.rules.specs.Calls.{openCode, openCall}
-use Rattle.session_laws.specs.Sizes.{Sized, open-sized}
+use Rattle.session_laws.specs.Calls.{Opening, open-out}
 use borrow.Author.Needs.{needs}
 use Rattle.opening.proofs.start.Statement.{statement}
 use Rattle.opening.proofs.start.Tie as tie
 
-passed : (c : tie.Else1) → eqb (openCode (c .before .before .args .q) (c .before .before .args .f .now) (c .before .before .args .t .now)) 0 ≡ true
-passed c = eq-eqb _ _ (sym (c .before .open-code .ensures) ∙ c .if1 .left)
+passed : (c : tie.Else1) → let s = c .before .before .args in openCode (s .q) (s .f .now) (s .t .now) ≡ 0
+passed c = sym (c .before .open-code .ensures) ∙ c .if1 .left
 
-sizes : (c : tie.Else1) → Sized (c .before .before .args .f .now) × Sized (c .before .before .args .t .now)
-sizes c = open-sized (c .before .before .args .q) (c .before .before .args .f .now) (c .before .before .args .t .now) (passed c)
+opening : (c : tie.Else1) → let s = c .before .before .args in Opening (s .q) (s .f .now) (s .t .now)
+opening c = let s = c .before .before .args in open-out (s .q) (s .f .now) (s .t .now) (passed c)
 
 open-code-requires : tie.Need-open-code-requires
 open-code-requires c κs = search needs
@@ -24,20 +22,21 @@ all-zeros-requires c κs = search needs
 
 returns : tie.Need-returns
 unfolding openCall
-returns c = simp (← c .before .before .open-code .ensures, ne-eqb _ _ (c .before .if1 .taken), c .all-zeros .ensures) refl
+returns c =
+    simp (← c .before .before .open-code .ensures, ne-eqb _ _ (c .before .if1 .taken), c .all-zeros .ensures) refl
 
 cast-t13 : tie.Need-cast-t13
-cast-t13 c = record { fits = omega (arith, sizes c .0 .few, sizes c .1 .few) }
+cast-t13 c = record { fits = omega (arith, opening c .field .few, opening c .trim .few) }
 
 cast-t13-2 : tie.Need-cast-t13-2
-cast-t13-2 c = record { fits = omega (arith, sizes c .0 .few, sizes c .1 .few) }
+cast-t13-2 c = record { fits = omega (arith, opening c .field .few, opening c .trim .few) }
 
 fresh-requires : tie.Need-fresh-requires
 fresh-requires c κs = search needs
 
 returns-2 : tie.Need-returns-2
 unfolding openCall
-returns-2 c = simp (passed (c .before), c .fresh .ensures) refl
+returns-2 c = simp (eq-eqb _ _ (passed (c .before)), c .fresh .ensures) refl
 
 pub start-spec : {M : Type 1} → statement M
 start-spec =

@@ -10,10 +10,10 @@ use Rattle.lists.specs.Bools.{clash}
 use Rattle.rules.specs.Session.{settled}
 use Rattle.rules.specs.declared.Step.{Step}
 use Rattle.rules.specs.Query.{wasRead}
-use Rattle.session_laws.specs.Record.{call-fits}
+use Rattle.session_laws.specs.Calls.{call-record}
 use Rattle.rules.specs.Calls.{recordFits, step, readCall}
 use Rattle.checks.proofs.Looking.{Looking, look-starts, look-key, look-on, look-stops, look-ends}
-use Rattle.checks.specs.Codes.{within}
+use Rattle.checks.specs.Codes.{depths-fit}
 use Rattle.meeting.specs.Stands.{Keys}
 use borrow.Author.Needs.{needs}
 use Rattle.reading.specs.Answers.{afterRead, read-asked, read-ends}
@@ -53,8 +53,11 @@ loop-holds c =
     let s = c .before .before .before .before .before .before in
     let n = c .before .numbers-fit in
     let i = c .first-place in
-    let long : length (s .args .s .pairs) ≡ 64 = sym (length-map (s .args .s .pairs) _) ∙ s .good .1 .1 .0 .1 .1 .1 .1 .1 .1 .1 .1 .0 .1 .0 .1 in
-    (look-starts (s .args .s) (n .result) (i .result) long (n .ensures) (i .ensures), key-starts (s .args .s) (n .result) (i .result) (i .ensures))
+    let long : length (s .args .s .pairs) ≡ 64 =
+    sym (length-map (s .args .s .pairs) _) ∙ s .good .1 .1 .0 .1 .1 .1 .1 .1 .1 .1 .1 .0 .1 .0 .1 in (
+      look-starts (s .args .s) (n .result) (i .result) long (n .ensures) (i .ensures),
+      key-starts (s .args .s) (n .result) (i .result) (i .ensures),
+    )
 
 mul-p : tie.Need-mul-p Inv-loop μ-loop Inv-loop2 μ-loop2
 mul-p c = search needs
@@ -87,7 +90,8 @@ loop-again c =
     let k = c .before .place-key in
     let turn = c .before .before .before .loop-test .taken in (
       look-on s (v .i) (v .before) (v .fits) l turn (k .result) (k .ensures) (c .if1 .left),
-      key-on s (v .i) (v .fits) (v .keys) (v .inv .1) turn (l .long) (k .result) (look-key s (v .i) (v .before) (v .fits) l turn (k .result) (k .ensures) (c .if1 .left)),
+      key-on s (v .i) (v .fits) (v .keys) (v .inv .1) turn (l .long) (k .result)
+          (look-key s (v .i) (v .before) (v .fits) l turn (k .result) (k .ensures) (c .if1 .left)),
     )
 
 -- what was handed in, as seen from behind the loop
@@ -97,18 +101,21 @@ given c = c .before .before .before .before .before .before .before .before
 looked : (c : tie.Left-loop Inv-loop μ-loop Inv-loop2 μ-loop2) → c .loop-test .fits ≡ recordFits (given c .args .s)
 looked c =
     let v = c .before .loop in
-    ⊎-elim (λ w. w .1 ∙ look-ends (given c .args .s) (v .i) (v .before) (v .fits) (v .inv .0) (omega (arith, w .0 .left)))
-    (λ w. w .4 ∙ look-stops (given c .args .s) (v .i) (v .before) (v .fits) (v .inv .0) (w .0 .taken) (w .2 .result) (w .2 .ensures) (w .3 .taken))
+    ⊎-elim
+    (λ w. w .1 ∙ look-ends (given c .args .s) (v .i) (v .before) (v .fits) (v .inv .0) (omega (arith, w .0 .left)))
+    (λ w. w .4 ∙ look-stops (given c .args .s) (v .i) (v .before) (v .fits) (v .inv .0) (w .0 .taken) (w .2 .result)
+    (w .2 .ensures) (w .3 .taken))
     (c .loop-test .came)
 
 call-code-requires : tie.Need-call-code-requires Inv-loop μ-loop Inv-loop2 μ-loop2
-call-code-requires c κs h = within (given (c .before .before) .args .s) (sym (looked (c .before .before)) ∙ h)
+call-code-requires c κs h = depths-fit (given (c .before .before) .args .s) (sym (looked (c .before .before)) ∙ h)
 
 passed : (c : tie.After-call-code Inv-loop μ-loop Inv-loop2 μ-loop2)
     → let a = given (c .before .before .before) .args in Checked (a .f .now) (a .t .now) (a .s) (c .call-code .result)
 passed c =
     let a = given (c .before .before .before) .args in
-    checked (a .f .now) (a .t .now) (a .s) (c .before .before .before .loop-test .fits) (c .call-code .result) (looked (c .before .before .before)) (c .call-code .ensures)
+    checked (a .f .now) (a .t .now) (a .s) (c .before .before .before .loop-test .fits) (c .call-code .result)
+    (looked (c .before .before .before)) (c .call-code .ensures)
 
 mul-last : tie.Need-mul-last Inv-loop μ-loop Inv-loop2 μ-loop2
 mul-last c = search needs
@@ -129,13 +136,17 @@ asked : (c : tie.After-enum-told Inv-loop μ-loop Inv-loop2 μ-loop2)
 asked c =
     let call = c .before .before .before .before in
     let a = given (call .before .before .before) .args in
-    read-asked (call .call-code .result) (a .f .now) (a .t .now) (a .s) (sym (c .before .before .read-answer .ensures) ∙ c .enum-told .given .1)
+    read-asked (call .call-code .result) (a .f .now) (a .t .now) (a .s)
+    (sym (c .before .before .read-answer .ensures) ∙ c .enum-told .given .1)
 
 -- all fits: the keys are those of the pairs held
-keyed : (c : tie.Left-loop Inv-loop μ-loop Inv-loop2 μ-loop2) → c .loop-test .fits ≡ true → given c .args .s .held ≤ 64 → Keys (given c .args .s) (c .before .loop .keys)
+keyed : (c : tie.Left-loop Inv-loop μ-loop Inv-loop2 μ-loop2) → c .loop-test .fits ≡ true → given c .args .s .held ≤ 64
+    → Keys (given c .args .s) (c .before .loop .keys)
 keyed c t few =
     let v = c .before .loop in
-    ⊎-elim (λ w. key-ends (given c .args .s) (v .i) (v .fits) (v .keys) (v .inv .1) (omega (arith, w .0 .left)) (sym (w .1) ∙ t))
+    ⊎-elim
+    (λ w. key-ends (given c .args .s) (v .i) (v .fits) (v .keys) (v .inv .1) (omega (arith, w .0 .left))
+    (sym (w .1) ∙ t))
     (λ w. clash t (w .4))
     (c .loop-test .came)
 
@@ -145,7 +156,7 @@ read-block-requires c κs =
     let looking = call .before .before .before in
     let a = given looking .args in
     let k = asked (c .before) in
-    let fits = looked looking ∙ call-fits (a .f .now) (a .t .now) (a .s) (eq-eqb _ _ (sym (passed call .code-is) ∙ k .0)) in
+    let fits = looked looking ∙ call-record (a .f .now) (a .t .now) (a .s) (sym (passed call .code-is) ∙ k .0) in
     let lent = passed call .known (k .0) in
     (lent, k .1, keyed looking fits (omega (arith, lent .fits .room, lent .fits .query .k .1)))
 
@@ -181,11 +192,13 @@ loop2-again c =
 -- the answer is the rule's, and so is the record that goes with it
 ended : (c : tie.After-read-answer Inv-loop μ-loop Inv-loop2 μ-loop2)
     → let a = given (c .before .before .before .before .before) .args in
-    step (c .read-answer .result) (afterRead (a .f .now) (a .t .now) (a .s) (c .read-answer .result)) ≡ readCall (a .f .now) (a .t .now) (a .s)
+    step (c .read-answer .result) (afterRead (a .f .now) (a .t .now) (a .s) (c .read-answer .result)) ≡ readCall
+    (a .f .now) (a .t .now) (a .s)
 ended c =
     let call = c .before .before in
     let a = given (call .before .before .before) .args in
-    read-ends (a .f .now) (a .t .now) (a .s) (call .call-code .result) (c .read-answer .result) (passed call .code-is) (c .read-answer .ensures)
+    read-ends (a .f .now) (a .t .now) (a .s) (call .call-code .result) (c .read-answer .result) (passed call .code-is)
+    (c .read-answer .ensures)
 
 returns : tie.Need-returns Inv-loop μ-loop Inv-loop2 μ-loop2
 returns c =
@@ -193,15 +206,20 @@ returns c =
     let block = c .before .before .before .before in
     let call = block .before .before .before .before .before .before in
     let a = given (call .before .before .before) .args in
-    let told : wasRead (block .before .before .before .before .read-answer .result) ≡ true = ap wasRead (block .before .before .enum-told .given .1) in
-    let is = fill-ends _ _ _ (v .j) (v .r) (v .inv) (omega (arith, c .loop2-test .left)) ∙ filled-is (a .s) (block .read-block .result) _ ∙ block .read-block .ensures .0 in
+    let told : wasRead (block .before .before .before .before .read-answer .result) ≡ true =
+    ap wasRead (block .before .before .enum-told .given .1) in
+    let is =
+    fill-ends _ _ _ (v .j) (v .r) (v .inv) (omega (arith, c .loop2-test .left))
+    ∙ filled-is (a .s) (block .read-block .result) _
+    ∙ block .read-block .ensures .0 in
     simp (told, ← is) at (ended (block .before .before .before .before))
 
 returns-2 : tie.Need-returns-2 Inv-loop μ-loop Inv-loop2 μ-loop2
 returns-2 c =
     let a = given (c .before .before .before .before .before .before) .args in
     let is = ap (λ (r : Step). r .answer) (ended (c .before)) in
-    simp (not-read (a .f .now) (a .t .now) (a .s) (c .before .read-answer .result) is (c .match .keys2)) at (ended (c .before))
+    simp (not-read (a .f .now) (a .t .now) (a .s) (c .before .read-answer .result) is (c .match .keys2)) at
+    (ended (c .before))
 
 pub read-spec : {M : Type 1} → statement M
 read-spec =

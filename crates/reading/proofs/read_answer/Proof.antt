@@ -17,8 +17,10 @@ unfolding readAnswer
 returns-2 c = simp (c .before .before .if1 .left, ← c .before .is-settled .ensures, c .if2 .taken) refl
 
 new-block-code-requires : tie.Need-new-block-code-requires
-new-block-code-requires c κs =
-    (c .before .before .before .pre (c .before .before .if1 .left) .0, sym (c .before .is-settled .ensures) ∙ c .if2 .left)
+new-block-code-requires c κs = (
+  c .before .before .before .pre (c .before .before .if1 .left) .0,
+  sym (c .before .is-settled .ensures) ∙ c .if2 .left,
+)
 
 returns-3 : tie.Need-returns-3
 unfolding readAnswer

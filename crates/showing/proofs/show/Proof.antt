@@ -1,29 +1,31 @@
 -- `show` meets its contract: which table it is a part of, and which rows. Assumes nothing.
 use mathlib.Core.Path.{_≡_, sym, ap, _∙_}
-use mathlib.Core.Bool.{Bool, true}
+use mathlib.Core.Bool.{Bool}
 use native.Mathlib.Omega.{arith}
-use lib.Dec.{eqb}
 use borrow.Author.Tests.{eq-eqb, ne-eqb}
 use Rattle.rules.specs.Take.{shownRows}
 use Rattle.rules.specs.Calls.{lentCode, showCall, showPlace}
-use Rattle.session_laws.specs.Record.{mark-field, mark-trim}
-use Rattle.session_laws.specs.Sizes.{Lent, lent}
+use Rattle.session_laws.specs.Calls.{Lent, lent-out}
 use Rattle.checks.specs.Codes.{lentOf, lent-is}
 use borrow.Author.Needs.{needs}
 use Rattle.showing.proofs.show.Statement.{statement}
 use Rattle.showing.proofs.show.Tie as tie
 
 -- what the checks answer is the rule's
-code-is : (c : tie.After-lent-code) → c .lent-code .result ≡ lentCode (c .before .before .args .f .now) (c .before .before .args .t .now) (c .before .before .args .s)
+code-is : (c : tie.After-lent-code)
+    → c .lent-code .result
+    ≡ lentCode (c .before .before .args .f .now) (c .before .before .args .t .now) (c .before .before .args .s)
 code-is c =
     let s = c .before .before .args in
-    c .lent-code .ensures ∙ ap (λ (b : Bool). lentOf b (s .s .rows) (s .f .now) (s .t .now)) (c .before .fits2 .ensures) ∙ lent-is (s .f .now) (s .t .now) (s .s)
+    c .lent-code .ensures
+    ∙ ap (λ (b : Bool). lentOf b (s .s .rows) (s .f .now) (s .t .now)) (c .before .fits2 .ensures)
+    ∙ lent-is (s .f .now) (s .t .now) (s .s)
 
-passed : (c : tie.Else1) → eqb (lentCode (c .before .before .before .args .f .now) (c .before .before .before .args .t .now) (c .before .before .before .args .s)) 0 ≡ true
-passed c = eq-eqb _ _ (sym (code-is (c .before)) ∙ c .if1 .left)
+passed : (c : tie.Else1) → let s = c .before .before .before .args in lentCode (s .f .now) (s .t .now) (s .s) ≡ 0
+passed c = sym (code-is (c .before)) ∙ c .if1 .left
 
-known : (c : tie.Else1) → Lent (c .before .before .before .args .f .now) (c .before .before .before .args .t .now) (c .before .before .before .args .s)
-known c = lent (c .before .before .before .args .f .now) (c .before .before .before .args .t .now) (c .before .before .before .args .s) (passed c)
+known : (c : tie.Else1) → let s = c .before .before .before .args in Lent (s .f .now) (s .t .now) (s .s)
+known c = let s = c .before .before .before .args in lent-out (s .f .now) (s .t .now) (s .s) (passed c)
 
 fits-requires : tie.Need-fits-requires
 fits-requires c κs = search needs
@@ -43,26 +45,40 @@ returns c =
 last-rows-requires : tie.Need-last-rows-requires
 last-rows-requires c κs =
     let k = known (c .before .before) in
-    omega
-    (arith, k .fits .query .block .0, mark-field _ (k .fits) (c .if2 .taken), k .fits .field .few, k .fits .field .within, k .field .size .whole, k .field .count)
+    omega (
+      arith,
+      k .fits .query .block .0,
+      k .fits .mark .field (c .if2 .taken),
+      k .fits .field .few,
+      k .fits .field .within,
+      k .field .size .whole,
+      k .field .count,
+    )
 
 returns-2 : tie.Need-returns-2
 unfolding showCall showPlace shownRows
 returns-2 c =
-    let p = passed (c .before .before .before) in
+    let p = eq-eqb _ _ (passed (c .before .before .before)) in
     let e = c .before .if2 .taken in
     (simp (p, e) (c .last-rows .ensures .0), simp (p, e) (c .last-rows .ensures .1))
 
 last-rows-requires-2 : tie.Need-last-rows-requires-2
 last-rows-requires-2 c κs =
     let k = known (c .before .before .before .before) in
-    omega
-    (arith, k .fits .query .block .0, mark-trim _ (k .fits) (c .if3 .taken), k .fits .trim .few, k .fits .trim .within, k .trim .size .whole, k .trim .count)
+    omega (
+      arith,
+      k .fits .query .block .0,
+      k .fits .mark .trim (c .if3 .taken),
+      k .fits .trim .few,
+      k .fits .trim .within,
+      k .trim .size .whole,
+      k .trim .count,
+    )
 
 returns-3 : tie.Need-returns-3
 unfolding showCall showPlace shownRows
 returns-3 c =
-    let p = passed (c .before .before .before .before .before) in
+    let p = eq-eqb _ _ (passed (c .before .before .before .before .before)) in
     let e = c .before .if3 .taken in
     (simp (p, e) (c .last-rows2 .ensures .0), simp (p, e) (c .last-rows2 .ensures .1))
 
@@ -72,7 +88,7 @@ slice-aggregate-result-2 c = search needs
 returns-4 : tie.Need-returns-4
 unfolding showCall showPlace shownRows
 returns-4 c =
-    let p = passed (c .before .before .before .before .before) in
+    let p = eq-eqb _ _ (passed (c .before .before .before .before .before)) in
     let d = ne-eqb _ _ (c .before .before .before .if2 .left) in
     let e = ne-eqb _ _ (c .before .if3 .left) in
     (simp (p, d, e), simp (p, d, e))

@@ -5,7 +5,7 @@ use native.Mathlib.Omega.{arith}
 use lib.ListN.{length, length-map}
 use borrow.Author.Tests.{lt-ltb}
 use Rattle.rules.specs.Take.{givesPair}
-use Rattle.ceiling.specs.Last.{held-then-reached}
+use Rattle.ceiling.specs.Last.{held-then-read}
 use borrow.Author.Needs.{needs}
 use Rattle.taking.proofs.gives_pair.Statement.{statement}
 use Rattle.taking.proofs.gives_pair.Tie as tie
@@ -20,8 +20,10 @@ element-copy-out-p c = search needs
 is-secured-requires : tie.Need-is-secured-requires
 is-secured-requires c κs =
     let s = c .before .before in
-    let long : length (s .args .t3 .pairs) ≡ 64 = sym (length-map (s .args .t3 .pairs) _) ∙ s .good .1 .1 .0 .1 .1 .1 .1 .1 .1 .1 .1 .0 .1 .0 .1 in
-    held-then-reached (s .args .f .now) (s .args .t .now) (s .args .t3) (s .pre) (omega (arith, long)) (omega (arith, c .before .if1 .left))
+    let long : length (s .args .t3 .pairs) ≡ 64 =
+    sym (length-map (s .args .t3 .pairs) _) ∙ s .good .1 .1 .0 .1 .1 .1 .1 .1 .1 .1 .1 .0 .1 .0 .1 in
+    held-then-read (s .args .f .now) (s .args .t .now) (s .args .t3) (s .pre) (omega (arith, long))
+    (omega (arith, c .before .if1 .left))
 
 returns-2 : tie.Need-returns-2
 unfolding givesPair

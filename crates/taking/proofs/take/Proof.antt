@@ -14,7 +14,7 @@ use Rattle.rules.specs.Query.{wasGiven}
 use Rattle.rules.specs.Calls.{recordFits, step, takeCall}
 use Rattle.lists.specs.Bools.{and-left}
 use Rattle.checks.proofs.Looking.{Looking, look-starts, look-on, look-stops, look-ends}
-use Rattle.checks.specs.Codes.{within}
+use Rattle.checks.specs.Codes.{depths-fit}
 use borrow.Author.Needs.{needs}
 use Rattle.taking.specs.Answers.{afterTake, take-asked, take-ends}
 use Rattle.checks.proofs.Checked.{Checked, checked}
@@ -49,7 +49,8 @@ loop-holds c =
     let s = c .before .before .before .before .before .before in
     let n = c .before .numbers-fit in
     let i = c .first-place in
-    let long : length (s .args .s .pairs) ≡ 64 = sym (length-map (s .args .s .pairs) _) ∙ s .good .1 .1 .0 .1 .1 .1 .1 .1 .1 .1 .1 .0 .1 .0 .1 in
+    let long : length (s .args .s .pairs) ≡ 64 =
+    sym (length-map (s .args .s .pairs) _) ∙ s .good .1 .1 .0 .1 .1 .1 .1 .1 .1 .1 .1 .0 .1 .0 .1 in
     look-starts (s .args .s) (n .result) (i .result) long (n .ensures) (i .ensures)
 
 mul-p : tie.Need-mul-p Inv-loop μ-loop Inv-loop2 μ-loop2
@@ -74,7 +75,8 @@ loop-again c =
     let s = c .before .before .before .before .before .before .before .before .before .before .before .args .s in
     let v = c .before .before .before .before .loop in
     let k = c .before .place-key in
-    look-on s (v .i) (v .before) (v .fits) (v .inv) (c .before .before .before .loop-test .taken) (k .result) (k .ensures) (c .if1 .left)
+    look-on s (v .i) (v .before) (v .fits) (v .inv) (c .before .before .before .loop-test .taken) (k .result)
+    (k .ensures) (c .if1 .left)
 
 -- what was handed in, as seen from behind the loop
 abbrev given : tie.Left-loop Inv-loop μ-loop Inv-loop2 μ-loop2 → tie.Start Inv-loop μ-loop Inv-loop2 μ-loop2
@@ -84,17 +86,19 @@ looked : (c : tie.Left-loop Inv-loop μ-loop Inv-loop2 μ-loop2) → c .loop-tes
 looked c =
     let v = c .before .loop in
     ⊎-elim (λ w. w .1 ∙ look-ends (given c .args .s) (v .i) (v .before) (v .fits) (v .inv) (omega (arith, w .0 .left)))
-    (λ w. w .4 ∙ look-stops (given c .args .s) (v .i) (v .before) (v .fits) (v .inv) (w .0 .taken) (w .2 .result) (w .2 .ensures) (w .3 .taken))
+    (λ w. w .4 ∙ look-stops (given c .args .s) (v .i) (v .before) (v .fits) (v .inv) (w .0 .taken) (w .2 .result)
+    (w .2 .ensures) (w .3 .taken))
     (c .loop-test .came)
 
 call-code-requires : tie.Need-call-code-requires Inv-loop μ-loop Inv-loop2 μ-loop2
-call-code-requires c κs h = within (given (c .before .before) .args .s) (sym (looked (c .before .before)) ∙ h)
+call-code-requires c κs h = depths-fit (given (c .before .before) .args .s) (sym (looked (c .before .before)) ∙ h)
 
 passed : (c : tie.After-call-code Inv-loop μ-loop Inv-loop2 μ-loop2)
     → let a = given (c .before .before .before) .args in Checked (a .f .now) (a .t .now) (a .s) (c .call-code .result)
 passed c =
     let a = given (c .before .before .before) .args in
-    checked (a .f .now) (a .t .now) (a .s) (c .before .before .before .loop-test .fits) (c .call-code .result) (looked (c .before .before .before)) (c .call-code .ensures)
+    checked (a .f .now) (a .t .now) (a .s) (c .before .before .before .loop-test .fits) (c .call-code .result)
+    (looked (c .before .before .before)) (c .call-code .ensures)
 
 take-answer-requires : tie.Need-take-answer-requires Inv-loop μ-loop Inv-loop2 μ-loop2
 take-answer-requires c κs e = passed c .known e
@@ -102,7 +106,8 @@ take-answer-requires c κs e = passed c .known e
 enum-told : tie.Need-enum-told Inv-loop μ-loop Inv-loop2 μ-loop2
 enum-told c = search needs
 
-told : (c : tie.After-enum-told Inv-loop μ-loop Inv-loop2 μ-loop2) → wasGiven (c .before .before .take-answer .result) ≡ true
+told : (c : tie.After-enum-told Inv-loop μ-loop Inv-loop2 μ-loop2)
+    → wasGiven (c .before .before .take-answer .result) ≡ true
 told c = ap wasGiven (c .enum-told .given .1)
 
 -- a pair is held, and there is room for one more that is out
@@ -112,8 +117,12 @@ unfolding givesPair
 gives c =
     let call = c .before .before .before in
     let a = given (call .before .before .before) .args in
-    let asked = take-asked (call .call-code .result) (a .f .now) (a .t .now) (a .s) (sym (ap wasGiven (c .before .before .take-answer .ensures)) ∙ told c) in
-    let some = ltb-true 0 (a .s .held) (and-left (ltb 0 (a .s .held)) (secured (a .f .now) (a .t .now) (a .s) (firstHeld (a .s))) (asked .1)) in
+    let asked =
+    take-asked (call .call-code .result) (a .f .now) (a .t .now) (a .s)
+    (sym (ap wasGiven (c .before .before .take-answer .ensures)) ∙ told c) in
+    let some =
+    ltb-true 0 (a .s .held)
+    (and-left (ltb 0 (a .s .held)) (secured (a .f .now) (a .t .now) (a .s) (firstHeld (a .s))) (asked .1)) in
     let k = passed call .known (asked .0) .fits in
     (some, omega (arith, k .room, k .query .k .1))
 
@@ -146,7 +155,8 @@ loop2-less c = search needs
 loop2-again : tie.Need-loop2-again Inv-loop μ-loop Inv-loop2 μ-loop2
 loop2-again c =
     let v = c .before .before .loop2 in
-    move-on (given (c .before .before .before .before .before .before .before .before .before) .args .s) (v .j) (v .r) (v .inv) (c .before .loop2-test .taken)
+    move-on (given (c .before .before .before .before .before .before .before .before .before) .args .s) (v .j) (v .r)
+    (v .inv) (c .before .loop2-test .taken)
 
 element-set-from-z : tie.Need-element-set-from-z Inv-loop μ-loop Inv-loop2 μ-loop2
 element-set-from-z c = search needs
@@ -168,11 +178,13 @@ sub-r c =
 -- the answer is the rule's, and so is the record that goes with it
 ended : (c : tie.After-take-answer Inv-loop μ-loop Inv-loop2 μ-loop2)
     → let a = given (c .before .before .before .before) .args in
-    step (c .take-answer .result) (afterTake (a .f .now) (a .t .now) (a .s) (c .take-answer .result)) ≡ takeCall (a .f .now) (a .t .now) (a .s)
+    step (c .take-answer .result) (afterTake (a .f .now) (a .t .now) (a .s) (c .take-answer .result)) ≡ takeCall
+    (a .f .now) (a .t .now) (a .s)
 ended c =
     let call = c .before in
     let a = given (call .before .before .before) .args in
-    take-ends (a .f .now) (a .t .now) (a .s) (call .call-code .result) (c .take-answer .result) (passed call .code-is) (c .take-answer .ensures)
+    take-ends (a .f .now) (a .t .now) (a .s) (call .call-code .result) (c .take-answer .result) (passed call .code-is)
+    (c .take-answer .ensures)
 
 returns : tie.Need-returns Inv-loop μ-loop Inv-loop2 μ-loop2
 returns c =

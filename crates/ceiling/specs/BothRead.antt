@@ -6,7 +6,7 @@ use lib.ListN.{length}
 use Rattle.rules.specs.declared.Session.{Session}
 
 -- rows of both tables were read, and the slices have them
-pub record Reached (f t : List ℤ) (s : Session) : Type 0 where
+pub record BothRead (f t : List ℤ) (s : Session) : Type 0 where
   pub field-read : 0 < s .depth .field .0
   pub trim-read : 0 < s .depth .trim .0
   pub field-rows : 4 * s .depth .field .0 ≤ length f

@@ -1,6 +1,7 @@
--- Document 01's ceiling and choice of table are the join's, and an unsettled session lacks k sums at its ceiling. Assumes legal tables.
+-- Document 01's ceiling is the join's, what is secured is as high as any pair that is not out, and an unsettled session
+-- lacks k sums at its ceiling. Assumes legal tables.
 use mathlib.Core.Path.{_≡_, refl, sym, ap, ap₂, subst, subst₂, _∙_}
-use mathlib.Core.Bool.{Bool, true, false, cond, _&&_, _||_, not}
+use mathlib.Core.Bool.{Bool, true, false, cond, _&&_, not}
 use mathlib.Core.List.{List, map, List·Memᴰ, Memᴰ·map}
 use mathlib.Core.Logic.{_⊎_, inl, inr, ⊎-elim}
 use Prim.Native.Nat.{ℕ, _+_, _-_, _≤_, _<_}
@@ -9,9 +10,9 @@ use native.Mathlib.Decide.{decLe}
 use lib.Dec.{leb, eqb}
 use lib.IntN.{ℤ}
 use lib.ListN.{length, take}
-use borrow.Author.Tests.{leb-true, leb-false, le-leb, lt-leb, eqb-true, eqb-false, eq-eqb, ne-eqb}
+use borrow.Author.Tests.{leb-true, leb-false, le-leb, lt-leb, eqb-true, eqb-false, ne-eqb}
 use Rattle.lists.specs.Lists.{atLeast, every}
-use Rattle.lists.specs.Bools.{clash, or-none-out}
+use Rattle.lists.specs.Bools.{clash}
 use Rattle.lists.specs.Sorts.{all-at}
 use Rattle.lists.specs.Parts.{every-of}
 use Rattle.join.specs.Join as Join
@@ -22,16 +23,15 @@ use Rattle.rules.specs.declared.Pair.{Pair}
 use Rattle.rules.specs.declared.Query.{Query}
 use Rattle.rules.specs.declared.Session.{Session}
 use Rattle.rules.specs.Tables.{rowCount, legal, Row, row, part, pairSum, qualifying}
-use Rattle.rules.specs.Session.{heldPairs, firstScore, lastScore, fieldReadOut, trimReadOut, bothReadOut, aTableIsEmpty, aDepthIsZero, ceiling, secured, settled}
+use Rattle.rules.specs.Session.{heldPairs, firstScore, lastScore, fieldReadOut, trimReadOut, bothReadOut, aTableIsEmpty}
+use Rattle.rules.specs.Session.{aDepthIsZero, ceiling, secured, settled}
 use Rattle.rules.specs.Read.{rowsBetween}
 use Rattle.rules.specs.Take.{firstHeld}
-use Rattle.tables_join.specs.Rows.{rowsOf, side, near}
-use Rattle.tables_join.specs.RowsLaws.{length-rows, rows-at, legal-rows, rows-take, laws}
-use Rattle.tables_join.specs.SureRows.{sums-rows}
-use Rattle.tables_join.specs.Pairs.{Fits, Region}
-use Rattle.tables_join.specs.PairsLaws.{pair-rank, qualifying-distinct, mem-qualifying}
-use Rattle.tables_join.specs.Keeping.{Reached}
-use Rattle.tables_join.specs.Taking.{read-out-region, first-inside, first-best}
+use Rattle.session_laws.specs.Read.{unsettled-out}
+use Rattle.tables_join.specs.Rows.{rowsOf, rows, side, near, length-rows, rows-at, legal-rows, rows-take, laws}
+use Rattle.tables_join.specs.Sure.{sums-rows}
+use Rattle.tables_join.specs.Pairs.{QualifyingPair, Region, pair-rank, qualifying-distinct, mem-qualifying}
+use Rattle.tables_join.specs.Reached.{Reached, first-inside, first-best, read-out-region}
 
 -- a reading within the table has ended it exactly if it has all rows
 ended-is : (n rows depth : ℕ) → n ≡ rows → depth ≤ n → leb n depth ≡ eqb depth rows
@@ -46,20 +46,26 @@ unfolding weightAt
 weight-is t i h = ap (λ r. r .score) (rows-at t i h)
 
 -- what it takes to be secured
-secured-cases : (f t : List ℤ) (s : Session) (p : Pair) → secured f t s p ≡ true → (bothReadOut s ≡ true) ⊎ (ceiling f t s ≤ p .sum)
+secured-cases : (f t : List ℤ) (s : Session) (p : Pair) → secured f t s p ≡ true
+    → (bothReadOut s ≡ true) ⊎ (ceiling f t s ≤ p .sum)
 unfolding secured
 secured-cases f t s p h = go (aDepthIsZero s && not (aTableIsEmpty s)) (bothReadOut s) h
   where
-    go : (x y : Bool) → cond x false (cond y true (leb (ceiling f t s) (p .sum))) ≡ true → (y ≡ true) ⊎ (ceiling f t s ≤ p .sum)
+    go : (x y : Bool) → cond x false (cond y true (leb (ceiling f t s) (p .sum))) ≡ true
+        → (y ≡ true) ⊎ (ceiling f t s ≤ p .sum)
     go true y h = clash h refl
     go false true h = inl refl
     go false false h = inr (leb-true (ceiling f t s) (p .sum) h)
 
-secured-high : (f t : List ℤ) (s : Session) (p : Pair) → 1 ≤ s .depth .field .0 → 1 ≤ s .depth .trim .0 → ceiling f t s ≤ p .sum
-    → secured f t s p ≡ true
+secured-high : (f t : List ℤ) (s : Session) (p : Pair) → 1 ≤ s .depth .field .0 → 1 ≤ s .depth .trim .0
+    → ceiling f t s ≤ p .sum → secured f t s p ≡ true
 unfolding secured
 secured-high f t s p hd he h =
-    rw (ne-eqb (s .depth .field .0) 0 (λ z. omega arith), ne-eqb (s .depth .trim .0) 0 (λ z. omega arith), le-leb (ceiling f t s) (p .sum) h)
+    rw (
+      ne-eqb (s .depth .field .0) 0 (λ z. omega arith),
+      ne-eqb (s .depth .trim .0) 0 (λ z. omega arith),
+      le-leb (ceiling f t s) (p .sum) h,
+    )
     (go (bothReadOut s))
   where
     go : (b : Bool) → cond b true true ≡ true
@@ -80,10 +86,14 @@ module _ {q : Query} {f t : List ℤ} {out : List Pair} {s : Session} (a : Reach
   T = rowsOf t
 
   pub field-ended : side .ended F d ≡ fieldReadOut s
-  field-ended = ended-is (length F) (s .rows .field .0) d (length-rows f ∙ sym (a .field-rows)) (omega (arith, length-rows f, a .field-depth))
+  field-ended =
+      ended-is (length F) (s .rows .field .0) d (length-rows f ∙ sym (a .field-rows))
+      (omega (arith, length-rows f, a .field-depth))
 
   pub trim-ended : side .ended T e ≡ trimReadOut s
-  trim-ended = ended-is (length T) (s .rows .trim .0) e (length-rows t ∙ sym (a .trim-rows)) (omega (arith, length-rows t, a .trim-depth))
+  trim-ended =
+      ended-is (length T) (s .rows .trim .0) e (length-rows t ∙ sym (a .trim-rows))
+      (omega (arith, length-rows t, a .trim-depth))
 
   module _ (hd : 1 ≤ d) (he : 1 ≤ e) where
     pub first-field : weightAt side F 0 ≡ firstScore f
@@ -102,13 +112,14 @@ module _ {q : Query} {f t : List ℤ} {out : List Pair} {s : Session} (a : Reach
     unfolding ceiling Join.ceiling
     ceiling-rows = rw (field-ended, trim-ended, first-field, last-field, first-trim, last-trim)
 
-  -- What lies outside the depths is no higher than the ceiling
+  -- ---- What lies outside the depths is no higher than the ceiling
 
   module _ (g : legal f ≡ true) (h : legal t ≡ true) where
     begins-itself : (n : ℕ) (u : List ℤ) → legal u ≡ true → Join.Begins side n (rowsOf u) (rowsOf u)
     begins-itself n u l = record { legal = legal-rows u l; rows = refl; ends = λ k. refl }
 
-    outside : 1 ≤ d → 1 ≤ e → (p : Pair) → Fits (q .radius) f t p → (d < p .field) ⊎ (e < p .trim) → p .sum ≤ ceiling f t s
+    outside : 1 ≤ d → 1 ≤ e → (p : Pair) → QualifyingPair (q .radius) f t p → (d < p .field) ⊎ (e < p .trim)
+        → p .sum ≤ ceiling f t s
     unfolding pairSum
     outside hd he p m o =
         let i : ℕ = p .field - 1 in
@@ -118,14 +129,15 @@ module _ {q : Query} {f t : List ℤ} {out : List Pair} {s : Session} (a : Reach
         let meets : near (q .radius) (Join.rowAt side F i) (Join.rowAt side T j) ≡ true =
         ap₂ (near (q .radius)) (rows-at f i hi) (rows-at t j hj) ∙ m .near in
         let low =
-        outside-low side side (near (q .radius)) (laws (q .radius)) F F T T d e i j (legal-rows f g) (legal-rows t h) hd he (begins-itself d f g)
-        (begins-itself e t h) (⊎-elim (λ z. inl (omega arith)) (λ z. inr (omega arith)) o) (omega (arith, length-rows f))
+        outside-low side side (near (q .radius)) (laws (q .radius)) F F T T d e i j (legal-rows f g) (legal-rows t h)
+        hd he (begins-itself d f g) (begins-itself e t h)
+        (⊎-elim (λ z. inl (omega arith)) (λ z. inr (omega arith)) o) (omega (arith, length-rows f))
         (omega (arith, length-rows t)) meets in
         omega (arith, low, weight-is f i hi, weight-is t j hj, m .own-sum, ceiling-rows hd he)
 
     -- the first held pair, once secured: no pair that is not out has a higher sum
-    pub secured-best : 1 ≤ s .held → secured f t s (firstHeld s) ≡ true → (p : Pair) → Fits (q .radius) f t p → (List·Memᴰ p out → ⊥)
-        → p .sum ≤ firstHeld s .sum
+    pub secured-best : 1 ≤ s .held → secured f t s (firstHeld s) ≡ true → (p : Pair) → QualifyingPair (q .radius) f t p
+        → (List·Memᴰ p out → ⊥) → p .sum ≤ firstHeld s .sum
     secured-best some z p m new = go (decLe (p .field) d) (decLe (p .trim) e)
       where
         first : Region (q .radius) f t d e (firstHeld s)
@@ -134,57 +146,61 @@ module _ {q : Query} {f t : List ℤ} {out : List Pair} {s : Session} (a : Reach
         beyond : (d < p .field) ⊎ (e < p .trim) → p .sum ≤ firstHeld s .sum
         beyond o =
             ⊎-elim (λ b. first-best a some p (read-out-region a b p m) new)
-            (λ c. omega (arith, outside (omega (arith, first .field-part)) (omega (arith, first .trim-part)) p m o))
+            (λ c. omega (arith, outside (omega (arith, first .own-part)) (omega (arith, first .other-part)) p m o))
             (secured-cases f t s (firstHeld s) z)
 
         go : Dec (p .field ≤ d) → Dec (p .trim ≤ e) → p .sum ≤ firstHeld s .sum
         go (yes i) (yes j) =
-            first-best a some p (record { fits = m; field-part = omega (arith, m .field-row); trim-part = omega (arith, m .trim-row) })
-            new
+            let in-f : (0 < p .field) × (p .field ≤ d) = omega (arith, m .field-row) in
+            let in-t : (0 < p .trim) × (p .trim ≤ e) = omega (arith, m .trim-row) in
+            first-best a some p (record { fits = m; own-part = in-f; other-part = in-t }) new
         go (yes i) (no j) = beyond (inr (omega arith))
         go (no i) (yes j) = beyond (inl (omega arith))
         go (no i) (no j) = beyond (inl (omega arith))
 
-    -- An unsettled session has fewer than k sums at its ceiling
+    -- ---- An unsettled session has fewer than k sums at its ceiling
 
     part-rows : (n : ℕ) (u : List ℤ) → legal u ≡ true → rowsOf (part u 0 (n - 0)) ≡ take n (rowsOf u)
-    part-rows n u l = let z : n - 0 ≡ n = omega arith in ap (λ m. rowsOf (part u 0 m)) z ∙ rows-take n u l
+    part-rows n u l =
+        let z : n - 0 ≡ n = omega arith in
+        ap (λ m. rowsOf (part u 0 m)) z ∙ rows-take n u l
 
-    region-sums : map (λ p. p .sum) (qualifying (q .radius) (rowsBetween f 0 d) (rowsBetween t 0 e)) ≡ sumsOf side side (near (q .radius)) (take d F) (take e T)
+    abbrev pairs : List Pair
+    pairs = qualifying (q .radius) (rowsBetween f 0 d) (rowsBetween t 0 e)
+
+    abbrev sums : List ℕ
+    sums = sumsOf side side (near (q .radius)) (take d F) (take e T)
+
+    region-sums : map (λ p. p .sum) pairs ≡ sums
     region-sums =
-        sums-rows (q .radius) (rowsBetween f 0 d) (rowsBetween t 0 e) ∙ ap₂ (sumsOf side side (near (q .radius))) (part-rows d f g) (part-rows e t h)
+        sums-rows (q .radius) (rowsBetween f 0 d) (rowsBetween t 0 e)
+        ∙ ap₂ (sumsOf side side (near (q .radius))) (part-rows d f g) (part-rows e t h)
 
     module _ (hd : 1 ≤ d) (he : 1 ≤ e) where
-      covered : s .query .k ≤ atLeast (ceiling f t s) (sumsOf side side (near (q .radius)) (take d F) (take e T))
+      covered : s .query .k ≤ atLeast (ceiling f t s) sums
           → (s .out + s .held ≡ s .query .k) × (every (secured f t s) (heldPairs s) ≡ true)
       covered enough =
-          let l : List Pair = qualifying (q .radius) (rowsBetween f 0 d) (rowsBetween t 0 e) in
           let c =
-          held-cover pair-rank (a .keeping .holds) (ceiling f t s) l (qualifying-distinct (q .radius) (rowsBetween f 0 d) (rowsBetween t 0 e))
+          held-cover pair-rank (a .keeping .holds) (ceiling f t s) pairs
+          (qualifying-distinct (q .radius) (rowsBetween f 0 d) (rowsBetween t 0 e))
           (λ p m. mem-qualifying (q .radius) f t 0 d 0 e (a .field-depth) (a .trim-depth) p .0 m)
           (subst (λ m. s .query .k ≤ atLeast (ceiling f t s) m) (sym region-sums) enough) in (
             omega (arith, c .0, a .keeping .counted, a .keeping .stored),
             every-of (secured f t s) (heldPairs s)
-                (λ p m. secured-high f t s p hd he (all-at (λ n. ceiling f t s ≤ n) (p .sum) (c .1) (Memᴰ·map (λ p. p .sum) m))),
+                (λ p m.
+                secured-high f t s p hd he
+                (all-at (λ n. ceiling f t s ≤ n) (p .sum) (c .1) (Memᴰ·map (λ p. p .sum) m))),
           )
 
-      pub unsettled-short : settled f t s ≡ false → region side side (near (q .radius)) (Join.ceiling side side F d T e) F d T e < q .k
-      unfolding settled
+      pub unsettled-short : settled f t s ≡ false
+          → region side side (near (q .radius)) (Join.ceiling side side F d T e) F d T e < q .k
       unsettled-short u =
           subst₂ (λ c k. atLeast c sums < k) (sym (ceiling-rows hd he)) (ap (λ q. q .k) (a .query))
           (go (leb (s .query .k) (atLeast (ceiling f t s) sums)) refl)
         where
-          sums : List ℕ
-          sums = sumsOf side side (near (q .radius)) (take d F) (take e T)
-
-          last : (eqb (s .out + s .held) (s .query .k) && every (secured f t s) (heldPairs s)) ≡ false
-          last =
-              or-none-out (eqb (s .out) (s .query .k)) (eqb (s .out + s .held) (s .query .k) && every (secured f t s) (heldPairs s))
-              (or-none-out (bothReadOut s) (eqb (s .out) (s .query .k) || (eqb (s .out + s .held) (s .query .k) && every (secured f t s) (heldPairs s))) (or-none-out (aTableIsEmpty s) (bothReadOut s || (eqb (s .out) (s .query .k) || (eqb (s .out + s .held) (s .query .k) && every (secured f t s) (heldPairs s)))) u .1) .1) .1
-
-          go : (b : Bool) → leb (s .query .k) (atLeast (ceiling f t s) sums) ≡ b → atLeast (ceiling f t s) sums < s .query .k
+          go : (b : Bool) → leb (s .query .k) (atLeast (ceiling f t s) sums) ≡ b
+              → atLeast (ceiling f t s) sums < s .query .k
           go true z =
-              let c =
-              covered (leb-true (s .query .k) (atLeast (ceiling f t s) sums) z) in clash
-              (rw (eq-eqb (s .out + s .held) (s .query .k) (c .0)) (c .1)) last
+              let c = covered (leb-true (s .query .k) (atLeast (ceiling f t s) sums) z) in
+              absurd (unsettled-out f t s u .unsecured (c .0) (c .1))
           go false z = leb-false (s .query .k) (atLeast (ceiling f t s) sums) z

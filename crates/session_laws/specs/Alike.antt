@@ -1,0 +1,233 @@
+-- Every rule of read and take looks only at row counts and at the rows up to the depths that it leaves; and the first
+-- rows of a table are a table by themselves. Assumes nothing.
+use mathlib.Core.Path.{_≡_, refl, sym, ap, ap₂, _∙_}
+use mathlib.Core.Bool.{Bool, true, false, cond, _&&_, _||_, not}
+use mathlib.Core.List.{List, [], _∷_}
+use Prim.Native.Nat.{ℕ, zero, suc, _+_, _*_, _-_, _≤_, _<_, min}
+use native.Mathlib.Omega.{arith}
+use native.Mathlib.Decide.{decLe}
+use lib.Dec.{leb, ltb, eqb, lit≤}
+use lib.IntN.{ℤ, pos}
+use lib.ListN.{length, getD, take, drop}
+use lib.Seq.{getD-take, take-take, take-nil, length-take-le}
+use borrow.Author.Tests.{eqb-false}
+use Rattle.lists.specs.Lists.{every}
+use Rattle.lists.specs.Bools.{or-none-out}
+use Rattle.lists.specs.Parts.{every-same}
+use Rattle.rules.specs.declared.Pair.{Pair}
+use Rattle.rules.specs.declared.Session.{Session}
+use Rattle.rules.specs.Tables.{num, mostRows, rowCount, rowInRange, rowInOrder, legal, natOf, row, part, Block}
+use Rattle.rules.specs.Session.{heldPairs, firstScore, lastScore, fieldReadOut, trimReadOut, bothReadOut}
+use Rattle.rules.specs.Session.{aTableIsEmpty, aDepthIsZero, ceiling, secured, settled}
+use Rattle.rules.specs.Read.{scoreDrop, fieldNext, rowsBetween, blockCount, meet, meetBlocks, readTo}
+use Rattle.rules.specs.Read.{oldDepth, newDepth, readTable}
+use Rattle.session_laws.specs.Tables.{RowFits, legal-in}
+
+-- two tables with the same first n rows
+abbrev pub SameRows : ℕ → List ℤ → List ℤ → Type 0
+SameRows n t u = take (4 * n) u ≡ take (4 * n) t
+
+-- of lists alike up to n, those alike up to m
+take-less : (m n : ℕ) (t u : List ℤ) → m ≤ n → take n u ≡ take n t → take m u ≡ take m t
+take-less m n t u h e = sym (take-take m n u h) ∙ ap (take m) e ∙ take-take m n t h
+
+pub same-less : (m n : ℕ) (t u : List ℤ) → m ≤ n → SameRows n t u → SameRows m t u
+same-less m n t u h e = take-less (4 * m) (4 * n) t u (omega arith) e
+
+take-drop : (m j : ℕ) (l : List ℤ) → take m (drop j l) ≡ drop j (take (j + m) l)
+take-drop m zero l = ap (λ n. take n l) (let z : m ≡ 0 + m = omega arith in z)
+take-drop m (suc j) [] = take-nil m ∙ sym (ap (drop (suc j)) (take-nil (suc j + m)))
+take-drop m (suc j) (x ∷ l) =
+    let e : suc (j + m) ≡ suc j + m = omega arith in
+    take-drop m j l ∙ ap (λ n. drop (suc j) (take n (x ∷ l))) e
+
+same-slice : (m j n : ℕ) (t u : List ℤ) → take n u ≡ take n t → j + m ≤ n → take m (drop j u) ≡ take m (drop j t)
+same-slice m j n t u e h =
+    take-drop m j u ∙ ap (drop j) (take-less (j + m) n t u h e) ∙ sym (take-drop m j t)
+
+-- ---- Rows and parts
+
+module _ (n : ℕ) (t u : List ℤ) (same : SameRows n t u) where
+  same-num : (i j : ℕ) → i < n → j < 4 → num u i j ≡ num t i j
+  same-num i j h k =
+      sym (getD-take (4 * n) u (4 * i + j) (pos 0) (omega arith))
+      ∙ ap (λ l. getD l (4 * i + j) (pos 0)) same
+      ∙ getD-take (4 * n) t (4 * i + j) (pos 0) (omega arith)
+
+  same-row : (i : ℕ) → i < n → row u i ≡ row t i
+  unfolding row
+  same-row i h =
+      λ k.
+      record {
+        pattern = natOf (same-num i 0 h (lit≤ tt) k);
+        score = natOf (same-num i 1 h (lit≤ tt) k);
+        shade = record { a = same-num i 2 h (lit≤ tt) k; b = same-num i 3 h (lit≤ tt) k };
+      }
+
+  same-fits : (i : ℕ) → i < n → RowFits t i → RowFits u i
+  unfolding rowInRange rowInOrder
+  same-fits i h fits =
+      let score = same-num i 1 h (lit≤ tt) in
+      record {
+        range = rw (same-num i 0 h (lit≤ tt), score, same-num i 2 h (lit≤ tt), same-num i 3 h (lit≤ tt)) (fits .range);
+        order = rw (score, same-num (i - 1) 1 (omega arith) (lit≤ tt)) (fits .order);
+      }
+
+  pub same-part : (a b : ℕ) → b ≤ n → rowsBetween u a b ≡ rowsBetween t a b
+  same-part a b h = ap (λ l. record { start = a; rows = l }) (go (decLe a b))
+    where
+      go : Dec (a ≤ b) → part u a (b - a) ≡ part t a (b - a)
+      go (yes k) = same-slice (4 * (b - a)) (4 * a) (4 * n) t u same (omega arith)
+      go (no k) =
+          let z : b - a ≡ 0 = omega arith in
+          ap (part u a) z ∙ sym (ap (part t a) z)
+
+-- ---- The first n rows of a table, as a table by themselves
+
+module _ (t : List ℤ) (n : ℕ) (fits : n ≤ rowCount t) where
+  pub cut-same : SameRows n t (take (4 * n) t)
+  cut-same = take-take (4 * n) (4 * n) t (omega arith)
+
+  cut-length : length (take (4 * n) t) ≡ 4 * n
+  cut-length = length-take-le (4 * n) t (omega arith)
+
+  pub cut-count : rowCount (take (4 * n) t) ≡ n
+  cut-count = omega (arith, cut-length)
+
+  -- it is legal where its rows are refused neither by 6 nor by 7
+  pub cut-legal : n ≤ mostRows → ((i : ℕ) → i < n → RowFits t i) → legal (take (4 * n) t) ≡ true
+  cut-legal few good =
+      legal-in (take (4 * n) t)
+      (record {
+        size = record { few = omega (arith, cut-count); whole = omega (arith, cut-count, cut-length) };
+        rows =
+            λ i h.
+            let k : i < n = omega (arith, cut-count) in
+            same-fits n t (take (4 * n) t) cut-same i k (good i k);
+      })
+
+-- ---- Judging
+
+module _ (f t f′ t′ : List ℤ) (s : Session) (ef : SameRows (s .depth .field .0) f f′)
+    (et : SameRows (s .depth .trim .0) t t′) where
+  abbrev d : ℕ
+  d = s .depth .field .0
+
+  abbrev e : ℕ
+  e = s .depth .trim .0
+
+  module _ (hd : 1 ≤ d) (he : 1 ≤ e) where
+    first-field : firstScore f′ ≡ firstScore f
+    first-field = ap (λ r. r .score) (same-row d f f′ ef 0 (omega arith))
+
+    last-field : lastScore f′ d ≡ lastScore f d
+    last-field = ap (λ r. r .score) (same-row d f f′ ef (d - 1) (omega arith))
+
+    first-trim : firstScore t′ ≡ firstScore t
+    first-trim = ap (λ r. r .score) (same-row e t t′ et 0 (omega arith))
+
+    last-trim : lastScore t′ e ≡ lastScore t e
+    last-trim = ap (λ r. r .score) (same-row e t t′ et (e - 1) (omega arith))
+
+    same-ceiling : ceiling f′ t′ s ≡ ceiling f t s
+    unfolding ceiling
+    same-ceiling = rw (first-field, last-field, first-trim, last-trim)
+
+  some-field : aDepthIsZero s ≡ false → 1 ≤ d
+  some-field z = let k = eqb-false d 0 (or-none-out (eqb d 0) (eqb e 0) z .0) in omega arith
+
+  some-trim : aDepthIsZero s ≡ false → 1 ≤ e
+  some-trim z = let k = eqb-false e 0 (or-none-out (eqb d 0) (eqb e 0) z .1) in omega arith
+
+  pub same-secured : aTableIsEmpty s ≡ false → (p : Pair) → secured f′ t′ s p ≡ secured f t s p
+  unfolding secured
+  same-secured live p = go (aDepthIsZero s) refl
+    where
+      judged : Bool → ℕ → Bool
+      judged none c = cond (none && not (aTableIsEmpty s)) false (cond (bothReadOut s) true (leb c (p .sum)))
+
+      go : (b : Bool) → aDepthIsZero s ≡ b → judged b (ceiling f′ t′ s) ≡ judged b (ceiling f t s)
+      go true z = rw live
+      go false z = ap (judged false) (same-ceiling (some-field z) (some-trim z))
+
+  pub same-settled : settled f′ t′ s ≡ settled f t s
+  unfolding settled
+  same-settled = go (aTableIsEmpty s) refl
+    where
+      rule : Bool → Bool → Bool
+      rule none all =
+          none || (bothReadOut s || (eqb (s .out) (s .query .k) || (eqb (s .out + s .held) (s .query .k) && all)))
+
+      go : (b : Bool) → aTableIsEmpty s ≡ b
+          → rule b (every (secured f′ t′ s) (heldPairs s)) ≡ rule b (every (secured f t s) (heldPairs s))
+      go true z = refl
+      go false z =
+          ap (rule false)
+          (every-same (secured f′ t′ s) (secured f t s) (heldPairs s) (λ p m. same-secured z p))
+
+  pub same-next : fieldNext f′ t′ s ≡ fieldNext f t s
+  unfolding fieldNext
+  same-next = go (eqb d 0) (eqb e 0) refl refl
+    where
+      rule : Bool → Bool → ℕ → ℕ → Bool
+      rule x y m n =
+          cond x true
+          (cond y false
+          (cond (trimReadOut s) true
+          (cond (fieldReadOut s) false (cond (ltb m n) true (cond (ltb n m) false (leb d e))))))
+
+      go : (x y : Bool) → eqb d 0 ≡ x → eqb e 0 ≡ y
+          → rule x y (scoreDrop f′ d) (scoreDrop t′ e) ≡ rule x y (scoreDrop f d) (scoreDrop t e)
+      go true y p q = refl
+      go false true p q = refl
+      go false false p q =
+          let hd : 1 ≤ d = let k = eqb-false d 0 p in omega arith in
+          let he : 1 ≤ e = let k = eqb-false e 0 q in omega arith in
+          ap₂ (rule false false) (ap₂ (λ a b. a - b) (first-field hd he) (last-field hd he))
+          (ap₂ (λ a b. a - b) (first-trim hd he) (last-trim hd he))
+
+-- ---- Reading
+
+same-blocks : (field : Bool) (s : Session) (new : Block) (t u : List ℤ) (depth n : ℕ) → SameRows depth t u
+    → meetBlocks field s new u depth n ≡ meetBlocks field s new t depth n
+unfolding meetBlocks
+same-blocks field s new t u depth zero e = refl
+same-blocks field s new t u depth (suc n) e =
+    ap₂ (λ r old. meet r (cond field new old) (cond field old new)) (same-blocks field s new t u depth n e)
+    (same-part depth t u e (n * s .query .block) (min (n * s .query .block + s .query .block) depth) (omega arith))
+
+-- of tables alike down to the depths after the read, the table that is read and the other one
+module _ (f t f′ t′ : List ℤ) (b d e : ℕ) where
+  same-own : (field : Bool) → SameRows (cond field b d) f f′ → SameRows (cond field e b) t t′
+      → SameRows b (cond field f t) (cond field f′ t′)
+  same-own true h k = h
+  same-own false h k = k
+
+  same-other : (field : Bool) → SameRows (cond field b d) f f′ → SameRows (cond field e b) t t′
+      → SameRows (cond field e d) (cond field t f) (cond field t′ f′)
+  same-other true h k = k
+  same-other false h k = h
+
+-- the new block and the other table's rows
+module _ (field : Bool) (f t f′ t′ : List ℤ) (s : Session)
+    (h : SameRows (cond field (newDepth field s) (s .depth .field .0)) f f′)
+    (k : SameRows (cond field (s .depth .trim .0) (newDepth field s)) t t′) where
+  pub same-new : rowsBetween (cond field f′ t′) (oldDepth field s) (newDepth field s)
+      ≡ rowsBetween (cond field f t) (oldDepth field s) (newDepth field s)
+  same-new =
+      same-part (newDepth field s) (cond field f t) (cond field f′ t′)
+      (same-own f t f′ t′ (newDepth field s) (s .depth .field .0) (s .depth .trim .0) field h k) (oldDepth field s)
+      (newDepth field s) (omega arith)
+
+  pub same-old : SameRows (cond field (s .depth .trim .0) (s .depth .field .0)) (cond field t f) (cond field t′ f′)
+  same-old = same-other f t f′ t′ (newDepth field s) (s .depth .field .0) (s .depth .trim .0) field h k
+
+  pub same-read : readTable field f′ t′ s ≡ readTable field f t s
+  unfolding readTable
+  same-read =
+      let c : ℕ = cond field (s .depth .trim .0) (s .depth .field .0) in
+      let n : ℕ = blockCount (s .query .block) c in
+      let new : Block = rowsBetween (cond field f t) (oldDepth field s) (newDepth field s) in
+      ap (readTo field (newDepth field s))
+      (ap (λ new. meetBlocks field s new (cond field t′ f′) c n) same-new
+      ∙ same-blocks field s new (cond field t f) (cond field t′ f′) c n same-old)

@@ -1,0 +1,132 @@
+-- What 4, 6 and 7 say of a table: its size, its rows, and what a legal table is. Assumes nothing.
+use mathlib.Core.Path.{_≡_, refl, subst}
+use mathlib.Core.Bool.{Bool, true, _&&_}
+use mathlib.Core.List.{List, [], _∷_}
+use Prim.Native.Nat.{ℕ, zero, suc, _+_, _*_, _≤_, _<_, _%_}
+use native.Mathlib.Omega.{arith}
+use native.Mathlib.Decide.{decLe}
+use lib.Dec.{eqb, leb}
+use lib.IntN.{ℤ, pos, negsuc}
+use lib.ListN.{length}
+use borrow.Author.Tests.{eqb-true, eq-eqb, leb-true, le-leb}
+use Rattle.lists.specs.Lists.{every, range}
+use Rattle.lists.specs.Bools.{and-out, and-in}
+use Rattle.lists.specs.Parts.{mem-range, every-at, every-of}
+use Rattle.rules.specs.Tables.{mostRows, rowCount, within, inRange, rowInRange, rowInOrder, sizeFits, legal}
+use Rattle.rules.specs.Numbers.{unless, rowLimit, rowOrder}
+use Rattle.rules.specs.Checks.{first-out, first-in, unless-out}
+use Rattle.rules.specs.Calls.{rowCode, rowsCode}
+
+-- ---- 4: the size of a slice
+
+pub record Sized (t : List ℤ) : Type 0 where
+  pub few : rowCount t ≤ mostRows
+  pub whole : 4 * rowCount t ≡ length t
+
+pub size-out : (t : List ℤ) → sizeFits t ≡ true → Sized t
+unfolding sizeFits
+size-out t h =
+    let both = and-out (eqb (length t % 4) 0) (leb (rowCount t) mostRows) h in
+    let rest : length t % 4 ≡ 0 = eqb-true (length t % 4) 0 (both .0) in
+    record { few = leb-true (rowCount t) mostRows (both .1); whole = omega arith }
+
+pub size-in : (t : List ℤ) → Sized t → sizeFits t ≡ true
+unfolding sizeFits
+size-in t h =
+    and-in (eqb (length t % 4) 0) (leb (rowCount t) mostRows) (eq-eqb (length t % 4) 0 (omega (arith, h .whole)))
+    (le-leb (rowCount t) mostRows (h .few))
+
+-- ---- 6: the ranges of a row's numbers
+
+pub record InRange (w x y z : ℤ) : Type 0 where
+  pub pattern : within (pos 1) (pos 999999) w ≡ true
+  pub score : within (pos 0) (pos 9999) x ≡ true
+  pub a : within (negsuc 12799) (pos 12700) y ≡ true
+  pub b : within (negsuc 12799) (pos 12700) z ≡ true
+
+module _ (p s a b : ℤ) where
+  pub range-out : inRange p s a b ≡ true → InRange p s a b
+  unfolding inRange
+  range-out h =
+      let x = within (negsuc 12799) (pos 12700) a in
+      let y = within (negsuc 12799) (pos 12700) b in
+      let c = and-out (within (pos 1) (pos 999999) p) (within (pos 0) (pos 9999) s && (x && y)) h in
+      let d = and-out (within (pos 0) (pos 9999) s) (x && y) (c .1) in
+      let e = and-out x y (d .1) in
+      record { pattern = c .0; score = d .0; a = e .0; b = e .1 }
+
+  pub range-in : InRange p s a b → inRange p s a b ≡ true
+  unfolding inRange
+  range-in h = rw (h .pattern, h .score, h .a) (h .b)
+
+-- ---- 6 and 7: rows
+
+-- row i + 1 is refused neither by 6 nor by 7
+pub record RowFits (t : List ℤ) (i : ℕ) : Type 0 where
+  pub range : rowInRange t i ≡ true
+  pub order : rowInOrder t i ≡ true
+
+module _ (t : List ℤ) where
+  pub row-out : (i : ℕ) → rowCode t i ≡ 0 → RowFits t i
+  unfolding rowCode
+  row-out i e =
+      let passes = first-out (unless (rowInRange t i) rowLimit ∷ unless (rowInOrder t i) rowOrder ∷ []) e in
+      record {
+        range = unless-out (rowInRange t i) rowLimit (omega arith) (passes 0);
+        order = unless-out (rowInOrder t i) rowOrder (omega arith) (passes 1);
+      }
+
+  pub row-in : (i : ℕ) → RowFits t i → rowCode t i ≡ 0
+  unfolding rowCode
+  row-in i h = rw (h .range, h .order)
+
+  -- rows a + 1 to a + n
+  pub rows-out : (a n : ℕ) → rowsCode t a n ≡ 0 → (i : ℕ) → a ≤ i → i < a + n → RowFits t i
+  unfolding rowsCode
+  rows-out a zero e i h k = absurd (omega arith)
+  rows-out a (suc n) e i h k =
+      let passes = first-out (rowsCode t a n ∷ rowCode t (a + n) ∷ []) e in
+      go (decLe (a + n) i) (row-out (a + n) (passes 1)) (λ l. rows-out a n (passes 0) i h l)
+    where
+      go : Dec (a + n ≤ i) → RowFits t (a + n) → (i < a + n → RowFits t i) → RowFits t i
+      go (yes l) last before = let same : a + n ≡ i = omega arith in subst (RowFits t) same last
+      go (no l) last before = before (omega arith)
+
+  pub rows-in : (a n : ℕ) → ((i : ℕ) → a ≤ i → i < a + n → RowFits t i) → rowsCode t a n ≡ 0
+  unfolding rowsCode
+  rows-in a zero h = refl
+  rows-in a (suc n) h =
+      first-in (rowsCode t a n) (rowCode t (a + n) ∷ []) (rows-in a n (λ i k l. h i k (omega arith)))
+      (row-in (a + n) (h (a + n) (omega arith) (omega arith)))
+
+-- ---- A legal table
+
+pub record LegalTable (t : List ℤ) : Type 0 where
+  pub size : Sized t
+  pub rows : (i : ℕ) → i < rowCount t → RowFits t i
+
+module _ (t : List ℤ) where
+  abbrev rowTest : ℕ → Bool
+  rowTest i = rowInRange t i && rowInOrder t i
+
+  pub legal-out : legal t ≡ true → LegalTable t
+  unfolding legal
+  legal-out g =
+      let both = and-out (sizeFits t) (every rowTest (range 0 (rowCount t))) g in
+      record {
+        size = size-out t (both .0);
+        rows =
+            λ i h.
+            let passes = every-at rowTest i (both .1) (mem-range i 0 (rowCount t) .1 (omega arith)) in
+            let r = and-out (rowInRange t i) (rowInOrder t i) passes in
+            record { range = r .0; order = r .1 };
+      }
+
+  pub legal-in : LegalTable t → legal t ≡ true
+  unfolding legal
+  legal-in g =
+      and-in (sizeFits t) (every rowTest (range 0 (rowCount t))) (size-in t (g .size))
+      (every-of rowTest (range 0 (rowCount t))
+      (λ i m.
+      let r = g .rows i (omega (arith, mem-range i 0 (rowCount t) .0 m)) in
+      and-in (rowInRange t i) (rowInOrder t i) (r .range) (r .order)))
