@@ -1,4 +1,5 @@
--- The gap of two signed numbers, as naturals: its size, and what subtracting at 64 bits and at 32 gives. Assumes nothing.
+-- The gap of two signed numbers, as naturals: its size, and what subtracting at 64 bits and at 32 gives. Assumes
+-- nothing.
 use mathlib.Core.Path.{_≡_, refl, sym, ap, subst, _∙_}
 use mathlib.Core.Bool.{Bool, true, false, cond, _&&_}
 use Prim.Native.Nat.{ℕ, zero, suc, _+_, _-_, _≤_, _<_, _^_}
@@ -10,7 +11,7 @@ use mir.Syntax.{w32, w64}
 use mir.Val.{Fits, SFits, toZ, ofZ}
 use mir.Facts.{toZ-ofZ}
 use borrow.Author.Tests.{leb-true, leb-false, ltb-true, ltb-false, le-leb, le-ltb}
-use Rattle.lists.specs.Bools.{and-out}
+use Rattle.lists.specs.Bools.{of-true}
 use Rattle.rules.specs.Tables.{gap}
 
 -- the gap by the signs of the two numbers
@@ -36,9 +37,6 @@ gap-is (negsuc a) (pos zero) = abs-sub 0 (suc a) ∙ omega arith
 gap-is (negsuc a) (pos (suc b)) = omega arith
 gap-is (negsuc a) (negsuc b) = abs-sub (suc b) (suc a) ∙ omega arith
 
-of-true : {b : Bool} → b ≡ true → T b
-of-true e = subst T (sym e) tt
-
 sub-no : (a b : ℕ) → b ≤ a → subℕ a b ≡ pos (a - b)
 sub-no a b h = rw (le-ltb a b h)
 
@@ -49,7 +47,8 @@ sub-le (pos a) (pos zero) h = ap pos (omega arith)
 sub-le (pos a) (pos (suc b)) h = let k : suc b ≤ a = leb-true (suc b) a h in sub-no a (suc b) k ∙ ap pos (omega arith)
 sub-le (pos a) (negsuc b) h = refl
 sub-le (negsuc a) (pos b) h = absurd (of-true h)
-sub-le (negsuc a) (negsuc b) h = let k : a ≤ b = leb-true a b h in sub-no (suc b) (suc a) (omega arith) ∙ ap pos (omega arith)
+sub-le (negsuc a) (negsuc b) h = let k : a ≤ b =
+    leb-true a b h in sub-no (suc b) (suc a) (omega arith) ∙ ap pos (omega arith)
 
 pub total : (x y : ℤ) → leZ y x ≡ false → leZ x y ≡ true
 total (pos a) (pos b) h = le-leb a b (let k : a < b = leb-false b a h in omega arith)
@@ -112,14 +111,16 @@ module _ (x y : ℤ) (f : SFits w32 x) (g : SFits w32 y) (h : leZ (wide y) (wide
   back : toZ w64 (ofZ w64 (wide x -ℤ wide y)) ≡ pos (gap x y)
   back = rw (difference, toZ-ofZ small)
 
-  pub cast-fits : T (nonNeg (toZ w64 (ofZ w64 (wide x -ℤ wide y)))) × Fits w64 (natAbs (toZ w64 (ofZ w64 (wide x -ℤ wide y))))
+  pub cast-fits : T (nonNeg (toZ w64 (ofZ w64 (wide x -ℤ wide y)))) × Fits w64
+      (natAbs (toZ w64 (ofZ w64 (wide x -ℤ wide y))))
   cast-fits = rw back (tt, record { fits = omega (arith, gap-below x y f g) })
 
   pub cast-is : natAbs (toZ w64 (ofZ w64 (wide x -ℤ wide y))) ≡ gap x y
   cast-is = ap natAbs back
 
 -- what is learnt of the gap of two 32-bit numbers that were passed on
-pub gap-of-passed : (n : ℕ) (x y : ℤ) → mag x < 2 ^ 31 → mag y < 2 ^ 31 → n ≡ gap (toZ w32 (ofZ w32 x)) (toZ w32 (ofZ w32 y)) → n ≡ gap x y
+pub gap-of-passed : (n : ℕ) (x y : ℤ) → mag x < 2 ^ 31 → mag y < 2 ^ 31 →
+    n ≡ gap (toZ w32 (ofZ w32 x)) (toZ w32 (ofZ w32 y)) → n ≡ gap x y
 gap-of-passed n x y f g e =
     simp (toZ-ofZ {w = w32} {z = x} (record { sfits = f }), toZ-ofZ {w = w32} {z = y} (record { sfits = g })) at e
 
@@ -153,13 +154,3 @@ module _ (x y : ℤ) (f : mag x < 16384) (g : mag y < 16384) (h : leZ (held y) (
 
   pub cast-is-small : natAbs (held (held x -ℤ held y)) ≡ gap x y
   cast-is-small = ap natAbs back-small
-
-between : (z : ℤ) → leZ (negsuc 16382) z ≡ true → leZ z (pos 16383) ≡ true → mag z < 16384
-between (pos a) h k = let l : a ≤ 16383 = leb-true a 16383 k in omega arith
-between (negsuc b) h k = let l : b ≤ 16382 = leb-true b 16382 h in omega arith
-
--- a 32-bit number that passes the code's test is small
-pub small-of : (z : ℤ) → mag z < 2 ^ 31 → (leZ (negsuc 16382) (held z) && leZ (held z) (pos 16383)) ≡ true → mag z < 16384
-small-of z f e =
-    let both = and-out _ _ (simp (toZ-ofZ {w = w32} {z = z} (record { sfits = f })) at e) in
-    between z (both .0) (both .1)

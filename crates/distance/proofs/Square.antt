@@ -20,7 +20,8 @@ square-lt m n h =
     omega (arith, suc-mul m (suc m), mul-suc m m)
 
 pub square-fits : (n : ℕ) → n < 2 ^ 32 → Fits w64 (n * n)
-square-fits n h = record { fits = (let k : n * n ≤ 4294967295 * 4294967295 = square-le {n = 4294967295} (omega arith) in omega arith) }
+square-fits n h = record
+    { fits = (let k : n * n ≤ 4294967295 * 4294967295 = square-le {n = 4294967295} (omega arith) in omega arith) }
 
 -- the squares of two small gaps fit 32 bits, and so does their sum
 pub squares-fit : (m n : ℕ) → m < 32768 → n < 32768 → Fits w32 (m * m) × Fits w32 (n * n) × Fits w32 (m * m + n * n)
@@ -59,13 +60,15 @@ module _ (x y : Shade) (da db : ℕ) (ea : da ≡ gap (x .a) (y .a)) (eb : db �
   unfolding qualifies
   sum-in r = ap (λ (d : ℕ). leb d (r * r)) is-distance
 
-  pub sum-is : da < 2 ^ 32 → db * db ≤ 18446744073709551615 - da * da → da * da + db * db ≡ min (squaredDistance x y) (2 ^ 64 - 1)
+  pub sum-is : da < 2 ^ 32 → db * db ≤ 18446744073709551615 - da * da →
+      da * da + db * db ≡ min (squaredDistance x y) (2 ^ 64 - 1)
   sum-is l h = small (square-fits da l) ∙ ap (λ (d : ℕ). min d (2 ^ 64 - 1)) is-distance
     where
       small : Fits w64 (da * da) → da * da + db * db ≡ min (da * da + db * db) (2 ^ 64 - 1)
       small f = omega arith
 
-  pub sum-over : 18446744073709551615 - da * da < db * db → 18446744073709551615 ≡ min (squaredDistance x y) (2 ^ 64 - 1)
+  pub sum-over : 18446744073709551615 - da * da < db * db →
+      18446744073709551615 ≡ min (squaredDistance x y) (2 ^ 64 - 1)
   sum-over h = large ∙ ap (λ (d : ℕ). min d (2 ^ 64 - 1)) is-distance
     where
       large : 18446744073709551615 ≡ min (da * da + db * db) (2 ^ 64 - 1)

@@ -1,81 +1,147 @@
--- What an accepted file has passed. Assumes nothing.
+-- What a file that is not refused for its header, and what an accepted file has passed. Assumes nothing.
 use mathlib.Core.Path.{_≡_, refl, sym, ap, _∙_}
-use mathlib.Core.Bool.{Bool, true, false, cond, not}
-use mathlib.Core.List.{List}
+use mathlib.Core.Bool.{Bool, true, false, cond}
+use mathlib.Core.List.{List, [], _∷_}
 use Prim.Native.Nat.{ℕ, zero, suc, _+_, _*_, _≤_, _<_}
 use native.Mathlib.Omega.{arith}
-use lib.Dec.{ltb, eqb}
+use lib.Dec.{leb, ltb, eqb}
 use lib.IntN.{ℤ}
-use lib.ListN.{length}
-use borrow.Author.Tests.{ltb-true, ltb-false, eqb-true, not-false}
+use lib.ListN.{length, getD}
+use borrow.Author.Tests.{leb-true, ltb-true, ltb-false, eqb-true}
 use Rattle.rules.specs.declared.Loaded.{Loaded}
 use Rattle.rules.specs.declared.Loaded.the-variants.{Rows, Unfit}
-use Rattle.rules.specs.File.{headerFits, fileCount, kindFits, rowStart, fileTable, fileRowCode, andRow, rowsLoaded, checkFile}
+use Rattle.rules.specs.Tables.{mostRows, rowInRange, rowInOrder}
+use Rattle.rules.specs.Numbers.{tableSize, rowLimit, rowOrder, cutFile, badColumn, wrongKind, unless, first}
+use Rattle.rules.specs.Calls.{rowCode}
+use Rattle.rules.specs.File.{headerBytes, headerFits, fileCount, kindFits, rowStart, headCode, checkFile}
+use Rattle.rules.specs.File.{rowColumnsFit, fileTable, fileRowCode, andRow, rowsLoaded}
+use Rattle.rules.specs.Checks.{unless-out, first-out}
 
--- a check that was passed
-pub passed : (t : Bool) (code row n : ℕ) (y : Loaded) → cond t (Unfit code row) y ≡ Rows n → (t ≡ false) × (y ≡ Rows n)
-passed true code row n y h = let z : _≡_ {A = ℕ} 0 1 = cc in absurd (omega arith)
-passed false code row n y h = (refl, h)
+-- no refusal is a row count
+pub unfit-rows : {X : Type 0} (code row n : ℕ) → Unfit code row ≡ Rows n → X
+unfit-rows code row n h = let z : _≡_ {A = ℕ} 0 1 = cc in absurd (omega arith)
+
+-- ---- The header
+
+-- the header's checks, in document 01's order
+abbrev pub headChecks : List ℕ → ℤ → List ℕ
+headChecks bytes kind =
+    unless (leb headerBytes (length bytes)) cutFile
+    ∷ unless (headerFits bytes) badColumn
+    ∷ unless (kindFits bytes kind) wrongKind
+    ∷ unless (leb (fileCount bytes) mostRows) tableSize
+    ∷ unless (eqb (length bytes) (rowStart (fileCount bytes))) cutFile
+    ∷ []
+
+-- a header that is not refused
+pub record HeadPassed (bytes : List ℕ) (kind : ℤ) : Type 0 where
+  pub whole : headerBytes ≤ length bytes
+  pub fits : headerFits bytes ≡ true
+  pub kind-fits : kindFits bytes kind ≡ true
+  pub few : fileCount bytes ≤ mostRows
+  pub size : length bytes ≡ rowStart (fileCount bytes)
+
+pub head-passed : (bytes : List ℕ) (kind : ℤ) → headCode bytes kind ≡ 0 → HeadPassed bytes kind
+unfolding headCode
+head-passed bytes kind e =
+    let passed : (i : ℕ) → getD (headChecks bytes kind) i 0 ≡ 0 = first-out (headChecks bytes kind) e in
+    let size = rowStart (fileCount bytes) in
+    record {
+      whole = leb-true headerBytes (length bytes)
+          (unless-out (leb headerBytes (length bytes)) cutFile (omega arith) (passed 0));
+      fits = unless-out (headerFits bytes) badColumn (omega arith) (passed 1);
+      kind-fits = unless-out (kindFits bytes kind) wrongKind (omega arith) (passed 2);
+      few = leb-true (fileCount bytes) mostRows
+          (unless-out (leb (fileCount bytes) mostRows) tableSize (omega arith) (passed 3));
+      size = eqb-true (length bytes) size (unless-out (eqb (length bytes) size) cutFile (omega arith) (passed 4));
+    }
+
+-- ---- A row
+
+-- a row that is not refused
+pub record RowPassed (bytes : List ℕ) (t : List ℤ) (i : ℕ) : Type 0 where
+  pub columns : rowColumnsFit bytes i ≡ true
+  pub limit : rowInRange t i ≡ true
+  pub order : rowInOrder t i ≡ true
+
+pub row-passed : (bytes : List ℕ) (t : List ℤ) (i : ℕ) → fileRowCode bytes t i ≡ 0 → RowPassed bytes t i
+unfolding fileRowCode rowCode
+row-passed bytes t i e =
+    let passed : (j : ℕ) → getD (unless (rowColumnsFit bytes i) badColumn ∷ rowCode t i ∷ []) j 0 ≡ 0 =
+    first-out (unless (rowColumnsFit bytes i) badColumn ∷ rowCode t i ∷ []) e in
+    let row : (j : ℕ) → getD (unless (rowInRange t i) rowLimit ∷ unless (rowInOrder t i) rowOrder ∷ []) j 0 ≡ 0 =
+    first-out (unless (rowInRange t i) rowLimit ∷ unless (rowInOrder t i) rowOrder ∷ []) (passed 1) in
+    record {
+      columns = unless-out (rowColumnsFit bytes i) badColumn (omega arith) (passed 0);
+      limit = unless-out (rowInRange t i) rowLimit (omega arith) (row 0);
+      order = unless-out (rowInOrder t i) rowOrder (omega arith) (row 1);
+    }
+
+-- ---- The rows
 
 module _ (bytes : List ℕ) (t : List ℤ) where
-  -- row n + 1 and those before it
-  row-passed : (n m : ℕ) (x : Loaded) → andRow bytes t n x ≡ Rows m → (fileRowCode bytes t n ≡ 0) × ((m ≡ n + 1) × ((k : ℕ) × (x ≡ Rows k)))
+  -- the next row, and those before it
+  record Next (n m : ℕ) (x : Loaded) : Type 0 where
+    pub code : fileRowCode bytes t n ≡ 0
+    pub count : m ≡ n + 1
+    pub before : (k : ℕ) × (x ≡ Rows k)
+
+  next-passed : (n m : ℕ) (x : Loaded) → andRow bytes t n x ≡ Rows m → Next n m x
   unfolding andRow
-  row-passed n m (Unfit code row) h = let z : _≡_ {A = ℕ} 0 1 = cc in absurd (omega arith)
-  row-passed n m (Rows k) h = go (eqb (fileRowCode bytes t n) 0) refl h
+  next-passed n m (Unfit code row) h = unfit-rows code row m h
+  next-passed n m (Rows k) h = go (eqb (fileRowCode bytes t n) 0) refl h
     where
-      go : (e : Bool) → eqb (fileRowCode bytes t n) 0 ≡ e → cond e (Rows (n + 1)) (Unfit (fileRowCode bytes t n) (n + 1)) ≡ Rows m → (fileRowCode bytes t n ≡ 0) × ((m ≡ n + 1) × ((k′ : ℕ) × (Rows k ≡ Rows k′)))
-      go true e g = (eqb-true (fileRowCode bytes t n) 0 e, (cc, (k, refl)))
-      go false e g = let z : _≡_ {A = ℕ} 0 1 = cc in absurd (omega arith)
+      go : (e : Bool) → eqb (fileRowCode bytes t n) 0 ≡ e →
+          cond e (Rows (n + 1)) (Unfit (fileRowCode bytes t n) (n + 1)) ≡ Rows m → Next n m (Rows k)
+      go true e g = record { code = eqb-true (fileRowCode bytes t n) 0 e; count = cc; before = (k, refl) }
+      go false e g = unfit-rows (fileRowCode bytes t n) (n + 1) m g
 
   pub rows-counted : (n m : ℕ) → rowsLoaded bytes t n ≡ Rows m → m ≡ n
   unfolding rowsLoaded
   rows-counted zero m h = cc
-  rows-counted (suc n) m h = let p = row-passed n m (rowsLoaded bytes t n) h in omega (arith, p .1 .0)
+  rows-counted (suc n) m h = let p = next-passed n m (rowsLoaded bytes t n) h in omega (arith, p .count)
 
   pub rows-passed : (n m : ℕ) → rowsLoaded bytes t n ≡ Rows m → (i : ℕ) → i < n → fileRowCode bytes t i ≡ 0
   unfolding rowsLoaded
   rows-passed zero m h i l = absurd (omega arith)
   rows-passed (suc n) m h i l =
-      let p = row-passed n m (rowsLoaded bytes t n) h in
-      go (ltb i n) refl (p .0) (λ k. rows-passed n (p .1 .1 .0) (p .1 .1 .1) i k)
+      let p = next-passed n m (rowsLoaded bytes t n) h in
+      go (ltb i n) refl (p .code) (λ k. rows-passed n (p .before .0) (p .before .1) i k)
     where
-      go : (e : Bool) → ltb i n ≡ e → fileRowCode bytes t n ≡ 0 → (i < n → fileRowCode bytes t i ≡ 0) → fileRowCode bytes t i ≡ 0
+      go : (e : Bool) → ltb i n ≡ e → fileRowCode bytes t n ≡ 0 → (i < n → fileRowCode bytes t i ≡ 0) →
+          fileRowCode bytes t i ≡ 0
       go true e z before = before (ltb-true i n e)
       go false e z before =
           let k : i ≡ n = omega (arith, ltb-false i n e) in ap (fileRowCode bytes t) k ∙ z
 
--- a file that is accepted
+-- ---- The file
+
+-- a file that is accepted, with n rows
 pub record Accepted (bytes : List ℕ) (kind : ℤ) (n : ℕ) : Type 0 where
-  pub header : headerFits bytes ≡ true
-  pub kind-fits : kindFits bytes kind ≡ true
+  pub head : HeadPassed bytes kind
   pub count : fileCount bytes ≡ n
-  pub few : n ≤ 65535
-  pub size : length bytes ≡ 13 + 27 * n
-  pub rows : (i : ℕ) → i < n → fileRowCode bytes (fileTable bytes n) i ≡ 0
+  pub few : n ≤ mostRows
+  pub size : length bytes ≡ rowStart n
+  pub rows : (i : ℕ) → i < n → RowPassed bytes (fileTable bytes n) i
 
 pub accepted : (bytes : List ℕ) (kind : ℤ) (n : ℕ) → checkFile bytes kind ≡ Rows n → Accepted bytes kind n
 unfolding checkFile
-accepted bytes kind n h =
-    let m = fileCount bytes in
-    let rows = rowsLoaded bytes (fileTable bytes m) m in
-    let size = cond (not (eqb (length bytes) (rowStart m))) (Unfit 8 0) rows in
-    let count = cond (ltb 65535 m) (Unfit 4 0) size in
-    let kinds = cond (not (kindFits bytes kind)) (Unfit 10 0) count in
-    let columns = cond (not (headerFits bytes)) (Unfit 9 0) kinds in
-    let a = passed (ltb (length bytes) 13) 8 0 n columns h in
-    let b = passed (not (headerFits bytes)) 9 0 n kinds (a .1) in
-    let c = passed (not (kindFits bytes kind)) 10 0 n count (b .1) in
-    let d = passed (ltb 65535 m) 4 0 n size (c .1) in
-    let e = passed (not (eqb (length bytes) (rowStart m))) 8 0 n rows (d .1) in
-    let same : n ≡ m = rows-counted bytes (fileTable bytes m) m n (e .1) in
-    let long : length bytes ≡ rowStart m =
-    eqb-true (length bytes) (rowStart m) (not-false (eqb (length bytes) (rowStart m)) (e .0)) in
-    record {
-      header = not-false (headerFits bytes) (b .0);
-      kind-fits = not-false (kindFits bytes kind) (c .0);
-      count = sym same;
-      few = omega (arith, ltb-false 65535 m (d .0));
-      size = omega arith;
-      rows = rw same (rows-passed bytes (fileTable bytes m) m n (e .1));
-    }
+accepted bytes kind n h = go (eqb (headCode bytes kind) 0) refl h
+  where
+    go : (b : Bool) → eqb (headCode bytes kind) 0 ≡ b →
+        cond b (rowsLoaded bytes (fileTable bytes (fileCount bytes)) (fileCount bytes))
+        (Unfit (headCode bytes kind) 0) ≡ Rows n →
+        Accepted bytes kind n
+    go false e g = unfit-rows (headCode bytes kind) 0 n g
+    go true e g =
+        let m = fileCount bytes in
+        let t = fileTable bytes m in
+        let head = head-passed bytes kind (eqb-true (headCode bytes kind) 0 e) in
+        let same : n ≡ m = rows-counted bytes t m n g in
+        record {
+          head = head;
+          count = sym same;
+          few = omega (arith, head .few);
+          size = omega (arith, head .size);
+          rows = rw same (λ i l. row-passed bytes t i (rows-passed bytes t m n g i l));
+        }

@@ -1,4 +1,4 @@
--- Issue 3, point 5: an accepted file's rows are legal; a file is accepted for at most one kind; the check alone and the
+-- An accepted file's rows are legal; a file is accepted for at most one kind; the check alone and the
 -- reading with a long enough slice agree. Assumes nothing.
 use mathlib.Core.Path.{_≡_, refl, sym, ap, _∙_}
 use mathlib.Core.Bool.{Bool, true, false, _&&_}
@@ -9,65 +9,52 @@ use native.Mathlib.Omega.{arith}
 use lib.Dec.{leb, ltb, eqb}
 use lib.IntN.{ℤ, pos, negsuc}
 use lib.ListN.{length}
-use borrow.Author.Tests.{le-leb, le-ltb, ne-eqb, leb-true, eqb-true}
+use borrow.Author.Tests.{le-leb, le-ltb, leb-true, eqb-true}
 use Rattle.lists.specs.Lists.{every, range}
 use Rattle.rules.specs.declared.Loaded.{Loaded}
 use Rattle.rules.specs.declared.Loaded.the-variants.{Rows, Unfit}
-use Rattle.rules.specs.Tables.{natOf, rowInRange, rowInOrder, sizeFits, legal}
-use Rattle.rules.specs.Numbers.{unless, first}
-use Rattle.rules.specs.Calls.{between, rowCode}
-use Rattle.rules.specs.File.{fileCount, fileKind, fileTable, rowColumnsFit, fileRowCode, kindFits, checkFile, andSlice, loadAnswer}
+use Rattle.rules.specs.Tables.{mostRows, natOf, rowInRange, rowInOrder, sizeFits, legal}
+use Rattle.rules.specs.Calls.{between}
+use Rattle.rules.specs.File.{fileCount, fileKind, fileTable, kindFits, checkFile, andSlice, loadAnswer}
 use Rattle.lists.specs.Bools.{and-left, and-right, and-in}
 use Rattle.file_laws.specs.Table.{table-length}
 use Rattle.file_laws.specs.Accepted.{accepted}
 
 -- a test that all numbers from a on pass
-every-range : (test : ℕ → Bool) (a n : ℕ) → ((i : ℕ) → a ≤ i → i < a + n → test i ≡ true) → every test (range a n) ≡ true
+every-range : (test : ℕ → Bool) (a n : ℕ) → ((i : ℕ) → a ≤ i → i < a + n → test i ≡ true) →
+    every test (range a n) ≡ true
 unfolding every range
 every-range test a zero h = refl
 every-range test a (suc n) h =
     and-in (test a) (every test (range (suc a) n)) (h a (omega arith) (omega arith))
     (every-range test (suc a) n (λ i k l. h i (omega arith) (omega arith)))
 
--- checks of which none refuses
-first-none : (t : Bool) (n d : ℕ) → (n ≡ 0 → ⊥) → first (unless t n) d ≡ 0 → (t ≡ true) × (d ≡ 0)
-first-none true n d some h = (refl, h)
-first-none false n d some h = absurd (some (simp (ne-eqb n 0 some) at h))
-
-unless-none : (t : Bool) (n : ℕ) → (n ≡ 0 → ⊥) → unless t n ≡ 0 → t ≡ true
-unless-none true n some h = refl
-unless-none false n some h = absurd (some h)
-
--- what a row that is not refused has passed
-pub row-passed : (bytes : List ℕ) (t : List ℤ) (i : ℕ) → fileRowCode bytes t i ≡ 0 → (rowColumnsFit bytes i ≡ true) × ((rowInRange t i ≡ true) × (rowInOrder t i ≡ true))
-unfolding fileRowCode rowCode
-row-passed bytes t i h =
-    let columns = first-none (rowColumnsFit bytes i) 9 (first (unless (rowInRange t i) 6) (unless (rowInOrder t i) 7)) (omega arith) h in
-    let limit = first-none (rowInRange t i) 6 (unless (rowInOrder t i) 7) (omega arith) (columns .1) in
-    (columns .0, (limit .0, unless-none (rowInOrder t i) 7 (omega arith) (limit .1)))
-
 -- an accepted file's rows are legal
-pub accepted-legal : (bytes : List ℕ) (kind : ℤ) (n : ℕ) → checkFile bytes kind ≡ Rows n → legal (fileTable bytes n) ≡ true
+pub accepted-legal : (bytes : List ℕ) (kind : ℤ) (n : ℕ) → checkFile bytes kind ≡ Rows n →
+    legal (fileTable bytes n) ≡ true
 unfolding legal sizeFits
 accepted-legal bytes kind n h =
     let f = accepted bytes kind n h in
     let t = fileTable bytes n in
-    let rows : length t / 4 ≡ n = ap (λ (k : ℕ). k / 4) (table-length bytes n) ∙ mul-div-cancel-left n {n = 4} (omega arith) in
+    let rows : length t / 4 ≡ n =
+    ap (λ (k : ℕ). k / 4) (table-length bytes n) ∙ mul-div-cancel-left n {n = 4} (omega arith) in
     let whole : length t % 4 ≡ 0 = omega (arith, table-length bytes n, rows, div-add-mod (length t) 4) in
     let each-row : every (λ i. rowInRange t i && rowInOrder t i) (range 0 n) ≡ true =
     every-range (λ i. rowInRange t i && rowInOrder t i) 0 n
     (λ i k l.
-    let p = row-passed bytes t i (f .rows i (omega arith)) in and-in (rowInRange t i) (rowInOrder t i) (p .1 .0) (p .1 .1)) in
-    simp (rows, whole, each-row, le-leb n 65535 (f .few))
+    let p = f .rows i (omega arith) in and-in (rowInRange t i) (rowInOrder t i) (p .limit) (p .order)) in
+    simp (rows, whole, each-row, le-leb n mostRows (f .few))
 
 -- a file is accepted for at most one kind
 pub one-kind : (bytes : List ℕ) (j k : ℤ) (n m : ℕ) → checkFile bytes j ≡ Rows n → checkFile bytes k ≡ Rows m → j ≡ k
 unfolding kindFits
-one-kind bytes j k n m h l = same j k (wanted j (accepted bytes j n h .kind-fits)) (wanted k (accepted bytes k m l .kind-fits))
+one-kind bytes j k n m h l =
+    same j k (wanted j (accepted bytes j n h .head .kind-fits)) (wanted k (accepted bytes k m l .head .kind-fits))
   where
     wanted : (x : ℤ) → kindFits bytes x ≡ true → (1 ≤ natOf x) × (fileKind bytes ≡ natOf x)
     wanted x f =
-        let some = and-left (leb 1 (natOf x)) (leb (natOf x) 2) (and-left (between 1 2 (natOf x)) (eqb (fileKind bytes) (natOf x)) f) in (
+        let some = and-left (leb 1 (natOf x)) (leb (natOf x) 2)
+        (and-left (between 1 2 (natOf x)) (eqb (fileKind bytes) (natOf x)) f) in (
           leb-true 1 (natOf x) some,
           eqb-true (fileKind bytes) (natOf x) (and-right (between 1 2 (natOf x)) (eqb (fileKind bytes) (natOf x)) f),
         )
@@ -78,7 +65,8 @@ one-kind bytes j k n m h l = same j k (wanted j (accepted bytes j n h .kind-fits
     same (negsuc a) y p q = absurd (omega arith)
 
 -- the check alone and the reading into a long enough slice agree
-pub check-and-load : (bytes : List ℕ) (kind : ℤ) (lent : List ℤ) → 4 * fileCount bytes ≤ length lent → loadAnswer bytes kind lent ≡ checkFile bytes kind
+pub check-and-load : (bytes : List ℕ) (kind : ℤ) (lent : List ℤ) → 4 * fileCount bytes ≤ length lent →
+    loadAnswer bytes kind lent ≡ checkFile bytes kind
 unfolding loadAnswer andSlice
 check-and-load bytes kind lent h = go (checkFile bytes kind) refl
   where

@@ -1,98 +1,106 @@
--- How large the numbers of an answer can be. Assumes nothing.
-use mathlib.Core.Path.{_≡_, refl}
-use mathlib.Core.Bool.{Bool, true, false, cond, not}
-use mathlib.Core.List.{List}
+-- What numbers an answer can have. Assumes nothing.
+use mathlib.Core.Path.{_≡_, refl, subst}
+use mathlib.Core.Bool.{Bool, true, false, cond}
+use mathlib.Core.List.{List, [], _∷_}
 use Prim.Native.Nat.{ℕ, zero, suc, _+_, _*_, _≤_}
 use native.Mathlib.Omega.{arith}
-use lib.Dec.{ltb, eqb}
+use lib.Dec.{leb, ltb, eqb}
 use lib.IntN.{ℤ}
-use lib.ListN.{length}
-use borrow.Author.Tests.{ltb-false}
+use lib.ListN.{length, drop}
+use borrow.Author.Tests.{eqb-true, eqb-false}
 use Rattle.rules.specs.declared.Loaded.{Loaded}
 use Rattle.rules.specs.declared.Loaded.the-variants.{Rows, Unfit}
-use Rattle.rules.specs.Tables.{rowInRange, rowInOrder}
-use Rattle.rules.specs.Numbers.{unless, first}
+use Rattle.rules.specs.Tables.{mostRows, rowInRange, rowInOrder}
+use Rattle.rules.specs.Numbers.{tableSize, rowLimit, rowOrder, cutFile, badColumn, wrongKind, shortSlice}
+use Rattle.rules.specs.Numbers.{IsRefusal, unless, first}
 use Rattle.rules.specs.Calls.{rowCode}
-use Rattle.rules.specs.File.{headerFits, fileCount, kindFits, rowStart, rowColumnsFit, fileTable, fileRowCode, andRow, rowsLoaded, checkFile, andSlice, loadAnswer}
+use Rattle.rules.specs.File.{headerBytes, headerFits, fileCount, kindFits, rowStart, headCode, checkFile}
+use Rattle.rules.specs.File.{rowColumnsFit, fileTable, fileRowCode, andRow, rowsLoaded, andSlice, loadAnswer}
+use Rattle.rules.specs.Checks.{unless-refusal, first-refusal}
+use Rattle.file_laws.specs.Accepted.{headChecks, head-passed}
 
--- at most n rows, or one of the eleven refusals with one of n rows or 0
-abbrev pub Within : ℕ → Loaded → Type 0
-Within n (Rows m) = m ≤ n
-Within n (Unfit code row) = (code ≤ 11) × (row ≤ n)
+-- what can be told of a file of at most n rows: their count, or one of the eleven refusals, with one of the rows or 0
+abbrev pub Told : ℕ → Loaded → Type 0
+Told n (Rows m) = m ≤ n
+Told n (Unfit code row) = IsRefusal code × (row ≤ n) × (1 ≤ code)
 
-within-more : (n : ℕ) (x : Loaded) → Within n x → Within (suc n) x
-within-more n (Rows m) h = omega arith
-within-more n (Unfit code row) h = (h .0, omega (arith, h .1))
+told-more : (n m : ℕ) (x : Loaded) → n ≤ m → Told n x → Told m x
+told-more n m (Rows k) l h = omega arith
+told-more n m (Unfit code row) l h = (h .0, omega (arith, h .1), h .2)
 
-within-most : (n : ℕ) (x : Loaded) → n ≤ 65535 → Within n x → Within 65535 x
-within-most n (Rows m) k h = omega arith
-within-most n (Unfit code row) k h = (h .0, omega (arith, h .1))
+-- ---- Every number is one of the table's
 
-within-cond : (t : Bool) (x y : Loaded) → Within 65535 x → Within 65535 y → Within 65535 (cond t x y)
-within-cond true x y h k = h
-within-cond false x y h k = k
+-- one check more, before others
+check-refusal : (b : Bool) (n : ℕ) (l : List ℕ) → IsRefusal n → IsRefusal (first l) → IsRefusal (first (unless b n ∷ l))
+check-refusal b n l h k = first-refusal (unless b n) l (unless-refusal b n h) k
 
-unless-small : (t : Bool) (n : ℕ) → n ≤ 11 → unless t n ≤ 11
-unless-small true n h = omega arith
-unless-small false n h = h
+head-refusal : (bytes : List ℕ) (kind : ℤ) → IsRefusal (headCode bytes kind)
+unfolding headCode
+head-refusal bytes kind =
+    let rest : ℕ → List ℕ = λ i. drop i (headChecks bytes kind) in
+    let size = unless-refusal (eqb (length bytes) (rowStart (fileCount bytes))) cutFile (omega arith) in
+    let count = check-refusal (leb (fileCount bytes) mostRows) tableSize (rest 4) (omega arith) size in
+    let kinds = check-refusal (kindFits bytes kind) wrongKind (rest 3) (omega arith) count in
+    let columns = check-refusal (headerFits bytes) badColumn (rest 2) (omega arith) kinds in
+    check-refusal (leb headerBytes (length bytes)) cutFile (rest 1) (omega arith) columns
 
-first-small : (c d : ℕ) → c ≤ 11 → d ≤ 11 → first c d ≤ 11
-first-small c d h k = go (eqb c 0)
+row-refusal : (bytes : List ℕ) (t : List ℤ) (i : ℕ) → IsRefusal (fileRowCode bytes t i)
+unfolding fileRowCode rowCode
+row-refusal bytes t i =
+    let order = unless-refusal (rowInOrder t i) rowOrder (omega arith) in
+    let row = check-refusal (rowInRange t i) rowLimit (unless (rowInOrder t i) rowOrder ∷ []) (omega arith) order in
+    check-refusal (rowColumnsFit bytes i) badColumn (rowCode t i ∷ []) (omega arith) row
+
+-- ---- What is told of the rows, of a file, and of a file with a slice
+
+refused-told : (n code row : ℕ) → IsRefusal code → row ≤ n → eqb code 0 ≡ false → Told n (Unfit code row)
+refused-told n code row h l e = let some = eqb-false code 0 e in (h, l, omega arith)
+
+row-told : (bytes : List ℕ) (t : List ℤ) (n : ℕ) (x : Loaded) → Told n x → Told (suc n) (andRow bytes t n x)
+unfolding andRow
+row-told bytes t n (Unfit code row) h = told-more n (suc n) (Unfit code row) (omega arith) h
+row-told bytes t n (Rows m) h = go (fileRowCode bytes t n) (row-refusal bytes t n) (eqb (fileRowCode bytes t n) 0) refl
   where
-    go : (t : Bool) → cond t d c ≤ 11
-    go true = k
+    go : (code : ℕ) → IsRefusal code → (b : Bool) → eqb code 0 ≡ b →
+        Told (suc n) (cond b (Rows (n + 1)) (Unfit code (n + 1)))
+    go code known true e = omega arith
+    go code known false e = refused-told (suc n) code (n + 1) known (omega arith) e
+
+rows-told : (bytes : List ℕ) (t : List ℤ) (n : ℕ) → Told n (rowsLoaded bytes t n)
+unfolding rowsLoaded
+rows-told bytes t zero = omega arith
+rows-told bytes t (suc n) = row-told bytes t n (rowsLoaded bytes t n) (rows-told bytes t n)
+
+pub check-told : (bytes : List ℕ) (kind : ℤ) → Told mostRows (checkFile bytes kind)
+unfolding checkFile
+check-told bytes kind = go (eqb (headCode bytes kind) 0) refl
+  where
+    go : (b : Bool) → eqb (headCode bytes kind) 0 ≡ b →
+        Told mostRows
+        (cond b (rowsLoaded bytes (fileTable bytes (fileCount bytes)) (fileCount bytes))
+        (Unfit (headCode bytes kind) 0))
+    go true e =
+        let n = fileCount bytes in
+        let t = fileTable bytes n in
+        let head = head-passed bytes kind (eqb-true (headCode bytes kind) 0 e) in
+        told-more n mostRows (rowsLoaded bytes t n) (head .few) (rows-told bytes t n)
+    go false e = refused-told mostRows (headCode bytes kind) 0 (head-refusal bytes kind) (omega arith) e
+
+slice-told : (lent : ℕ) (x : Loaded) → Told mostRows x → Told mostRows (andSlice lent x)
+unfolding andSlice
+slice-told lent (Unfit code row) h = h
+slice-told lent (Rows n) h = go (ltb lent (4 * n))
+  where
+    go : (b : Bool) → Told mostRows (cond b (Unfit shortSlice 0) (Rows n))
+    go true = (omega arith, omega arith, omega arith)
     go false = h
 
-code-small : (bytes : List ℕ) (t : List ℤ) (i : ℕ) → fileRowCode bytes t i ≤ 11
-unfolding fileRowCode rowCode
-code-small bytes t i =
-    let limit = unless-small (rowInRange t i) 6 (omega arith) in
-    let order = unless-small (rowInOrder t i) 7 (omega arith) in
-    first-small (unless (rowColumnsFit bytes i) 9) (first (unless (rowInRange t i) 6) (unless (rowInOrder t i) 7))
-    (unless-small (rowColumnsFit bytes i) 9 (omega arith))
-    (first-small (unless (rowInRange t i) 6) (unless (rowInOrder t i) 7) limit order)
-
-row-within : (bytes : List ℕ) (t : List ℤ) (n : ℕ) (x : Loaded) → Within n x → Within (suc n) (andRow bytes t n x)
-unfolding andRow
-row-within bytes t n (Unfit code row) h = within-more n (Unfit code row) h
-row-within bytes t n (Rows m) h = go (eqb (fileRowCode bytes t n) 0)
-  where
-    go : (e : Bool) → Within (suc n) (cond e (Rows (n + 1)) (Unfit (fileRowCode bytes t n) (n + 1)))
-    go true = omega arith
-    go false = (code-small bytes t n, omega arith)
-
-rows-within : (bytes : List ℕ) (t : List ℤ) (n : ℕ) → Within n (rowsLoaded bytes t n)
-unfolding rowsLoaded
-rows-within bytes t zero = omega arith
-rows-within bytes t (suc n) = row-within bytes t n (rowsLoaded bytes t n) (rows-within bytes t n)
-
-pub check-within : (bytes : List ℕ) (kind : ℤ) → Within 65535 (checkFile bytes kind)
-unfolding checkFile
-check-within bytes kind =
-    let m = fileCount bytes in
-    let rows = rowsLoaded bytes (fileTable bytes m) m in
-    let size = cond (not (eqb (length bytes) (rowStart m))) (Unfit 8 0) rows in
-    let count = cond (ltb 65535 m) (Unfit 4 0) size in
-    let kinds = cond (not (kindFits bytes kind)) (Unfit 10 0) count in
-    let columns = cond (not (headerFits bytes)) (Unfit 9 0) kinds in
-    within-cond (ltb (length bytes) 13) (Unfit 8 0) columns (omega arith, omega arith)
-    (within-cond (not (headerFits bytes)) (Unfit 9 0) kinds (omega arith, omega arith)
-    (within-cond (not (kindFits bytes kind)) (Unfit 10 0) count (omega arith, omega arith)
-    (go (ltb 65535 m) refl)))
-  where
-    go : (t : Bool) → ltb 65535 (fileCount bytes) ≡ t → Within 65535 (cond t (Unfit 4 0) (cond (not (eqb (length bytes) (rowStart (fileCount bytes)))) (Unfit 8 0) (rowsLoaded bytes (fileTable bytes (fileCount bytes)) (fileCount bytes))))
-    go true e = (omega arith, omega arith)
-    go false e =
-        let m = fileCount bytes in
-        let rows = rowsLoaded bytes (fileTable bytes m) m in
-        within-cond (not (eqb (length bytes) (rowStart m))) (Unfit 8 0) rows (omega arith, omega arith)
-        (within-most m rows (ltb-false 65535 m e) (rows-within bytes (fileTable bytes m) m))
-
-slice-within : (lent : ℕ) (x : Loaded) → Within 65535 x → Within 65535 (andSlice lent x)
-unfolding andSlice
-slice-within lent (Unfit code row) h = h
-slice-within lent (Rows n) h = within-cond (ltb lent (4 * n)) (Unfit 11 0) (Rows n) (omega arith, omega arith) h
-
-pub load-within : (bytes : List ℕ) (kind : ℤ) (lent : List ℤ) → Within 65535 (loadAnswer bytes kind lent)
+pub load-told : (bytes : List ℕ) (kind : ℤ) (lent : List ℤ) → Told mostRows (loadAnswer bytes kind lent)
 unfolding loadAnswer
-load-within bytes kind lent = slice-within (length lent) (checkFile bytes kind) (check-within bytes kind)
+load-told bytes kind lent = slice-told (length lent) (checkFile bytes kind) (check-told bytes kind)
+
+-- a refused file has a number other than 0
+pub file-numbered : (bytes : List ℕ) (kind : ℤ) (code row : ℕ) → checkFile bytes kind ≡ Unfit code row → code ≡ 0 → ⊥
+file-numbered bytes kind code row e z =
+    let told : Told mostRows (Unfit code row) =
+    subst (Told mostRows) e (check-told bytes kind) in omega (arith, told .2)

@@ -4,23 +4,21 @@ use mathlib.Core.Bool.{Bool, true, false, cond, _&&_, not}
 use mathlib.Core.List.{List, [], _∷_}
 use Prim.Native.Nat.{ℕ, zero, suc, _+_, _*_, _-_, _≤_}
 use native.Mathlib.Omega.{arith}
-use lib.Dec.{T, leb, eqb}
+use lib.Dec.{leb, eqb}
 use lib.IntN.{pos, negℤ}
 use lib.ListN.{length}
 use borrow.Author.Tests.{le-leb, leb-true, eq-eqb, eqb-true, eqb-false, not-true}
 use Rattle.lists.specs.Lists.{every}
-use Rattle.rules.specs.File.{isDigit, afterBlanks, digitsFit, digitsFrom, hasMinus, afterMinus, digitsOf, columnFits, columnNumber}
-use Rattle.lists.specs.Bools.{and-left, and-right, and-in}
-
-pub never : {X : Type 0} → false ≡ true → X
-never h = absurd (subst T (sym h) tt)
+use Rattle.rules.specs.File.{isDigit, afterBlanks, digitsFit, digitsFrom, hasMinus, afterMinus, digitsOf}
+use Rattle.rules.specs.File.{columnFits, columnNumber}
+use Rattle.lists.specs.Bools.{clash, and-left, and-right, and-in}
 
 -- what bytes are worth as digits; a blank and a minus are worth 0
 unfoldable pub worths : List ℕ → List ℕ
 worths [] = []
 worths (b ∷ l) = (b - 48) ∷ worths l
 
-digit-range : (b : ℕ) → isDigit b ≡ true → (48 ≤ b) × (b ≤ 57)
+pub digit-range : (b : ℕ) → isDigit b ≡ true → (48 ≤ b) × (b ≤ 57)
 digit-range b h =
     (leb-true 48 b (and-left (leb 48 b) (leb b 57) h), leb-true b 57 (and-right (leb 48 b) (leb b 57) h))
 
@@ -43,7 +41,8 @@ digits-same (b ∷ l) (c ∷ k) f g e =
     let first : b - 48 ≡ c - 48 = cc in
     let rest : worths l ≡ worths k = cc in
     let same : b ≡ c = omega arith in
-    let below = digits-same l k (and-right (isDigit b) (every isDigit l) f) (and-right (isDigit c) (every isDigit k) g) rest in
+    let below =
+    digits-same l k (and-right (isDigit b) (every isDigit l) f) (and-right (isDigit c) (every isDigit k) g) rest in
     λ i. same i ∷ below i
 
 -- a nonzero digit is worth something
@@ -65,7 +64,8 @@ not-empty nought e = let z : _≡_ {A = ℕ} 0 1 = cc in absurd (omega arith)
 
 spelled-same : {m : Bool} {l k : List ℕ} → Spelled m l → Spelled m k → worths l ≡ worths k → l ≡ k
 unfolding worths
-spelled-same (blanks {l = l} p) (blanks {l = k} q) e = let rest : worths l ≡ worths k = cc in ap (λ (r : List ℕ). 32 ∷ r) (spelled-same p q rest)
+spelled-same (blanks {l = l} p) (blanks {l = k} q) e =
+    let rest : worths l ≡ worths k = cc in ap (λ (r : List ℕ). 32 ∷ r) (spelled-same p q rest)
 spelled-same (minus {d = d} {l = l} a b f) (minus {d = c} {l = k} a′ b′ g) e =
     let first : d - 48 ≡ c - 48 = cc in
     let rest : worths l ≡ worths k = cc in
@@ -94,7 +94,8 @@ spelled-same nought (digits {d = d} {l = l} a b f) e = let z : 0 ≡ d - 48 = cc
 small : List ℕ → Bool
 small l = every (λ b. leb b 57) l
 
-worths-same : (l k : List ℕ) (a b : ℕ) → length l ≡ length k → small l ≡ true → small k ≡ true → digitsFrom a l ≡ digitsFrom b k → (a ≡ b) × (worths l ≡ worths k)
+worths-same : (l k : List ℕ) (a b : ℕ) → length l ≡ length k → small l ≡ true → small k ≡ true →
+    digitsFrom a l ≡ digitsFrom b k → (a ≡ b) × (worths l ≡ worths k)
 unfolding worths digitsFrom small every
 worths-same [] [] a b n f g e = (e, refl)
 worths-same [] (c ∷ k) a b n f g e = absurd (omega arith)
@@ -103,7 +104,8 @@ worths-same (x ∷ l) (y ∷ k) a b n f g e =
     let p = leb-true x 57 (and-left (leb x 57) (small l) f) in
     let q = leb-true y 57 (and-left (leb y 57) (small k) g) in
     let below =
-    worths-same l k (10 * a + (x - 48)) (10 * b + (y - 48)) (omega arith) (and-right (leb x 57) (small l) f) (and-right (leb y 57) (small k) g) e in
+    worths-same l k (10 * a + (x - 48)) (10 * b + (y - 48)) (omega arith) (and-right (leb x 57) (small l) f)
+    (and-right (leb y 57) (small k) g) e in
     let together : 10 * a + (x - 48) ≡ 10 * b + (y - 48) = below .0 in
     let rest = below .1 in
     let first : x - 48 ≡ y - 48 = omega arith in
@@ -129,7 +131,8 @@ unfolding afterBlanks digitsFrom
 blanks-worth [] = refl
 blanks-worth (b ∷ l) = go (eqb b 32) refl (blanks-worth l)
   where
-    go : (t : Bool) → eqb b 32 ≡ t → digitsFrom 0 (afterBlanks l) ≡ digitsFrom 0 l → digitsFrom 0 (cond t (afterBlanks l) (b ∷ l)) ≡ digitsFrom (10 * 0 + (b - 48)) l
+    go : (t : Bool) → eqb b 32 ≡ t → digitsFrom 0 (afterBlanks l) ≡ digitsFrom 0 l →
+        digitsFrom 0 (cond t (afterBlanks l) (b ∷ l)) ≡ digitsFrom (10 * 0 + (b - 48)) l
     go false e below = refl
     go true e below =
         let nothing : 0 ≡ 10 * 0 + (b - 48) = omega (arith, eqb-true b 32 e) in
@@ -149,7 +152,7 @@ minus-worth signed (b ∷ l) = go (signed && eqb b 45) refl
 -- a column that fits is spelled so
 digits-spelled : (l : List ℕ) → digitsFit l ≡ true → Spelled false l
 unfolding digitsFit every
-digits-spelled [] f = never f
+digits-spelled [] f = clash f refl
 digits-spelled (b ∷ []) f = go (eqb b 48) refl
   where
     go : (t : Bool) → eqb b 48 ≡ t → Spelled false (b ∷ [])
@@ -159,11 +162,12 @@ digits-spelled (b ∷ c ∷ l) f =
     let r = digit-range b (and-left (isDigit b) (not (eqb b 48) && every isDigit (c ∷ l)) f) in
     let rest = and-right (isDigit b) (not (eqb b 48) && every isDigit (c ∷ l)) f in
     let some = not-true (eqb b 48) (and-left (not (eqb b 48)) (every isDigit (c ∷ l)) rest) in
-    digits {d = b} {l = c ∷ l} (omega (arith, eqb-false b 48 some)) (r .1) (and-right (not (eqb b 48)) (every isDigit (c ∷ l)) rest)
+    digits {d = b} {l = c ∷ l} (omega (arith, eqb-false b 48 some)) (r .1)
+    (and-right (not (eqb b 48)) (every isDigit (c ∷ l)) rest)
 
 minus-spelled : (l : List ℕ) → digitsFit l ≡ true → (digitsFrom 0 l ≡ 0 → ⊥) → Spelled true (45 ∷ l)
 unfolding digitsFit digitsFrom every
-minus-spelled [] f some = never f
+minus-spelled [] f some = clash f refl
 minus-spelled (b ∷ []) f some =
     let r = digit-range b f in
     let more : 10 * 0 + (b - 48) ≡ 0 → ⊥ = some in
@@ -172,34 +176,49 @@ minus-spelled (b ∷ c ∷ l) f some =
     let r = digit-range b (and-left (isDigit b) (not (eqb b 48) && every isDigit (c ∷ l)) f) in
     let rest = and-right (isDigit b) (not (eqb b 48) && every isDigit (c ∷ l)) f in
     let nonzero = not-true (eqb b 48) (and-left (not (eqb b 48)) (every isDigit (c ∷ l)) rest) in
-    minus {d = b} {l = c ∷ l} (omega (arith, eqb-false b 48 nonzero)) (r .1) (and-right (not (eqb b 48)) (every isDigit (c ∷ l)) rest)
+    minus {d = b} {l = c ∷ l} (omega (arith, eqb-false b 48 nonzero)) (r .1)
+    (and-right (not (eqb b 48)) (every isDigit (c ∷ l)) rest)
 
 -- a minus never stands before 0
-pub minus-some : (signed : Bool) (l : List ℕ) → columnFits signed l ≡ true → hasMinus signed (afterBlanks l) ≡ true → digitsFrom 0 (digitsOf signed l) ≡ 0 → ⊥
+pub minus-some : (signed : Bool) (l : List ℕ) → columnFits signed l ≡ true → hasMinus signed (afterBlanks l) ≡ true →
+    digitsFrom 0 (digitsOf signed l) ≡ 0 → ⊥
 unfolding columnFits
 minus-some signed l f m z =
     let n = digitsFrom 0 (digitsOf signed l) in
     let test = hasMinus signed (afterBlanks l) && eqb n 0 in
     let fails = not-true test (and-right (digitsFit (digitsOf signed l)) (not test) f) in
     let passes = and-in (hasMinus signed (afterBlanks l)) (eqb n 0) m (eq-eqb n 0 z) in
-    never (sym fails ∙ passes)
+    clash passes fails
 
 -- the same without blanks before it
-unblanked : (signed : Bool) (b : ℕ) (l : List ℕ) → digitsFit (afterMinus signed (b ∷ l)) ≡ true → (hasMinus signed (b ∷ l) ≡ true → digitsFrom 0 (afterMinus signed (b ∷ l)) ≡ 0 → ⊥) → Spelled (hasMinus signed (b ∷ l)) (b ∷ l)
+unblanked : (signed : Bool) (b : ℕ) (l : List ℕ) → digitsFit (afterMinus signed (b ∷ l)) ≡ true →
+    (hasMinus signed (b ∷ l) ≡ true → digitsFrom 0 (afterMinus signed (b ∷ l)) ≡ 0 → ⊥) →
+    Spelled (hasMinus signed (b ∷ l)) (b ∷ l)
 unfolding afterMinus hasMinus
 unblanked signed b l f some = go (signed && eqb b 45) refl f some
   where
-    go : (t : Bool) → (signed && eqb b 45) ≡ t → digitsFit (cond t l (b ∷ l)) ≡ true → (t ≡ true → digitsFrom 0 (cond t l (b ∷ l)) ≡ 0 → ⊥) → Spelled t (b ∷ l)
+    go : (t : Bool) → (signed && eqb b 45) ≡ t → digitsFit (cond t l (b ∷ l)) ≡ true →
+        (t ≡ true → digitsFrom 0 (cond t l (b ∷ l)) ≡ 0 → ⊥) → Spelled t (b ∷ l)
     go false e g s = digits-spelled (b ∷ l) g
     go true e g s = rw (eqb-true b 45 (and-right signed (eqb b 45) e)) (minus-spelled l g (s refl))
 
-pub fits-spelled : (signed : Bool) (l : List ℕ) → digitsFit (digitsOf signed l) ≡ true → (hasMinus signed (afterBlanks l) ≡ true → digitsFrom 0 (digitsOf signed l) ≡ 0 → ⊥) → Spelled (hasMinus signed (afterBlanks l)) l
+pub fits-spelled : (signed : Bool) (l : List ℕ) → digitsFit (digitsOf signed l) ≡ true →
+    (hasMinus signed (afterBlanks l) ≡ true → digitsFrom 0 (digitsOf signed l) ≡ 0 → ⊥) →
+    Spelled (hasMinus signed (afterBlanks l)) l
 unfolding afterBlanks afterMinus digitsFit
-fits-spelled signed [] f some = never f
+fits-spelled signed [] f some = clash f refl
 fits-spelled signed (b ∷ l) f some = go (eqb b 32) refl f some (λ g s. fits-spelled signed l g s)
   where
-    go : (t : Bool) → eqb b 32 ≡ t → digitsFit (afterMinus signed (cond t (afterBlanks l) (b ∷ l))) ≡ true → (hasMinus signed (cond t (afterBlanks l) (b ∷ l)) ≡ true → digitsFrom 0 (afterMinus signed (cond t (afterBlanks l) (b ∷ l))) ≡ 0 → ⊥) → (digitsFit (digitsOf signed l) ≡ true → (hasMinus signed (afterBlanks l) ≡ true → digitsFrom 0 (digitsOf signed l) ≡ 0 → ⊥) → Spelled (hasMinus signed (afterBlanks l)) l) → Spelled (hasMinus signed (cond t (afterBlanks l) (b ∷ l))) (b ∷ l)
-    go true e g s below = subst (λ (c : ℕ). Spelled (hasMinus signed (afterBlanks l)) (c ∷ l)) (sym (eqb-true b 32 e)) (blanks (below g s))
+    go : (t : Bool) → eqb b 32 ≡ t → digitsFit (afterMinus signed (cond t (afterBlanks l) (b ∷ l))) ≡ true →
+        (hasMinus signed (cond t (afterBlanks l) (b ∷ l)) ≡ true →
+        digitsFrom 0 (afterMinus signed (cond t (afterBlanks l) (b ∷ l))) ≡ 0 → ⊥) →
+        (digitsFit (digitsOf signed l) ≡ true →
+        (hasMinus signed (afterBlanks l) ≡ true → digitsFrom 0 (digitsOf signed l) ≡ 0 → ⊥) →
+        Spelled (hasMinus signed (afterBlanks l)) l) →
+        Spelled (hasMinus signed (cond t (afterBlanks l) (b ∷ l))) (b ∷ l)
+    go true e g s below =
+        subst (λ (c : ℕ). Spelled (hasMinus signed (afterBlanks l)) (c ∷ l)) (sym (eqb-true b 32 e))
+        (blanks (below g s))
     go false e g s below = unblanked signed b l g s
 
 -- a signed number's parts
@@ -212,14 +231,16 @@ minus-same zero w some other e = absurd (some refl)
 minus-same (suc v) zero some other e = absurd (other refl)
 minus-same (suc v) (suc w) some other e = let z : v ≡ w = cc in ap suc z
 
-parts-same : (m n : Bool) (v w : ℕ) → (m ≡ true → v ≡ 0 → ⊥) → (n ≡ true → w ≡ 0 → ⊥) → cond m (negℤ (pos v)) (pos v) ≡ cond n (negℤ (pos w)) (pos w) → (m ≡ n) × (v ≡ w)
+parts-same : (m n : Bool) (v w : ℕ) → (m ≡ true → v ≡ 0 → ⊥) → (n ≡ true → w ≡ 0 → ⊥) →
+    cond m (negℤ (pos v)) (pos v) ≡ cond n (negℤ (pos w)) (pos w) → (m ≡ n) × (v ≡ w)
 parts-same true true v w some other e = (refl, minus-same v w (some refl) (other refl) e)
 parts-same true false v w some other e = absurd (minus-one-way v w (some refl) e)
 parts-same false true v w some other e = absurd (minus-one-way w v (other refl) (sym e))
 parts-same false false v w some other e = let z : v ≡ w = cc in (refl, z)
 
 -- two columns of the same width that hold the same number are the same bytes
-pub one-spelling : (signed : Bool) (l k : List ℕ) → length l ≡ length k → columnFits signed l ≡ true → columnFits signed k ≡ true → columnNumber signed l ≡ columnNumber signed k → l ≡ k
+pub one-spelling : (signed : Bool) (l k : List ℕ) → length l ≡ length k → columnFits signed l ≡ true →
+    columnFits signed k ≡ true → columnNumber signed l ≡ columnNumber signed k → l ≡ k
 unfolding columnNumber columnFits
 one-spelling signed l k n f g e =
     let m = hasMinus signed (afterBlanks l) in
@@ -232,6 +253,7 @@ one-spelling signed l k n f g e =
     let p = fits-spelled signed l (and-left (digitsFit (digitsOf signed l)) (not (m && eqb v 0)) f) some in
     let q = fits-spelled signed k (and-left (digitsFit (digitsOf signed k)) (not (o && eqb w 0)) g) other in
     let whole : digitsFrom 0 l ≡ digitsFrom 0 k =
-    sym (minus-worth signed (afterBlanks l) ∙ blanks-worth l) ∙ parts .1 ∙ minus-worth signed (afterBlanks k) ∙ blanks-worth k in
+    sym (minus-worth signed (afterBlanks l) ∙ blanks-worth l) ∙ parts .1 ∙ minus-worth signed (afterBlanks k)
+    ∙ blanks-worth k in
     let each-byte = worths-same l k 0 0 n (spelled-small p) (spelled-small q) whole in
     spelled-same p (subst (λ (t : Bool). Spelled t k) (sym (parts .0)) q) (each-byte .1)

@@ -40,15 +40,18 @@ table-length bytes (suc n) =
     ∙ omega (arith, table-length bytes n)
 
 -- number j of row i + 1
-pub table-num : (bytes : List ℕ) (n i j : ℕ) → i < n → j < 4 → num (fileTable bytes n) i j ≡ getD (rowNumbers bytes i) j (pos 0)
+pub table-num : (bytes : List ℕ) (n i j : ℕ) → i < n → j < 4 →
+    num (fileTable bytes n) i j ≡ getD (rowNumbers bytes i) j (pos 0)
 table-num bytes zero i j h k = absurd (omega arith)
 table-num bytes (suc n) i j h k =
     ap (λ (t : List ℤ). num t i j) (table-last bytes n) ∙ go (λ m. table-num bytes n i j m k) (ltb i n) refl
   where
-    go : (i < n → num (fileTable bytes n) i j ≡ getD (rowNumbers bytes i) j (pos 0)) → (t : Bool) → ltb i n ≡ t → num (fileTable bytes n ++ rowNumbers bytes n) i j ≡ getD (rowNumbers bytes i) j (pos 0)
+    go : (i < n → num (fileTable bytes n) i j ≡ getD (rowNumbers bytes i) j (pos 0)) → (t : Bool) → ltb i n ≡ t →
+        num (fileTable bytes n ++ rowNumbers bytes n) i j ≡ getD (rowNumbers bytes i) j (pos 0)
     go above true t =
         let m : i < n = ltb-true i n t in
-        List·getD-append (fileTable bytes n) (rowNumbers bytes n) (pos 0) (4 * i + j) (omega (arith, table-length bytes n))
+        List·getD-append (fileTable bytes n) (rowNumbers bytes n) (pos 0) (4 * i + j)
+        (omega (arith, table-length bytes n))
         ∙ above m
     go above false t =
         let e : i ≡ n = omega (arith, ltb-false i n t) in

@@ -1,10 +1,33 @@
 // The rows of a table and their checks, document 01's 6 and 7: what the session and file reading share.
 use rules::Shade;
 ghost use mathlib.Core.Path.{_≡_};
+ghost use mathlib.Core.List.{[], _∷_};
 ghost use Prim.Native.Nat.{_+_, _*_, _≤_, _<_, _^_};
+ghost use lib.Dec.{eqb};
 ghost use lib.ListN.{length};
-ghost use Rattle.rules.specs.Tables.{inRange, rowInRange, rowInOrder, row};
+ghost use Rattle.rules.specs.Tables.{mostRows, inRange, rowInRange, rowInOrder, natOf, row};
+ghost use Rattle.rules.specs.Numbers.{unless, first};
 ghost use Rattle.rules.specs.Calls.{rowCode, rowsCode};
+
+// A refusal's number, unless its test passes: then 0.
+pub fn unless(passes: bool, number: u32) -> u32
+    ensures { λ r. ⌜ r ≡ unless passes number ⌝ }
+{
+    if passes {
+        return 0;
+    }
+    number
+}
+
+// The number of the first of two checks that refuses; 0 where neither does.
+pub fn first(code: u32, next: u32) -> u32
+    ensures { λ r. ⌜ r ≡ first (code ∷ next ∷ []) ⌝ }
+{
+    if code == 0 {
+        return next;
+    }
+    code
+}
 
 // Whether the four numbers of a row keep their ranges.
 pub fn in_range(pattern: i32, score: i32, a: i32, b: i32) -> bool
@@ -16,7 +39,7 @@ pub fn in_range(pattern: i32, score: i32, a: i32, b: i32) -> bool
 }
 
 fn row_in_range(t: &[i32], i: usize) -> bool
-    requires { ⌜ (i < 65535) × (4 * i + 4 ≤ length (now t)) ⌝ }
+    requires { ⌜ (i < mostRows) × (4 * i + 4 ≤ length (now t)) ⌝ }
     ensures { λ r. ⌜ r ≡ rowInRange (now (t .entry)) i ⌝ }
 {
     let o = 4 * i;
@@ -25,7 +48,7 @@ fn row_in_range(t: &[i32], i: usize) -> bool
 
 // Whether the score of row i + 1 is at most that of the row before.
 fn in_order(t: &[i32], i: usize) -> bool
-    requires { ⌜ (i < 65535) × (4 * i + 4 ≤ length (now t)) ⌝ }
+    requires { ⌜ (i < mostRows) × (4 * i + 4 ≤ length (now t)) ⌝ }
     ensures { λ r. ⌜ r ≡ rowInOrder (now (t .entry)) i ⌝ }
 {
     if i == 0 {
@@ -35,16 +58,22 @@ fn in_order(t: &[i32], i: usize) -> bool
     t[4 * i + 1] <= t[4 * before + 1]
 }
 
+// A number as one from 0 up: 0 where it is below.
+pub fn natural(x: i32) -> u32
+    ensures { λ r. ⌜ r ≡ natOf x ⌝ }
+{
+    if 0 <= x {
+        return x as u32;
+    }
+    0
+}
+
 // The score of row i + 1; one below 0, which no checked table has, is 0.
 pub fn score(t: &[i32], i: usize) -> u32
     requires { ⌜ 4 * i + 4 ≤ length (now t) ⌝ }
     ensures { λ r. ⌜ (r ≡ row (now (t .entry)) i .score) × (r < 2 ^ 31) ⌝ }
 {
-    let x = t[4 * i + 1];
-    if 0 <= x {
-        return x as u32;
-    }
-    0
+    natural(t[4 * i + 1])
 }
 
 // The shade of row i + 1.
@@ -60,28 +89,34 @@ pub fn shade(t: &[i32], i: usize) -> Shade
 
 // What row i + 1 of a table is refused by, 6 before 7; 0 where it is not.
 pub fn row_code(t: &[i32], i: usize) -> u32
-    requires { ⌜ (i < 65535) × (4 * i + 4 ≤ length (now t)) ⌝ }
+    requires { ⌜ (i < mostRows) × (4 * i + 4 ≤ length (now t)) ⌝ }
     ensures { λ r. ⌜ r ≡ rowCode (now (t .entry)) i ⌝ }
 {
-    if !row_in_range(t, i) {
-        return 6;
-    }
-    if !in_order(t, i) {
-        return 7;
-    }
-    0
+    let limit = unless(row_in_range(t, i), rules::ROW_LIMIT);
+    let order = unless(in_order(t, i), rules::ROW_ORDER);
+    first(limit, order)
+}
+
+// Whether row i + 1 of a table is refused by neither.
+fn row_passes(t: &[i32], i: usize) -> bool
+    requires { ⌜ (i < mostRows) × (4 * i + 4 ≤ length (now t)) ⌝ }
+    ensures { λ r. ⌜ r ≡ eqb (rowCode (now (t .entry)) i) 0 ⌝ }
+{
+    let inside = row_in_range(t, i);
+    let ordered = in_order(t, i);
+    inside & ordered
 }
 
 // What the first of rows a + 1 to a + n that is refused is refused by; 0 where none is.
 pub fn rows_code(t: &[i32], a: usize, n: usize) -> u32
-    requires { ⌜ (a + n ≤ 65535) × (4 * (a + n) ≤ length (now t)) ⌝ }
+    requires { ⌜ (a + n ≤ mostRows) × (4 * (a + n) ≤ length (now t)) ⌝ }
     ensures { λ r. ⌜ r ≡ rowsCode (now (t .entry)) a n ⌝ }
 {
     let mut i: usize = 0;
     while i < n {
-        let code = row_code(t, a + i);
-        if code != 0 {
-            return code;
+        let next = a + i;
+        if !row_passes(t, next) {
+            return row_code(t, next);
         }
         i += 1;
     }

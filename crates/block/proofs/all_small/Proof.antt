@@ -1,5 +1,5 @@
 -- `all_small` meets its contract: every row that was passed is small. Assumes nothing.
-use mathlib.Core.Path.{_≡_, refl, sym}
+use mathlib.Core.Path.{_≡_, refl, sym, _∙_}
 use mathlib.Core.Bool.{Bool, true, false}
 use Prim.Native.Nat.{ℕ, _+_, _-_, _≤_, _<_}
 use native.Mathlib.Omega.{arith}
@@ -10,7 +10,7 @@ use borrow.Author.Needs.{needs}
 use borrow.Author.Tests.{eqb-true, eqb-false, not-false}
 use Rattle.lists.specs.Bools.{clash}
 use Rattle.rules.specs.Tables.{row}
-use Rattle.distance.specs.Small.{Small}
+use Rattle.distance.specs.Small.{Small, small-out}
 use Rattle.block.proofs.all_small.Statement.{statement}
 use Rattle.block.proofs.all_small.Tie as tie
 
@@ -43,7 +43,7 @@ loop-again c =
     let v = c .before .before .before .before .loop in
     let x = c .before .before .before .before .before .args .x .now in
     let t = c .before .is-small in
-    let here : Small (row x (v .i) .shade) = rw (sym (c .before .before .shade .ensures)) (t .ensures (not-false (t .result) (c .if1 .left))) in
+    let here : Small (row x (v .i) .shade) = rw (sym (c .before .before .shade .ensures)) (small-out _ (sym (t .ensures) ∙ not-false (t .result) (c .if1 .left))) in
     (omega (arith, c .before .before .before .loop-test .taken), λ k h. go x (v .i) (v .inv .1) here k h (eqb k (v .i)) refl)
   where
     go : (x : List ℤ) (i : ℕ) → ((k : ℕ) → k < i → Small (row x k .shade)) → Small (row x i .shade) → (k : ℕ) → k < i + 1 → (b : Bool) → eqb k i ≡ b → Small (row x k .shade)

@@ -16,10 +16,12 @@ cast-b : tie.Need-cast-b
 cast-b c = G.fits-wide (c .args .y) (c .fits .y)
 
 sub-result : tie.Need-sub-result
-sub-result c = G.sub-fits (c .before .args .x) (c .before .args .y) (c .before .fits .x) (c .before .fits .y) (c .if1 .taken)
+sub-result c = G.sub-fits (c .before .args .x) (c .before .args .y) (c .before .fits .x) (c .before .fits .y)
+    (c .if1 .taken)
 
 cast-result : tie.Need-cast-result
-cast-result c = G.cast-fits (c .before .args .x) (c .before .args .y) (c .before .fits .x) (c .before .fits .y) (c .if1 .taken)
+cast-result c = G.cast-fits (c .before .args .x) (c .before .args .y) (c .before .fits .x) (c .before .fits .y)
+    (c .if1 .taken)
 
 returns : tie.Need-returns
 returns c =
@@ -28,10 +30,12 @@ returns c =
     (refl, G.gap-below (s .args .x) (s .args .y) (s .fits .x) (s .fits .y))
 
 sub-result-2 : tie.Need-sub-result-2
-sub-result-2 c = G.sub-fits (c .before .args .y) (c .before .args .x) (c .before .fits .y) (c .before .fits .x) (other c)
+sub-result-2 c = G.sub-fits (c .before .args .y) (c .before .args .x) (c .before .fits .y) (c .before .fits .x)
+    (other c)
 
 cast-result-2 : tie.Need-cast-result-2
-cast-result-2 c = G.cast-fits (c .before .args .y) (c .before .args .x) (c .before .fits .y) (c .before .fits .x) (other c)
+cast-result-2 c = G.cast-fits (c .before .args .y) (c .before .args .x) (c .before .fits .y) (c .before .fits .x)
+    (other c)
 
 returns-2 : tie.Need-returns-2
 returns-2 c =

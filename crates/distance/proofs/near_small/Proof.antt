@@ -1,4 +1,5 @@
--- `near_small` meets its contract: the squares of small gaps fit, and their sum is the squared distance. Assumes nothing.
+-- `near_small` meets its contract: the squares of small gaps fit, and their sum is the squared distance. Assumes
+-- nothing.
 use Rattle.distance.proofs.Gap as G
 use Rattle.distance.proofs.Square as S
 use borrow.Author.Needs.{needs}
@@ -21,7 +22,8 @@ add-result : tie.Need-add-result
 add-result c = S.squares-fit _ _ (c .before .before .before .apart-small .ensures .1) (c .apart-small2 .ensures .1) .2
 
 mul-result-3 : tie.Need-mul-result-3
-mul-result-3 c = let s = c .before .before .before .before .before .before in S.radius-fits (s .args .radius) (s .pre .2)
+mul-result-3 c = let s =
+    c .before .before .before .before .before .before in S.radius-fits (s .args .radius) (s .pre .2)
 
 returns : tie.Need-returns
 returns c =
@@ -29,8 +31,10 @@ returns c =
     let p = c .before .before .before .apart-small in
     let q = c .apart-small2 in
     S.sum-in (s .x) (s .y) (p .result) (q .result)
-    (G.gap-of-passed _ _ _ (c .before .before .before .before .before .struct-told .given .0 .1) (c .before .before .before .before .struct-told2 .given .0 .1) (p .ensures .0))
-    (G.gap-of-passed _ _ _ (c .before .before .struct-told3 .given .1 .0 .1) (c .before .struct-told4 .given .1 .0 .1) (q .ensures .0))
+    (G.gap-of-passed _ _ _ (c .before .before .before .before .before .struct-told .given .0 .1)
+    (c .before .before .before .before .struct-told2 .given .0 .1) (p .ensures .0))
+    (G.gap-of-passed _ _ _ (c .before .before .struct-told3 .given .1 .0 .1) (c .before .struct-told4 .given .1 .0 .1)
+    (q .ensures .0))
     (s .radius)
 
 pub near-small-spec : {M : Type 1} → statement M

@@ -12,8 +12,10 @@ apart-requires-2 c κs = search needs
 
 returns : tie.Need-returns
 returns c = (
-  G.gap-of-passed _ _ _ (c .before .before .before .before .before .struct-told .given .0 .1) (c .before .before .before .before .struct-told2 .given .0 .1) (c .before .before .before .apart .ensures .0),
-  G.gap-of-passed _ _ _ (c .before .before .struct-told3 .given .1 .0 .1) (c .before .struct-told4 .given .1 .0 .1) (c .apart2 .ensures .0),
+  G.gap-of-passed _ _ _ (c .before .before .before .before .before .struct-told .given .0 .1)
+      (c .before .before .before .before .struct-told2 .given .0 .1) (c .before .before .before .apart .ensures .0),
+  G.gap-of-passed _ _ _ (c .before .before .struct-told3 .given .1 .0 .1) (c .before .struct-told4 .given .1 .0 .1)
+      (c .apart2 .ensures .0),
   c .before .before .before .apart .ensures .1,
   c .apart2 .ensures .1,
 )

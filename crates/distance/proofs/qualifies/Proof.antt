@@ -33,7 +33,8 @@ returns-2 : tie.Need-returns-2
 returns-2 c =
     let s = c .before .before .before .before .before .args in
     let d = c .before .before .before .before .offset-of in
-    S.fits-in (s .x) (s .y) (d .result .a) (d .result .b) (d .ensures .0) (d .ensures .1) (s .radius) (c .before .before .if1 .left)
+    S.fits-in (s .x) (s .y) (d .result .a) (d .result .b) (d .ensures .0) (d .ensures .1) (s .radius)
+    (c .before .before .if1 .left)
 
 pub qualifies-spec : {M : Type 1} → statement M
 qualifies-spec =

@@ -4,10 +4,11 @@ use mathlib.Core.List.{List, _++_}
 use Prim.Native.Nat.{ℕ, _+_, _*_, _-_, _≤_, _<_}
 use native.Mathlib.Omega.{arith}
 use lib.IntN.{ℤ}
-use lib.ListN.{length, take, drop}
+use lib.ListN.{length, drop}
 use borrow.Author.Needs.{needs}
 use Rattle.lists.specs.Lists.{range, each}
 use Rattle.rules.specs.File.{rowNumbers, fileTable}
+use Rattle.file.specs.Put.{rowPut}
 use Rattle.file.proofs.Table.{one-row}
 use Rattle.file.proofs.put_rows.Statement.{statement}
 use Rattle.file.proofs.put_rows.Tie as tie
@@ -46,7 +47,7 @@ loop-again c =
       omega (arith, h),
       c .before .put-row .kept .1 .1 .0 ∙ l .inv .1,
       c .before .put-row .ensures
-          ∙ ap (λ (o : List ℤ). take (4 * l .i) o ++ rowNumbers bytes (l .i) ++ drop (4 * l .i + 4) o) (l .inv .2)
+          ∙ ap (rowPut (4 * l .i) (rowNumbers bytes (l .i))) (l .inv .2)
           ∙ one-row bytes (l .i) (s .out .now),
     )
 

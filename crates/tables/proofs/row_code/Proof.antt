@@ -1,6 +1,4 @@
 -- `row_code` meets its contract: 6 before 7. Assumes nothing.
-use mathlib.Core.Path.{refl}
-use borrow.Author.Tests.{not-true, not-false}
 use Rattle.rules.specs.Calls.{rowCode}
 use borrow.Author.Needs.{needs}
 use Rattle.tables.proofs.row_code.Statement.{statement}
@@ -9,33 +7,37 @@ use Rattle.tables.proofs.row_code.Tie as tie
 row-in-range-requires : tie.Need-row-in-range-requires
 row-in-range-requires c κs = search needs
 
-returns : tie.Need-returns
-unfolding rowCode
-returns c = simp (← c .before .row-in-range .ensures, not-true (c .before .row-in-range .result) (c .if1 .taken)) refl
+unless-requires : tie.Need-unless-requires
+unless-requires c κs = search needs
 
 in-order-requires : tie.Need-in-order-requires
 in-order-requires c κs = search needs
 
-returns-2 : tie.Need-returns-2
-unfolding rowCode
-returns-2 c =
-    simp (
-      ← c .before .before .before .row-in-range .ensures,
-      not-false (c .before .before .before .row-in-range .result) (c .before .before .if1 .left),
-      ← c .before .in-order .ensures,
-      not-true (c .before .in-order .result) (c .if2 .taken),
-    )
+unless-requires-2 : tie.Need-unless-requires-2
+unless-requires-2 c κs = search needs
 
-returns-3 : tie.Need-returns-3
+first-requires : tie.Need-first-requires
+first-requires c κs = search needs
+
+returns : tie.Need-returns
 unfolding rowCode
-returns-3 c =
+returns c =
+    let ranges = c .before .before .before in
     simp (
-      ← c .before .before .before .row-in-range .ensures,
-      not-false (c .before .before .before .row-in-range .result) (c .before .before .if1 .left),
-      ← c .before .in-order .ensures,
-      not-false (c .before .in-order .result) (c .if2 .left),
+      c .before .unless2 .ensures,
+      c .before .before .in-order .ensures,
+      ranges .unless .ensures,
+      ranges .before .row-in-range .ensures,
     )
+    at (c .first .ensures)
 
 pub row-code-spec : {M : Type 1} → statement M
 row-code-spec =
-    tie.close (tie.spec row-in-range-requires returns in-order-requires returns-2 returns-3)
+    tie.close
+    (tie.spec
+    row-in-range-requires
+    unless-requires
+    in-order-requires
+    unless-requires-2
+    first-requires
+    returns)

@@ -10,7 +10,6 @@ use Rattle.rules.specs.Tables.{num, inRange, rowInRange}
 use borrow.Author.Needs.{needs, sfits-of}
 use Rattle.tables.proofs.row_in_range.Statement.{statement}
 use Rattle.tables.proofs.row_in_range.Tie as tie
-use Rattle.tables.proofs.row_in_range.Reads as reads
 
 mul-o : tie.Need-mul-o
 mul-o c = search needs

@@ -6,7 +6,7 @@ use native.Mathlib.Omega.{arith}
 use native.Mathlib.Decide.{le-ind}
 use native.Mathlib.Numerals.{add-one}
 use lib.IntN.{ℤ}
-use borrow.Author.Tests.{eq-eqb, ne-eqb}
+use borrow.Author.Tests.{eq-eqb, ne-eqb, eqb-true, eqb-false, not-true, not-false}
 use borrow.Author.Needs.{needs}
 use Rattle.rules.specs.Calls.{rowCode, rowsCode}
 use Rattle.tables.proofs.rows_code.Statement.{statement}
@@ -21,7 +21,8 @@ here t a i h = rw (add-one, eq-eqb (rowsCode t a i) 0 h)
 stays : (t : List ℤ) (a i n : ℕ) → i ≤ n → (rowsCode t a i ≡ 0 → ⊥) → rowsCode t a n ≡ rowsCode t a i
 unfolding rowsCode
 stays t a i n h k =
-    le-ind (λ (m : ℕ). rowsCode t a m ≡ rowsCode t a i) refl (λ m l ih. rw (ne-eqb (rowsCode t a m) 0 (λ z. k (sym ih ∙ z))) ih) n h
+    le-ind (λ (m : ℕ). rowsCode t a m ≡ rowsCode t a i) refl
+    (λ m l ih. rw (ne-eqb (rowsCode t a m) 0 (λ z. k (sym ih ∙ z))) ih) n h
 
 abbrev Inv-loop : tie.InvT-loop
 Inv-loop t a n i₀ i = (i ≤ n) × (rowsCode t a i ≡ 0)
@@ -33,19 +34,25 @@ loop-holds : tie.Need-loop-holds Inv-loop μ-loop
 unfolding rowsCode
 loop-holds c = (search needs, refl)
 
-add-row-code : tie.Need-add-row-code Inv-loop μ-loop
-add-row-code c = search needs
+add-next : tie.Need-add-next Inv-loop μ-loop
+add-next c = search needs
+
+row-passes-requires : tie.Need-row-passes-requires Inv-loop μ-loop
+row-passes-requires c κs = search needs
 
 row-code-requires : tie.Need-row-code-requires Inv-loop μ-loop
 row-code-requires c κs = search needs
 
 returns : tie.Need-returns Inv-loop μ-loop
 returns c =
-    let l = c .before .before .before .loop in
-    let s = c .before .before .before .before .args in
-    let e : rowsCode (s .t .now) (s .a) (l .i + 1) ≡ c .before .row-code .result =
-    here (s .t .now) (s .a) (l .i) (l .inv .1) ∙ sym (c .before .row-code .ensures) in
-    sym (stays (s .t .now) (s .a) (l .i + 1) (s .n) (omega arith) (λ z. c .if1 .taken (sym e ∙ z)) ∙ e)
+    let l = c .before .before .before .before .loop in
+    let s = c .before .before .before .before .before .args in
+    let passes = c .before .before .row-passes in
+    let refused = eqb-false (rowCode (s .t .now) (s .a + l .i)) 0
+    (sym (passes .ensures) ∙ not-true (passes .result) (c .before .if1 .taken)) in
+    let e = here (s .t .now) (s .a) (l .i) (l .inv .1) in
+    c .row-code .ensures
+    ∙ sym (stays (s .t .now) (s .a) (l .i + 1) (s .n) (omega arith) (λ z. refused (sym e ∙ z)) ∙ e)
 
 add-i : tie.Need-add-i Inv-loop μ-loop
 add-i c = search needs
@@ -57,7 +64,10 @@ loop-again : tie.Need-loop-again Inv-loop μ-loop
 loop-again c =
     let l = c .before .before .before .loop in
     let s = c .before .before .before .before .args in
-    (search needs, here (s .t .now) (s .a) (l .i) (l .inv .1) ∙ sym (c .before .row-code .ensures) ∙ c .if1 .left)
+    let passes = c .before .row-passes in
+    let passed = eqb-true (rowCode (s .t .now) (s .a + l .i)) 0
+    (sym (passes .ensures) ∙ not-false (passes .result) (c .if1 .left)) in
+    (search needs, here (s .t .now) (s .a) (l .i) (l .inv .1) ∙ passed)
 
 returns-2 : tie.Need-returns-2 Inv-loop μ-loop
 returns-2 c = let e : c .before .loop .i ≡ c .before .before .args .n = omega arith in cc
@@ -69,7 +79,8 @@ rows-code-spec =
     Inv-loop
     μ-loop
     loop-holds
-    add-row-code
+    add-next
+    row-passes-requires
     row-code-requires
     returns
     add-i

@@ -39,7 +39,11 @@ returns c =
     let s = c .before .before .args in
     let a = getD (s .t .now) (4 * s .i + 2) (pos 0) in
     let b = getD (s .t .now) (4 * s .i + 3) (pos 0) in
-    simp (toZ-ofZ {w = w32} {z = a} (sfits-of (c .before .t7 .given)), toZ-ofZ {w = w32} {z = b} (sfits-of (c .t12 .given)))
+    simp (
+      toZ-ofZ {w = w32} {z = a} (sfits-of (c .before .t7 .given)),
+      toZ-ofZ {w = w32} {z = b}
+          (sfits-of (c .t12 .given)),
+    )
 
 pub shade-spec : {M : Type 1} → statement M
 shade-spec =

@@ -1,0 +1,49 @@
+-- How a column's bytes are gone through, one after the other. Definitions only. Assumes nothing.
+use Prim.Native.Nat.{ℕ, _+_, _*_, _-_, _%_}
+use mathlib.Core.Bool.{Bool, false, cond, _&&_, _||_, not}
+use mathlib.Core.List.{List, [], _∷_}
+use lib.Dec.{eqb}
+use lib.IntN.{ℤ, pos, negℤ}
+use lib.ListN.{take, drop}
+use Rattle.rules.specs.File.{blank, minus, isDigit}
+use Rattle.column.specs.declared.Column.{Column}
+use Rattle.column.specs.declared.Scan.{Scan}
+
+-- the bytes from place i up to place e, without that of e itself
+unfoldable pub upTo : List ℕ → ℕ → ℕ → List ℕ
+upTo bytes i e = take (e - i) (drop i bytes)
+
+-- what a byte adds to the digits before it: b - 48 if it is a digit, nothing if it is a blank or a minus
+unfoldable pub byteWorth : Bool → ℕ → ℕ
+byteWorth isMinus b = cond isMinus 0 (b % 16)
+
+-- nothing known yet
+abbrev pub start : Scan
+start = record { seen = false; digit = false; negative = false; bad = false; worth = 0 }
+
+-- one byte more: a blank or a minus stands only where no other byte stood before it, a digit not after a single 0
+unfoldable pub stepped : Bool → Scan → ℕ → Scan
+stepped signed s b =
+    record {
+      seen = not (eqb b blank);
+      digit = isDigit b;
+      negative = s .negative || (signed && eqb b minus);
+      bad = s .bad
+          || ((s .digit && eqb (s .worth) 0) ||
+          (not (isDigit b) && (s .seen || not (eqb b blank || (signed && eqb b minus)))));
+      worth = 10 * s .worth + byteWorth (signed && eqb b minus) b;
+    }
+
+unfoldable pub scanned : Bool → Scan → List ℕ → Scan
+scanned signed s [] = s
+scanned signed s (b ∷ l) = scanned signed (stepped signed s b) l
+
+-- the number that a scan has met
+unfoldable pub signedWorth : Scan → ℤ
+signedWorth s = cond (s .negative) (negℤ (pos (s .worth))) (pos (s .worth))
+
+-- a column that is scanned so
+unfoldable pub heldOf : Scan → Column
+heldOf s =
+    let fits = not (s .bad) && (s .digit && not (s .negative && eqb (s .worth) 0)) in
+    record { fits = fits; number = cond fits (signedWorth s) (pos 0) }

@@ -1,0 +1,123 @@
+// One column of a strict file, document 01's "A number is right-justified": whether it is formed so, and its number.
+ghost use mathlib.Core.Path.{_≡_};
+ghost use mathlib.Core.Bool.{true};
+ghost use Prim.Native.Nat.{_+_, _≤_, _<_};
+ghost use lib.ListN.{length};
+ghost use Rattle.rules.specs.File.{columns, columnFits, columnNumber};
+ghost use Rattle.column.specs.Column.{columnHeld};
+ghost use Rattle.column.specs.Scan.{upTo, byteWorth, stepped, start, scanned, signedWorth, heldOf};
+
+// What a column holds: whether it is formed as a number, and the number (0 where it isn't).
+pub struct Column {
+    pub fits: bool,
+    pub number: i32,
+}
+
+// What is known of a column's bytes up to a place.
+struct Scan {
+    // The last byte is no blank.
+    seen: bool,
+    // The last byte is a digit.
+    digit: bool,
+    // A minus is among them.
+    negative: bool,
+    // One of them stands where it must not.
+    bad: bool,
+    // What their digits are worth.
+    worth: u32,
+}
+
+// What a byte adds to the digits before it: a blank and a minus nothing.
+fn byte_worth(byte: u8, minus: bool) -> u32
+    ensures { λ r. ⌜ r ≡ byteWorth minus byte ⌝ }
+{
+    if minus {
+        return 0;
+    }
+    (byte % 16) as u32
+}
+
+// One byte more.
+fn step(s: Scan, byte: u8, signed: bool) -> Scan
+    requires { ⌜ s .worth < 20000000 ⌝ }
+    ensures { λ r. ⌜ r ≡ stepped signed s byte ⌝ }
+{
+    let blank = byte == b' ';
+    let minus = signed & (byte == b'-');
+    let digit = (b'0' <= byte) & (byte <= b'9');
+    let after_zero = s.digit & (s.worth == 0);
+    let astray = !digit & (s.seen | !(blank | minus));
+    Scan {
+        seen: !blank,
+        digit: digit,
+        negative: s.negative | minus,
+        bad: s.bad | (after_zero | astray),
+        worth: 10 * s.worth + byte_worth(byte, minus),
+    }
+}
+
+// All bytes from `at` up to `end`.
+fn scan_from(bytes: &[u8], at: usize, end: usize, signed: bool) -> Scan
+    requires { ⌜ (at ≤ end) × (end ≤ at + 7) × (end ≤ length (now bytes)) ⌝ }
+    ensures { λ r. ⌜ r ≡ scanned signed start (upTo (now (bytes .entry)) at end) ⌝ }
+    ensures { λ r. ⌜ r .worth < 20000000 ⌝ }
+{
+    let mut s = Scan {
+        seen: false,
+        digit: false,
+        negative: false,
+        bad: false,
+        worth: 0,
+    };
+    let mut i = at;
+    while i < end {
+        s = step(s, bytes[i], signed);
+        i += 1;
+    }
+    s
+}
+
+// The number that a scan has met.
+fn signed_worth(s: Scan) -> i32
+    requires { ⌜ s .worth < 20000000 ⌝ }
+    ensures { λ r. ⌜ r ≡ signedWorth s ⌝ }
+{
+    if s.negative {
+        return 0 - (s.worth as i32);
+    }
+    s.worth as i32
+}
+
+// What a column holds by its scan. A minus never stands before 0.
+fn held(s: Scan) -> Column
+    requires { ⌜ s .worth < 20000000 ⌝ }
+    ensures { λ r. ⌜ r ≡ heldOf s ⌝ }
+{
+    if !(!s.bad & (s.digit & !(s.negative & (s.worth == 0)))) {
+        return Column {
+            fits: false,
+            number: 0,
+        };
+    }
+    Column {
+        fits: true,
+        number: signed_worth(s),
+    }
+}
+
+// What a column of `width` bytes holds, the first of them at `at`.
+pub fn column_at(bytes: &[u8], at: usize, width: usize, signed: bool) -> Column
+    requires { ⌜ (width ≤ 7) × (at + width ≤ length (now bytes)) ⌝ }
+    ensures { λ r. ⌜ r ≡ columnHeld signed (columns (now (bytes .entry)) at width) ⌝ }
+{
+    held(scan_from(bytes, at, at + width, signed))
+}
+
+// The number of a column that fits.
+pub fn number_at(bytes: &[u8], at: usize, width: usize, signed: bool) -> i32
+    requires { ⌜ (width ≤ 7) × (at + width ≤ length (now bytes)) ⌝ }
+    requires { ⌜ columnFits signed (columns (now bytes) at width) ≡ true ⌝ }
+    ensures { λ r. ⌜ r ≡ columnNumber signed (columns (now (bytes .entry)) at width) ⌝ }
+{
+    signed_worth(scan_from(bytes, at, at + width, signed))
+}

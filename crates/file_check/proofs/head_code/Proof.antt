@@ -1,0 +1,86 @@
+-- `head_code` meets its contract: the checks in document 01's order. Assumes nothing.
+use mir.Facts.{toZ-ofZ}
+use Rattle.file_check.specs.Held.{heldHeadCode}
+use borrow.Author.Needs.{needs}
+use Rattle.file_check.proofs.head_code.Statement.{statement}
+use Rattle.file_check.proofs.head_code.Tie as tie
+
+unless-requires : tie.Need-unless-requires
+unless-requires c κs = search needs
+
+unless-requires-2 : tie.Need-unless-requires-2
+unless-requires-2 c κs = search needs
+
+natural-requires : tie.Need-natural-requires
+natural-requires c κs = search needs
+
+unless-requires-3 : tie.Need-unless-requires-3
+unless-requires-3 c κs = search needs
+
+unless-requires-4 : tie.Need-unless-requires-4
+unless-requires-4 c κs = search needs
+
+cast-whole : tie.Need-cast-whole
+cast-whole c = search needs
+
+mul-whole : tie.Need-mul-whole
+mul-whole c = search needs
+
+add-whole : tie.Need-add-whole
+add-whole c = search needs
+
+unless-requires-5 : tie.Need-unless-requires-5
+unless-requires-5 c κs = search needs
+
+first-requires : tie.Need-first-requires
+first-requires c κs = search needs
+
+first-requires-2 : tie.Need-first-requires-2
+first-requires-2 c κs = search needs
+
+first-requires-3 : tie.Need-first-requires-3
+first-requires-3 c κs = search needs
+
+first-requires-4 : tie.Need-first-requires-4
+first-requires-4 c κs = search needs
+
+returns : tie.Need-returns
+unfolding heldHeadCode
+returns c =
+    let size = c .before .before .before .before in
+    let count = size .before .before in
+    let other = count .before .before in
+    let wanted = other .before .before in
+    let columns = wanted .before in
+    simp (
+      c .before .first3 .ensures,
+      c .before .before .first2 .ensures,
+      c .before .before .before .first .ensures,
+      size .unless5 .ensures,
+      count .unless4 .ensures,
+      other .unless3 .ensures,
+      wanted .natural .ensures,
+      columns .unless2 .ensures,
+      columns .before .unless .ensures,
+      toZ-ofZ (columns .before .before .fits .kind),
+    )
+    at (c .first4 .ensures)
+
+pub head-code-spec : {M : Type 1} → statement M
+head-code-spec =
+    tie.close
+    (tie.spec
+    unless-requires
+    unless-requires-2
+    natural-requires
+    unless-requires-3
+    unless-requires-4
+    cast-whole
+    mul-whole
+    add-whole
+    unless-requires-5
+    first-requires
+    first-requires-2
+    first-requires-3
+    first-requires-4
+    returns)
