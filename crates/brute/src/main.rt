@@ -1,62 +1,51 @@
 // The session against a plain double loop, over tables made from seeds. Prints totals; the comparer is tried first.
-use brute_calls::judge;
-use brute_calls::refused;
-use brute_tables::dice;
-use brute_tables::made;
+use crate::due::Case;
 use libc::STDOUT_FILENO;
+use rules::Counts;
 
+mod calls;
+mod dice;
+mod due;
+mod judge;
+mod made;
+mod plain;
 mod play;
 mod tally;
 mod wrong;
 
 // A case: its session is played, and counted.
-fn case<'a>(f: &'a [i32], t: &'a [i32], seed: u64, tally: &mut [u64; 48]) {
+fn case(seed: u64, tally: &mut [u64; 48]) {
+    let field = made::table(seed);
+    let trim = made::table(std::num::wrapping_add_u64(seed, 1000000));
+    let rows = due::counts(dice::below(seed, 10, 13), dice::below(seed, 11, 13));
     let query = made::query(seed);
-    let w = judge::wanted_of(query, f, t);
-    let g = play::whole(f, t, w, seed, tally);
-    tally::count(tally, tally::CASES);
-    let empty = (f.len() == 0) | (t.len() == 0);
-    if empty {
-        tally::count(tally, tally::EMPTY);
-    }
-    if g.seen.said != judge::FINISHED {
-        tally::count(tally, tally::UNFINISHED);
-    }
-    if g.fault != 0 {
-        tally::count(tally, tally::MISMATCHES);
-    }
-    if !empty & (g.seen.deepest == w.limit) {
-        tally::count(tally, tally::EXACT);
-        if 1 < query.block {
-            tally::count(tally, tally::EXACT_BLOCKS);
-        }
-    }
+    let sums = plain::sums(query, &field, &trim);
+    let c = due::case_of(query, rows, &sums);
+    let seen = play::whole(c, &sums, calls::first_rows(field, trim, rows), seed, tally);
+    counted(c, seen.said, seen.fault, seen.session.depth, tally);
 }
 
-fn seeded(seed: u64, tally: &mut [u64; 48]) {
-    let other = std::num::wrapping_add_u64(seed, 1000000);
-    let field = made::table(seed, made::spread_of(seed));
-    let trim = made::table(other, made::spread_of(other));
-    let m = dice::below(seed, 10, 13) as usize;
-    let n = dice::below(seed, 11, 13) as usize;
-    case(&field[0..4 * m], &trim[0..4 * n], seed, tally);
+fn counted(c: Case, said: u32, fault: u32, d: Counts, tally: &mut [u64; 48]) {
+    let empty = (c.rows.field.0 == 0) | (c.rows.trim.0 == 0);
+    let exact = !empty & (plain::higher(d.field.0, d.trim.0) == c.limit);
+    tally::count(tally, tally::CASES);
+    tally::count_if(tally, empty, tally::EMPTY);
+    tally::count_if(tally, said != due::FINISHED, tally::UNFINISHED);
+    tally::count_if(tally, fault != 0, tally::MISMATCHES);
+    tally::count_if(tally, exact, tally::EXACT);
+    tally::count_if(tally, exact & (1 < c.query.block), tally::EXACT_BLOCKS);
 }
 
 fn all_cases(tally: &mut [u64; 48]) {
     for seed in 0u64..4000 {
-        seeded(seed, tally);
+        case(seed, tally);
     }
 }
 
-fn too_long() -> usize {
-    let t = [1i32; 4];
-    refused::too_long(made::query(0), &t) as usize
-}
-
-fn line(tally: [u64; 48], i: usize, name: &[u8]) {
+fn line(tally: [u64; 48], i: u32, name: &[u8]) {
     if i < 48 {
         io::write_all(STDOUT_FILENO, name);
-        io::print_decimal(STDOUT_FILENO, tally[i]);
+        io::print_decimal(STDOUT_FILENO, tally[i as usize]);
         io::write_all(STDOUT_FILENO, b"\n");
     }
 }
@@ -64,12 +53,12 @@ fn line(tally: [u64; 48], i: usize, name: &[u8]) {
 fn totals(a: [u64; 48]) {
     line(a, tally::CASES, b"cases: ");
     line(a, tally::EMPTY, b"with an empty table: ");
-    line(a, judge::READ as usize, b"blocks read: ");
-    line(a, judge::SETTLED as usize, b"settled: ");
-    line(a, judge::GIVEN as usize, b"pairs: ");
+    line(a, due::READ, b"blocks read: ");
+    line(a, due::SETTLED, b"settled: ");
+    line(a, due::GIVEN, b"pairs: ");
     line(a, tally::TIES, b"ties: ");
-    line(a, judge::NOT_YET as usize, b"not yet: ");
-    line(a, judge::FINISHED as usize, b"finished: ");
+    line(a, due::NOT_YET, b"not yet: ");
+    line(a, due::FINISHED, b"finished: ");
     line(a, tally::EXACT, b"limits reached exactly: ");
     line(
         a,
@@ -93,8 +82,7 @@ fn main() {
     wrong::all();
     let mut tally = [0u64; 48];
     all_cases(&mut tally);
-    let code = too_long();
-    tally::count(&mut tally, code);
+    tally::count(&mut tally, calls::too_long(made::query(0)));
     totals(tally);
     refusals(tally);
     line(tally, tally::UNFINISHED, b"never finished: ");

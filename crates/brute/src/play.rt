@@ -1,239 +1,130 @@
-// A whole session, read and taken from in one of several orders; each answer is compared.
+// A whole session, read and taken from in one of several orders; each answer and record is compared.
+use crate::calls;
+use crate::calls::Lent;
+use crate::dice;
+use crate::due;
+use crate::due::Case;
+use crate::judge;
+use crate::judge::Seen;
+use crate::plain::Sums;
 use crate::tally;
-use brute_calls::judge;
-use brute_calls::judge::Seen;
-use brute_calls::judge::Wanted;
-use brute_calls::records;
-use brute_calls::refused;
-use brute_calls::same;
-use brute_tables::dice;
-use brute_tables::plain;
-use brute_tables::readings;
 use rules::Answer;
-use rules::Counts;
 use rules::Pair;
 use rules::Session;
+use rules::Step;
+use std::num::wrapping_add_u32;
+use std::num::wrapping_sub_u32;
 
-// A session under way: its record, what its caller saw, and the first fault found.
-pub struct Game {
-    pub session: Session,
-    pub seen: Seen,
-    pub fault: u32,
+// What is wrong with the record r that a call with s gave back which answered so; after a read as many rows are shown as
+// were read.
+pub fn record_fault(
+    c: Case,
+    m: &Sums,
+    l: Lent,
+    s: Session,
+    r: Session,
+    said: u32,
+    n: [Pair; 64],
+) -> u32 {
+    let fault = judge::differs(due::record(c, m, s, said, n), r);
+    let field = wrapping_sub_u32(r.depth.field.0, s.depth.field.0);
+    let rows = wrapping_add_u32(field, wrapping_sub_u32(r.depth.trim.0, s.depth.trim.0));
+    let shows = calls::shown(l, r) == 4 * (rows % 13);
+    let hidden = judge::when((said == due::READ) & !shows, judge::SHOWN, 0);
+    judge::or(fault, hidden)
 }
 
-fn deepest(d: Counts) -> usize {
-    if d.field.0 < d.trim.0 {
-        return d.trim.0 as usize;
+// What a caller sees with the answer of a call and the record that it gave back.
+fn after(seen: Seen, step: Step) -> Seen {
+    let mut next = seen;
+    let n = seen.count;
+    let r = step.session;
+    let a = step.answer;
+    next.session = r;
+    next.said = due::number(a);
+    if let Answer::Given(p) = a {
+        next.given[(n % 64) as usize] = p;
+        next.count = wrapping_add_u32(n, 1);
     }
-    d.field.0 as usize
+    next
 }
 
-// What a read must answer: settled in a sure reading.
-fn read_due(f: &[i32], t: &[i32], w: Wanted, d: Counts) -> u32 {
-    if readings::sure(w.query, f, d.field.0 as usize, t, d.trim.0 as usize) {
-        return judge::SETTLED;
-    }
-    judge::READ
-}
-
-// What a take must answer with `count` pairs out.
-fn take_due(f: &[i32], t: &[i32], w: Wanted, d: Counts, count: usize) -> u32 {
-    let p = d.field.0 as usize;
-    let q = d.trim.0 as usize;
-    let k = w.query.k as usize;
-    let secured = readings::secured(w.query.radius, f, p, t, q) as usize;
-    if (count < k) & (count < secured) {
-        return judge::GIVEN;
-    }
-    let m = plain::rows(f);
-    let n = plain::rows(t);
-    if ((count == k) | ((m == 0) | (n == 0))) | ((p == m) & (q == n)) {
-        return judge::FINISHED;
-    }
-    judge::NOT_YET
+// The comparison after a call, by the answer that was due and what is wrong with the record.
+fn compared(c: Case, m: &Sums, seen: Seen, due: u32, record: u32) -> Seen {
+    let mut next = seen;
+    next.due = due;
+    next.record = record;
+    let fault = judge::fault(c, m, next);
+    next.fault = judge::or(seen.fault, fault);
+    next
 }
 
 // A session just opened.
-fn opened(f: &[i32], t: &[i32], w: Wanted) -> Game {
-    let step = session::start(w.query, f, t);
-    let s = step.session;
-    let answer = step.answer;
-    let z = judge::no_pair();
-    let seen = Seen {
-        given: [z; 64],
-        count: 0,
-        said: judge::number(answer),
-        due: judge::OPENED,
-        deepest: deepest(s.depth),
-        record: records::open_fault(w.query, f, t, s),
-    };
-    Game {
-        session: s,
-        seen,
-        fault: judge::fault(f, t, w, seen),
-    }
-}
-
-// What is wrong with a record that must be the same.
-fn unchanged(s: Session, r: Session) -> u32 {
-    if same::record(s, r) {
-        return 0;
-    }
-    judge::CHANGED
-}
-
-// A read, and whether the record is as such a read leaves it.
-fn after_read<'a>(f: &'a [i32], t: &'a [i32], w: Wanted, g: Game) -> Game {
-    let s = g.session;
-    let step = session::read(f, t, s);
-    let r = step.session;
-    let answer = step.answer;
-    let said = judge::number(answer);
-    let mut seen = g.seen;
-    seen.said = said;
-    seen.due = read_due(f, t, w, s.depth);
-    seen.deepest = deepest(r.depth);
-    seen.record = unchanged(s, r);
-    if said == judge::READ {
-        let given = seen.given;
-        seen.record = records::read_fault(f, t, s, r, given, seen.count);
-    }
-    Game {
-        session: r,
-        seen,
-        fault: g.fault,
-    }
-}
-
-// The list with a pair more.
-fn with_pair(seen: Seen, p: Pair) -> Seen {
-    let mut r = seen;
-    let n = seen.count;
-    if n < 64 {
-        r.given[n] = p;
-        r.count = n + 1;
-    }
-    r
-}
-
-// The pair of an answer.
-fn pair_of(a: Answer) -> Pair {
-    match a {
-        Answer::Given(p) => p,
-        _ => judge::no_pair(),
-    }
-}
-
-// A take, and whether the record is as such a take leaves it.
-fn after_take(f: &[i32], t: &[i32], w: Wanted, g: Game) -> Game {
-    let s = g.session;
-    let step = session::take(f, t, s);
-    let r = step.session;
-    let answer = step.answer;
-    let said = judge::number(answer);
-    let mut seen = g.seen;
-    seen.said = said;
-    seen.due = take_due(f, t, w, s.depth, seen.count);
-    seen.deepest = deepest(r.depth);
-    seen.record = unchanged(s, r);
-    if said == judge::GIVEN {
-        seen = with_pair(seen, pair_of(answer));
-        let given = seen.given;
-        seen.record = records::take_fault(f, t, s, r, given, seen.count);
-    }
-    Game {
-        session: r,
-        seen,
-        fault: g.fault,
-    }
-}
-
-// In what order reads and takes come.
-const TAKE_AFTER_EACH_READ: u32 = 0;
-
-const READS_THEN_TAKES: u32 = 1;
-
-const TAKES_WHILE_POSSIBLE: u32 = 2;
-
-// Whether the next call is a read, going by the last answer.
-fn read_next(order: u32, said: u32, coin: bool) -> bool {
-    if order == TAKE_AFTER_EACH_READ {
-        return (said != judge::READ) & (said != judge::SETTLED);
-    }
-    if order == READS_THEN_TAKES {
-        return (said != judge::SETTLED) & (said != judge::GIVEN);
-    }
-    if order == TAKES_WHILE_POSSIBLE {
-        return said == judge::NOT_YET;
-    }
-    coin
-}
-
-// Whether the last two pairs have the same sum.
-fn is_tie(seen: Seen) -> bool {
-    let n = seen.count;
-    if n < 2 {
-        return false;
-    }
-    let given = seen.given;
-    judge::place(given, n - 1).sum == judge::place(given, n - 2).sum
-}
-
-// A first fault stays.
-fn first(fault: u32, next: u32) -> u32 {
-    if fault == 0 {
-        return next;
-    }
-    fault
+fn opened(c: Case, m: &Sums, l: Lent) -> Seen {
+    let s = due::opened(c.query, c.rows);
+    let seen = after(judge::unseen(s), calls::open(l, c.query));
+    compared(c, m, seen, due::OPENED, judge::differs(s, seen.session))
 }
 
 // One call, and the comparison after it.
-fn call<'a>(f: &'a [i32], t: &'a [i32], w: Wanted, g: Game, is_read: bool) -> Game {
-    let mut r = g;
-    if is_read {
-        r = after_read(f, t, w, g);
-    } else {
-        r = after_take(f, t, w, g);
+fn called(c: Case, m: &Sums, l: Lent, seen: Seen, is_read: bool) -> Seen {
+    let s = seen.session;
+    let due = due::answer(c, m, s.depth, seen.count, is_read);
+    let next = after(seen, calls::call(l, s, is_read));
+    let given = next.given;
+    let record = record_fault(c, m, l, s, next.session, next.said, given);
+    compared(c, m, next, due, record)
+}
+
+// Whether the next call is a read, going by the last answer: a take after each read; reads, then takes; takes while
+// possible; or as a coin falls.
+fn read_next(order: u32, said: u32, coin: bool) -> bool {
+    match order {
+        0 => (said != due::READ) & (said != due::SETTLED),
+        1 => (said != due::SETTLED) & (said != due::GIVEN),
+        2 => said == due::NOT_YET,
+        _ => coin,
     }
-    let seen = r.seen;
-    r.fault = first(g.fault, judge::fault(f, t, w, seen));
-    r
+}
+
+// Whether the last two of n pairs have the same sum.
+fn is_tie(given: [Pair; 64], n: u32) -> bool {
+    if n < 2 {
+        return false;
+    }
+    given[((n - 1) % 64) as usize].sum == given[((n - 2) % 64) as usize].sum
 }
 
 // A call that must be refused, where one can be made, then one that must not.
-fn turn<'a>(
-    f: &'a [i32],
-    t: &'a [i32],
-    w: Wanted,
-    g: Game,
+fn turn(
+    c: Case,
+    m: &Sums,
+    l: Lent,
+    seen: Seen,
     seed: u64,
     step: u64,
     tally: &mut [u64; 48],
-) -> Game {
-    let code = refused::some(f, t, g.session, seed, step);
-    tally::count(tally, code as usize);
-    let mut h = g;
-    if code == 0 {
-        h.fault = first(g.fault, judge::CHANGED);
-    }
-    let order = dice::below(seed, 9, 4);
-    let is_read = read_next(order, g.seen.said, dice::one_in(seed, step, 2));
-    let r = call(f, t, w, h, is_read);
-    tally::count(tally, r.seen.said as usize);
-    if (r.seen.said == judge::GIVEN) & is_tie(r.seen) {
-        tally::count(tally, tally::TIES);
-    }
+) -> Seen {
+    let code = calls::some(c, m, l, seen.session, seed, step);
+    let coin = dice::one_in(seed, step, 2);
+    let is_read = read_next(dice::below(seed, 9, 4), seen.said, coin);
+    let mut r = called(c, m, l, seen, is_read);
+    r.fault = judge::when(code == 0, judge::CHANGED, r.fault);
+    tally::count(tally, code);
+    tally::count(tally, r.said);
+    let given = r.given;
+    let tie = (r.said == due::GIVEN) & is_tie(given, r.count);
+    tally::count_if(tally, tie, tally::TIES);
     r
 }
 
 // A session from its opening to its end, and a read and a take after it.
-pub fn whole<'a>(f: &'a [i32], t: &'a [i32], w: Wanted, seed: u64, tally: &mut [u64; 48]) -> Game {
-    let mut g = opened(f, t, w);
+pub fn whole(c: Case, m: &Sums, l: Lent, seed: u64, tally: &mut [u64; 48]) -> Seen {
+    let mut seen = opened(c, m, l);
     for step in 1000u64..1600 {
-        if g.seen.said != judge::FINISHED {
-            g = turn(f, t, w, g, seed, step, tally);
+        if seen.said != due::FINISHED {
+            seen = turn(c, m, l, seen, seed, step, tally);
         }
     }
-    let last = call(f, t, w, g, true);
-    call(f, t, w, last, false)
+    called(c, m, l, called(c, m, l, seen, true), false)
 }

@@ -1,61 +1,26 @@
-// The comparer is first fed one wrong list of each kind, which it must report.
-use brute_calls::judge;
-use brute_calls::judge::Seen;
-use brute_calls::records;
-use brute_calls::refused;
-use brute_calls::same;
+// The comparer is first fed one wrong list, answer and record of each kind, which it must report.
+use crate::calls;
+use crate::calls::Lent;
+use crate::due;
+use crate::due::Case;
+use crate::due::FINISHED;
+use crate::due::GIVEN;
+use crate::due::NOT_YET;
+use crate::due::READ;
+use crate::due::SETTLED;
+use crate::judge;
+use crate::judge::Seen;
+use crate::plain;
+use crate::plain::Sums;
+use crate::plain::Table;
+use crate::plain::pair;
+use crate::play;
 use libc::STDOUT_FILENO;
 use rules::Answer;
 use rules::Pair;
-use rules::Query;
 use rules::Session;
 use rules::Step;
-
-const FIELD: [i32; 12] = [1, 9, 0, 0, 2, 8, 0, 0, 3, 1, 40, 0];
-
-const TRIM: [i32; 12] = [1, 7, 0, 0, 2, 5, 0, 0, 3, 2, 40, 0];
-
-fn pair(sum: u32, field: u32, trim: u32) -> Pair {
-    Pair { sum, field, trim }
-}
-
-// Of the tables above with k 3, block 2, radius 5.
-fn right() -> Seen {
-    let z = judge::no_pair();
-    let mut given = [z; 64];
-    let a = pair(16, 1, 1);
-    given[0] = a;
-    let b = pair(15, 2, 1);
-    given[1] = b;
-    let c = pair(14, 1, 2);
-    given[2] = c;
-    Seen {
-        given,
-        count: 3,
-        said: judge::FINISHED,
-        due: judge::FINISHED,
-        deepest: 3,
-        record: 0,
-    }
-}
-
-// The right list with another pair at a place.
-fn with_pair(i: usize, p: Pair) -> Seen {
-    let mut s = right();
-    if i < 64 {
-        s.given[i] = p;
-    }
-    s
-}
-
-// The first n pairs of the right list, an answer, and the one that was due.
-fn answered(n: usize, said: u32, due: u32) -> Seen {
-    let mut s = right();
-    s.count = n;
-    s.said = said;
-    s.due = due;
-    s
-}
+use std::num::wrapping_add_u32;
 
 fn line(name: &[u8], reported: bool) {
     io::write_all(STDOUT_FILENO, name);
@@ -66,192 +31,182 @@ fn line(name: &[u8], reported: bool) {
     }
 }
 
-fn asked() -> Query {
-    Query {
-        k: 3,
-        block: 2,
-        radius: 5,
-    }
+// Three rows of these scores, the third far from the others.
+fn table(first: i32, second: i32, third: i32) -> Table {
+    let mut t = [0i32; 52];
+    t[0] = 1;
+    t[1] = first;
+    t[4] = 2;
+    t[5] = second;
+    t[8] = 3;
+    t[9] = third;
+    t[10] = 40;
+    t
 }
 
-// Whether the comparer finds this fault in a session over the tables above.
-fn finds(s: Seen, fault: u32) -> bool {
-    let f = FIELD;
-    let t = TRIM;
-    let w = judge::wanted_of(asked(), &f, &t);
-    judge::fault(&f, &t, w, s) == fault
+// The three best pairs of these tables, by blocks of two rows.
+fn tables() -> Lent {
+    calls::first_rows(table(9, 8, 1), table(7, 5, 2), due::counts(3, 3))
+}
+
+fn sums() -> Sums {
+    let f = table(9, 8, 1);
+    let t = table(7, 5, 2);
+    plain::sums(calls::query(3, 2, 5), &f, &t)
+}
+
+fn case(m: &Sums) -> Case {
+    due::case_of(calls::query(3, 2, 5), due::counts(3, 3), m)
+}
+
+// What the comparer must see at its end.
+fn right() -> Seen {
+    let mut s = judge::unseen(reads(3));
+    s.given[0] = pair(16, 1, 1);
+    s.given[1] = pair(15, 2, 1);
+    s.given[2] = pair(14, 1, 2);
+    s.count = 3;
+    s.said = FINISHED;
+    s.due = FINISHED;
+    s
+}
+
+// Whether the comparer finds this fault.
+fn finds(name: &[u8], s: Seen, fault: u32) {
+    let m = sums();
+    line(name, judge::fault(case(&m), &m, s) == fault);
+}
+
+// The right list with another pair at a place.
+fn listed(name: &[u8], i: u32, p: Pair, fault: u32) {
+    let mut s = right();
+    s.given[(i % 64) as usize] = p;
+    s.count = plain::higher(3, wrapping_add_u32(i, 1));
+    finds(name, s, fault);
 }
 
 fn wrong_pairs() {
-    line(
-        b"no such field row",
-        finds(with_pair(0, pair(16, 4, 1)), judge::NO_ROW),
-    );
-    line(
-        b"no such trim row",
-        finds(with_pair(0, pair(16, 1, 0)), judge::NO_ROW),
-    );
-    line(
-        b"too far apart",
-        finds(with_pair(1, pair(11, 1, 3)), judge::TOO_FAR),
-    );
-    line(
-        b"another sum than its own",
-        finds(with_pair(0, pair(17, 1, 1)), judge::WRONG_SUM),
-    );
-    line(
-        b"a pair twice",
-        finds(with_pair(1, pair(16, 1, 1)), judge::TWICE),
-    );
-    line(
-        b"the best pair left out",
-        finds(with_pair(0, pair(13, 2, 2)), judge::ORDER),
-    );
-    line(b"sums out of order", finds(swapped(), judge::ORDER));
-    line(b"a pair too many", finds(longer(), judge::ORDER));
+    listed(b"no such field row", 0, pair(16, 4, 1), judge::NO_ROW);
+    listed(b"no such trim row", 0, pair(16, 1, 0), judge::NO_ROW);
+    listed(b"too far apart", 1, pair(11, 1, 3), judge::TOO_FAR);
+    listed(b"another sum than its own", 0, pair(17, 1, 1), judge::SUM);
+    listed(b"a pair twice", 1, pair(16, 1, 1), judge::TWICE);
+    listed(b"the best pair left out", 0, pair(13, 2, 2), judge::ORDER);
+    listed(b"sums out of order", 1, pair(14, 1, 2), judge::ORDER);
+    listed(b"a pair too many", 3, pair(13, 2, 2), judge::ORDER);
 }
 
-fn swapped() -> Seen {
-    let mut s = with_pair(1, pair(14, 1, 2));
-    let p = pair(15, 2, 1);
-    s.given[2] = p;
-    s
-}
-
-fn longer() -> Seen {
-    let mut s = with_pair(3, pair(13, 2, 2));
-    s.count = 4;
-    s
+// The first n pairs of the right list, an answer, and the one that was due.
+fn answered(name: &[u8], n: u32, said: u32, due: u32, fault: u32) {
+    let mut s = right();
+    s.count = n;
+    s.said = said;
+    s.due = due;
+    finds(name, s, fault);
 }
 
 fn wrong_answers() {
-    line(
-        b"finished too early",
-        finds(answered(2, judge::FINISHED, judge::GIVEN), judge::EARLY),
-    );
-    line(
-        b"finished too late",
-        finds(answered(3, judge::NOT_YET, judge::FINISHED), judge::LATE),
-    );
-    line(
-        b"given too early",
-        finds(answered(1, judge::GIVEN, judge::NOT_YET), judge::ANSWER),
-    );
-    line(
-        b"held back",
-        finds(answered(0, judge::NOT_YET, judge::GIVEN), judge::ANSWER),
-    );
-    line(
-        b"settled too early",
-        finds(answered(0, judge::SETTLED, judge::READ), judge::ANSWER),
-    );
-    line(
-        b"read on though settled",
-        finds(answered(0, judge::READ, judge::SETTLED), judge::ANSWER),
-    );
-    let mut deep = right();
-    deep.deepest = 5;
-    line(b"read too deep", finds(deep, judge::TOO_DEEP));
-    let mut changed = right();
-    changed.record = judge::CHANGED;
-    line(
-        b"a record that is not as it should be",
-        finds(changed, judge::CHANGED),
-    );
+    answered(b"finished too early", 2, FINISHED, GIVEN, judge::EARLY);
+    answered(b"finished too late", 3, NOT_YET, FINISHED, judge::LATE);
+    answered(b"given too early", 1, GIVEN, NOT_YET, judge::ANSWER);
+    answered(b"held back", 0, NOT_YET, GIVEN, judge::ANSWER);
+    answered(b"settled too early", 0, SETTLED, READ, judge::ANSWER);
+    answered(b"read on though settled", 0, READ, SETTLED, judge::ANSWER);
 }
 
-// The record of that query after n reads.
-fn read_times(n: u32) -> Session {
-    let f = FIELD;
-    let t = TRIM;
-    let step = session::start(asked(), &f, &t);
+fn wrong_depth() {
+    let mut s = right();
+    s.session.depth.trim.0 = 5;
+    finds(b"read too deep", s, judge::DEEP);
+}
+
+fn wrong_record() {
+    let mut s = right();
+    s.record = judge::CHANGED;
+    finds(b"a record that is not as it should be", s, judge::CHANGED);
+}
+
+// The record after n reads.
+fn reads(n: u32) -> Session {
+    let step = calls::open(tables(), calls::query(3, 2, 5));
     let mut s = step.session;
     for i in 0..n {
-        let next = session::read(&f, &t, s);
+        let next = calls::call(tables(), s, true);
         s = next.session;
     }
     s
 }
 
-// Whether the comparer finds this fault in a record that the third read is to have given back.
-fn third_read(r: Session, fault: u32) -> bool {
-    let f = FIELD;
-    let t = TRIM;
-    let z = judge::no_pair();
+// What the third read is to have given back: 0 what it did, else a wrong record.
+fn third_record(kind: u32) -> Session {
+    let mut r = reads(3);
+    match kind {
+        0 => r.joined = r.joined,
+        1 => r.out = 1,
+        2 => return reads(2),
+        3 => r.joined = 9,
+        4 => r.held = 2,
+        _ => r.pairs[2] = pair(13, 2, 2),
+    }
+    r
+}
+
+fn third_read(name: &[u8], kind: u32, fault: u32) {
+    let m = sums();
+    let z = pair(0, 0, 0);
     let none = [z; 64];
-    records::read_fault(&f, &t, read_times(2), r, none, 0) == fault
+    let r = third_record(kind);
+    let found = play::record_fault(case(&m), &m, tables(), reads(2), r, READ, none);
+    line(name, found == fault);
 }
 
 fn wrong_records() {
-    let right = read_times(3);
-    line(b"a right record, no fault", third_read(right, 0));
-    let mut out = right;
-    out.out = 1;
-    line(
+    third_read(b"a right record, no fault", 0, 0);
+    third_read(
         b"a record with another count of pairs out",
-        third_read(out, judge::CHANGED),
+        1,
+        judge::CHANGED,
     );
-    line(
-        b"a read that reads nothing",
-        third_read(read_times(2), judge::BLOCK),
-    );
-    let mut joined = right;
-    joined.joined = 9;
-    line(b"another joined count", third_read(joined, judge::JOINED));
-    let mut lost = right;
-    lost.held = 2;
-    line(b"a held pair lost", third_read(lost, judge::HELD));
-    let mut passed = right;
-    let p = pair(13, 2, 2);
-    passed.pairs[2] = p;
-    line(
-        b"a better pair passed over",
-        third_read(passed, judge::HELD),
-    );
+    third_read(b"a read that reads nothing", 2, judge::BLOCK);
+    third_read(b"another joined count", 3, judge::JOINED);
+    third_read(b"a held pair lost", 4, judge::HELD);
+    third_read(b"a better pair passed over", 5, judge::HELD);
 }
 
-// How many of the 22 kinds of harm to a record are seen as a change.
+// How many kinds of harm to a record are seen as a change.
 fn harms_seen(s: Session) -> u32 {
     let mut n = 0;
     for kind in 0u32..22 {
-        n = std::num::wrapping_add_u32(n, !same::record(s, refused::harmed(s, kind)) as u32);
+        let fault = judge::differs(s, calls::harmed(s, kind));
+        n = wrapping_add_u32(n, (fault != 0) as u32);
     }
     n
 }
 
 // Whether this is taken for a call that was refused by 5 and changed nothing.
-fn passes(answer: Answer, s: Session, r: Session) -> bool {
-    let step = Step { answer, session: r };
-    refused::kept(step, s, 5) == 5
+fn passes(answer: Answer, kind: u32) -> bool {
+    let session = third_record(kind);
+    calls::kept(Step { answer, session }, reads(3), 5) == 5
 }
 
 fn wrong_refusals() {
-    let s = read_times(3);
-    line(
-        b"a right refusal, no fault",
-        passes(Answer::Refused(5), s, s),
-    );
-    line(
-        b"refused by another number",
-        !passes(Answer::Refused(4), s, s),
-    );
-    line(b"not refused", !passes(Answer::NotYet, s, s));
-    let mut r = s;
-    r.joined = 9;
+    line(b"a right refusal, no fault", passes(Answer::Refused(5), 0));
+    line(b"refused by another number", !passes(Answer::Refused(4), 0));
+    line(b"not refused", !passes(Answer::NotYet, 0));
     line(
         b"a record changed by a refused call",
-        !passes(Answer::Refused(5), s, r),
+        !passes(Answer::Refused(5), 3),
     );
-    line(
-        b"22 kinds of harm to a record, each a change",
-        harms_seen(s) == 22,
-    );
+    let seen = harms_seen(reads(3));
+    line(b"22 kinds of harm to a record, each a change", seen == 22);
 }
 
 pub fn all() {
-    line(b"a right list, no fault", finds(right(), 0));
+    finds(b"a right list, no fault", right(), 0);
     wrong_pairs();
     wrong_answers();
+    wrong_depth();
+    wrong_record();
     wrong_records();
     wrong_refusals();
 }

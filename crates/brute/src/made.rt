@@ -1,0 +1,82 @@
+// Tables and queries made from a seed: ties, plateaus, zero scores, empty tables, extreme shades.
+use crate::dice;
+use crate::plain::Table;
+use rules::Query;
+use std::num::wrapping_add_u32;
+
+// How scores and shades are spread.
+pub struct Spread {
+    pub top: u32,
+    // The most that a score falls from row to row.
+    pub fall: u32,
+    // Scores fall over the first three rows only.
+    pub plateau: bool,
+    // How many of the small shades there are beside the first.
+    pub shades: u32,
+    pub extreme: bool,
+}
+
+fn spread_of(seed: u64) -> Spread {
+    Spread {
+        top: dice::pick(seed, 1, [0, 1, 3, 8, 20, 60, 400, 9999]),
+        fall: dice::pick(seed, 2, [1, 1, 2, 2, 5, 5, 60, 1000]),
+        plateau: dice::one_in(seed, 3, 3),
+        shades: dice::pick(seed, 4, [0, 1, 3, 3, 5, 7, 9, 11]),
+        extreme: dice::one_in(seed, 5, 6),
+    }
+}
+
+pub fn query(seed: u64) -> Query {
+    Query {
+        k: dice::pick(seed, 6, [1, 2, 3, 4, 5, 8, 8, 64]),
+        block: dice::pick(seed, 7, [1, 1, 2, 2, 3, 4, 4, 1024]),
+        radius: dice::pick(seed, 8, [0, 1, 2, 5, 13, 40, 25500, 40000]),
+    }
+}
+
+const EXTREME: [i32; 5] = [-12800, 12700, -12800, 12700, 0];
+
+const SMALL: [i32; 12] = [0, 0, 1, -1, 2, -2, 3, 4, -5, 9, -13, 40];
+
+fn shade(seed: u64, place: u64, w: Spread) -> i32 {
+    if w.extreme {
+        return EXTREME[(dice::below(seed, place, 5) % 5) as usize];
+    }
+    let i = dice::below(seed, place, wrapping_add_u32(w.shades, 1));
+    SMALL[(i % 12) as usize]
+}
+
+// The score of row i + 1, after a row of score s.
+fn score(seed: u64, i: u32, w: Spread, s: u32) -> u32 {
+    if (i == 0) | (w.plateau & (2 < i)) {
+        return s;
+    }
+    let fall = dice::below(seed, i as u64, wrapping_add_u32(w.fall, 1));
+    if s < fall {
+        return 0;
+    }
+    s - fall
+}
+
+// Sets row i + 1.
+fn put_row(t: &mut Table, seed: u64, i: u32, w: Spread, s: u32) {
+    let place = (i % 12) as u64;
+    let n = dice::pick(seed, place + 100, [0, 0, 1, 2, 77, 500000, 999997, 999998]);
+    let at = (4 * (i % 12)) as usize;
+    t[at] = (n % 999999 + 1) as i32;
+    t[at + 1] = (s % 10000) as i32;
+    t[at + 2] = shade(seed, place + 200, w);
+    t[at + 3] = shade(seed, place + 300, w);
+}
+
+// A legal table of 12 rows.
+pub fn table(seed: u64) -> Table {
+    let w = spread_of(seed);
+    let mut t = [0i32; 52];
+    let mut s = w.top;
+    for i in 0u32..12 {
+        s = score(seed, i, w, s);
+        put_row(&mut t, seed, i, w, s);
+    }
+    t
+}
