@@ -74,10 +74,10 @@ enum furzeladle_answer {
 };
 
 /* Too short a slice (query, session, pair or place) is -11. It is looked at before anything else, because no record can
- * be seen then, and nothing is changed. Numbers behind those named here are never read or changed. */
+ * be seen then. A refused call changes nothing that is lent. Numbers behind those named here are never read or changed. */
 
-/* Opens a session: `query` is k, block and radius. Refused by 1, 2, 3, 4: the record becomes all zeros, which every read
- * and take refuses by 5. */
+/* Opens a session: `query` is k, block and radius. Refused by 1, 2, 3, 4: `session` is as it was, so that a record that
+ * stood there is not lost, and one that was never written holds whatever the caller put there. */
 int32_t furzeladle_open(const uint32_t *query, size_t query_len, const int32_t *f, size_t f_len, const int32_t *t,
                         size_t t_len, uint32_t *session, size_t session_len);
 
@@ -99,16 +99,17 @@ int32_t furzeladle_show(const int32_t *f, size_t f_len, const int32_t *t, size_t
  *
  * `query` is k, block and radius. From the front of `out`: field rows read, trim rows read, block pairs joined; then six
  * numbers a pair, best first: sum, field row, trim row (from 1), field pattern number, trim pattern number, squared
- * distance. The answer is how many pairs there are (0 to 64), or minus the refusal: 1, 2, 3, 4 at opening, 6 or 7 of a row
- * that was read, and last 11: fewer than 3 numbers of a query, or fewer than FURZELADLE_QUERY_SIZE lent. Refused, `out` is
- * as it was; accepted, so are the numbers behind the last pair. Rows that were not read were not looked at. */
+ * distance. The answer is how many pairs there are (0 to 64), or minus the refusal: first 11, fewer than 3 numbers of a
+ * query; 1, 2, 3, 4 at opening; 6 or 7 of a row that was read; and 11 for the place of the answer comes last, fewer than
+ * FURZELADLE_QUERY_SIZE lent. Refused, `out` is as it was; accepted, so are the numbers behind the last pair. Rows that
+ * were not read were not looked at. */
 enum { FURZELADLE_QUERY_SIZE = 387 };
 
 int32_t furzeladle_query(const uint32_t *query, size_t query_len, const int32_t *f, size_t f_len, const int32_t *t,
                          size_t t_len, uint64_t *out, size_t out_len);
 
-/* The same query, its listing as the pairing program prints it: how many bytes, or minus the refusal. 11 is fewer than
- * FURZELADLE_LISTING_SIZE bytes lent. */
+/* The same query, its listing as the pairing program prints it: how many bytes, or minus the refusal. 11 for the place of
+ * the answer, last, is fewer than FURZELADLE_LISTING_SIZE bytes lent. */
 enum { FURZELADLE_LISTING_SIZE = 2412 };
 
 int32_t furzeladle_listing(const uint32_t *query, size_t query_len, const int32_t *f, size_t f_len, const int32_t *t,

@@ -49,7 +49,8 @@ int main(void) {
     memset(out, 0xab, sizeof out);
     expect("room", ask(2, 1, 5, F, 20, out, FURZELADLE_QUERY_SIZE - 1), -FURZELADLE_SHORT_SLICE);
     expect("no radius", furzeladle_query(two, 2, F, 20, T, 20, out, FURZELADLE_QUERY_SIZE), -FURZELADLE_SHORT_SLICE);
-    expect("no block", furzeladle_query(two, 1, F, 20, T, 20, out, FURZELADLE_QUERY_SIZE), -FURZELADLE_BLOCK);
+    expect("no block", furzeladle_query(two, 1, F, 20, T, 20, out, FURZELADLE_QUERY_SIZE), -FURZELADLE_SHORT_SLICE);
+    expect("short query first", furzeladle_query(two, 2, F, 19, T, 20, out, 0), -FURZELADLE_SHORT_SLICE);
     for (int i = 0; i <= FURZELADLE_QUERY_SIZE; i++) expect("left alone", out[i] == fill, 1);
     expect("empty", ask(2, 1, 5, F, 0, out, FURZELADLE_QUERY_SIZE), 0);
 
@@ -59,6 +60,7 @@ int main(void) {
     const uint32_t q[3] = {2, 1, 5};
     memset(text, 'x', sizeof text);
     expect("text room", furzeladle_listing(q, 3, F, 20, T, 20, text, FURZELADLE_LISTING_SIZE - 1), -FURZELADLE_SHORT_SLICE);
+    expect("text query", furzeladle_listing(two, 2, F, 19, T, 20, text, FURZELADLE_LISTING_SIZE), -FURZELADLE_SHORT_SLICE);
     expect("text left alone", text[0], 'x');
     expect("listing", furzeladle_listing(q, 3, F, 20, T, 20, text, FURZELADLE_LISTING_SIZE), (long)strlen(listing));
     expect("text", memcmp(text, listing, strlen(listing)), 0);

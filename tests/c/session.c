@@ -54,7 +54,7 @@ static void worked(void)
     }
     expect_pair("no pair yet", pair, 7, 7, 7);
     expect("show", furzeladle_show(field, 20, trim, 20, s, SIZE, place, 3), FURZELADLE_DONE);
-    expect_pair("its rows", place, s[FURZELADLE_LAST], place[1], 1);
+    expect_pair("its row", place, 1, 3, 1);
     expect("first", takes(s, pair), FURZELADLE_GIVEN);
     expect_pair("first pair", pair, 140, 1, 2);
     expect("second not yet", takes(s, pair), FURZELADLE_NOT_YET);
@@ -109,12 +109,10 @@ static void damaged(void)
     table[5] = 91;
     refused("row order", good, table, 20, -FURZELADLE_ROW_ORDER);
 
-    for (i = 0; i < 3; i++) {
-        memcpy(s, good, sizeof s);
-        expect("bad query", furzeladle_open(bad_queries[i], 3, field, 20, trim, 20, s, SIZE), -(i + 1));
-        expect("zeros of it", memcmp(s, zeros, sizeof s), 0);
-    }
     memcpy(s, good, sizeof s);
+    for (i = 0; i < 3; i++)
+        expect("bad query", furzeladle_open(bad_queries[i], 3, field, 20, trim, 20, s, SIZE), -(i + 1));
+    expect("no whole row", furzeladle_open(query, 3, field, 19, trim, 20, s, SIZE), -FURZELADLE_TABLE_SIZE);
     expect("short query", furzeladle_open(query, 2, field, 20, trim, 20, s, SIZE), -FURZELADLE_SHORT_SLICE);
     expect("short session", furzeladle_open(query, 3, field, 20, trim, 20, s, SIZE - 1), -FURZELADLE_SHORT_SLICE);
     expect("short read", furzeladle_read(field, 20, trim, 20, s, SIZE - 1), -FURZELADLE_SHORT_SLICE);
@@ -124,9 +122,31 @@ static void damaged(void)
     expect_pair("nor the pair", pair, 7, 7, 7);
 }
 
+/* Refused openings over a live record: it stands, and its session goes on to the end. */
+static void survives(void)
+{
+    uint32_t s[SIZE], before[SIZE], pair[3];
+    const uint32_t bad_query[3] = {0, 1, 5};
+
+    furzeladle_open(query, 3, field, 20, trim, 20, s, SIZE);
+    while (reads(s) == FURZELADLE_DONE)
+        ;
+    memcpy(before, s, sizeof s);
+    expect("bad query", furzeladle_open(bad_query, 3, field, 20, trim, 20, s, SIZE), -FURZELADLE_LIST_LENGTH);
+    expect("bad table", furzeladle_open(query, 3, field, 20, trim, 18, s, SIZE), -FURZELADLE_TABLE_SIZE);
+    expect("record stands", memcmp(s, before, sizeof s), 0);
+    expect("goes on", takes(s, pair), FURZELADLE_GIVEN);
+    expect_pair("its first pair", pair, 140, 1, 2);
+    expect("and on", takes(s, pair), FURZELADLE_GIVEN);
+    expect("to the end", takes(s, pair), FURZELADLE_FINISHED);
+    expect("opened anew", furzeladle_open(query, 3, field, 20, trim, 20, s, SIZE), FURZELADLE_DONE);
+    expect("nothing read", s[FURZELADLE_FIELD_DEPTH], 0);
+}
+
 int main(void)
 {
     worked();
+    survives();
     damaged();
     if (failures == 0)
         printf("session.c: ok\n");

@@ -5,29 +5,24 @@ ghost use Rattle.whole_query.specs.Numbers.{lentQueryAnswer, lentQueryNumbers, 
 // `query` holds k, block and radius. From the front `out` gets the field rows read, the trim rows read, the block pairs
 // joined, then six numbers a pair: sum, field row, trim row, their pattern numbers, squared distance. The answer is how
 // many pairs there are, or minus the refusal's number; refused, no number of `out` changes. Fewer than 3 numbers of a
-// query, or fewer than 387 lent, is 11, after all other refusals.
+// query is 11, before anything else; fewer than 387 lent is 11, after all other refusals.
 #[no_mangle]
 pub extern "C" fn furzeladle_query(query: &[u32], f: &[i32], t: &[i32], out: &mut [u64]) -> i32
     ensures { λ r. ⌜ r ≡ lentQueryAnswer (now (query .entry)) (now (f .entry)) (now (t .entry)) (now (out .entry)) ⌝ }
-    ensures { λ _. ⌜ now (out .exit) ≡ lentQueryNumbers (now (query .entry)) (now (f .entry)) (now (t .entry)) (now (out .entry)) ⌝ }
+    ensures { λ _. ⌜ now (out .exit)
+        ≡ lentQueryNumbers (now (query .entry)) (now (f .entry)) (now (t .entry)) (now (out .entry)) ⌝ }
 {
-    let found = whole_query::whole(query, f, t, out);
-    if found.code != 0 {
-        return crate::minus(found.code);
-    }
-    found.count as i32
+    whole_query::whole(query, f, t, out)
 }
 
-// The same query, its listing as bytes at the front of `out`: how many, or minus the refusal's number; refused, no byte of
-// `out` changes. Fewer than 3 numbers of a query, or fewer than 2,412 bytes lent, is 11, after all other refusals.
+// The same query, its listing as bytes at the front of `out`: how many, or minus the refusal's number; refused, no byte
+// of `out` changes. Fewer than 3 numbers of a query is 11, before anything else; fewer than 2,412 bytes lent is 11,
+// after all other refusals.
 #[no_mangle]
 pub extern "C" fn furzeladle_listing(query: &[u32], f: &[i32], t: &[i32], out: &mut [u8]) -> i32
     ensures { λ r. ⌜ r ≡ lentListingAnswer (now (query .entry)) (now (f .entry)) (now (t .entry)) (now (out .entry)) ⌝ }
-    ensures { λ _. ⌜ now (out .exit) ≡ lentListingBytes (now (query .entry)) (now (f .entry)) (now (t .entry)) (now (out .entry)) ⌝ }
+    ensures { λ _. ⌜ now (out .exit)
+        ≡ lentListingBytes (now (query .entry)) (now (f .entry)) (now (t .entry)) (now (out .entry)) ⌝ }
 {
-    let found = whole_query::listed(query, f, t, out);
-    if found.code != 0 {
-        return crate::minus(found.code);
-    }
-    found.count as i32
+    whole_query::listed(query, f, t, out)
 }

@@ -1,2 +1,2 @@
-pub mod Until
-pub mod Inside
+pub mod Shown
+pub mod ListShown

@@ -9,7 +9,7 @@ use lib.ListN.{length, set, replicate, length-append, length-replicate, replicat
 use Rattle.rules.specs.File.{blank, lineFeed}
 use Rattle.rules.specs.declared.Query.{Query}
 use Rattle.rules.specs.declared.Session.{Session}
-use Rattle.rules.specs.Query.{decimal, queryLine, lastLine, refusalLine}
+use Rattle.rules.specs.Query.{decimal, inputLength, queryLine, lastLine, refusalLine}
 use Rattle.printing.specs.declared.Line.{Line}
 use Rattle.printing.specs.Put.{putAt, put-on, put-before}
 
@@ -79,18 +79,27 @@ then w at n b l = put-on at (decimal w n) b l ∙ ap (λ (m : ℕ). putAt (at + 
 
 -- ---- How long the lines are
 
-pub line-length : (x : Line) → length (lineBytes x) ≡ 37
+abbrev pub lineLength : ℕ
+lineLength = 37
+
+abbrev pub lastLength : ℕ
+lastLength = 25
+
+abbrev pub refusalLength : ℕ
+refusalLength = 7
+
+pub line-length : (x : Line) → length (lineBytes x) ≡ lineLength
 unfolding lineBytes
 line-length x = simp (length-append, decimal-length)
 
-pub query-length : (q : Query) → length (queryLine q) ≡ 19
+pub query-length : (q : Query) → length (queryLine q) ≡ inputLength
 unfolding queryLine
 query-length q = simp (length-append, decimal-length)
 
-pub last-length : (s : Session) → length (lastLine s) ≡ 25
+pub last-length : (s : Session) → length (lastLine s) ≡ lastLength
 unfolding lastLine
 last-length s = simp (length-append, decimal-length)
 
-pub refusal-length : (code : ℕ) → length (refusalLine code) ≡ 7
+pub refusal-length : (code : ℕ) → length (refusalLine code) ≡ refusalLength
 unfolding refusalLine
 refusal-length code = simp (length-append, decimal-length)

@@ -6,9 +6,18 @@ ghost use Prim.Native.Nat.{_+_, _≤_, _<_};
 ghost use mathlib.Core.List.{[], _∷_};
 ghost use lib.ListN.{length};
 ghost use Rattle.rules.specs.File.{lineFeed};
-ghost use Rattle.rules.specs.Query.{decimal, queryLine, lastLine, refusalLine};
+ghost use Rattle.rules.specs.Query.{decimal, inputLength, queryLine, lastLine, refusalLine};
 ghost use Rattle.printing.specs.Put.{putAt};
-ghost use Rattle.printing.specs.Lines.{lastColumn, lineBytes};
+ghost use Rattle.printing.specs.Lines.{lastColumn, lineBytes, lineLength, lastLength, refusalLength};
+
+// The bytes of each line: of a refusal; of a listing the first, a pair's and the last.
+pub const REFUSAL_LENGTH: usize = 7;
+
+pub const QUERY_LENGTH: usize = rules::INPUT_LENGTH;
+
+pub const LINE_LENGTH: usize = 37;
+
+pub const LAST_LENGTH: usize = 25;
 
 // The last column of what is left of a number: its last digit, or a blank once all are written.
 fn last_column(more: bool, n: u64) -> u8
@@ -44,18 +53,18 @@ fn put_feed(out: &mut [u8], at: usize)
     out[at] = b'\n';
 }
 
-// The line of a refusal, 7 bytes.
+// The line of a refusal.
 pub fn put_refusal(out: &mut [u8], at: usize, code: u32)
-    requires { ⌜ at + 7 ≤ length (now out) ⌝ }
+    requires { ⌜ at + refusalLength ≤ length (now out) ⌝ }
     ensures { λ _. ⌜ now (out .exit) ≡ putAt at (refusalLine code) (now (out .entry)) ⌝ }
 {
     put_number(out, at, 6, code as u64);
     put_feed(out, at + 6);
 }
 
-// The first line, 19 bytes: the query.
+// The first line: the query.
 pub fn put_query(out: &mut [u8], at: usize, q: Query)
-    requires { ⌜ at + 19 ≤ length (now out) ⌝ }
+    requires { ⌜ at + inputLength ≤ length (now out) ⌝ }
     ensures { λ _. ⌜ now (out .exit) ≡ putAt at (queryLine q) (now (out .entry)) ⌝ }
 {
     let b = at + 6;
@@ -76,9 +85,9 @@ pub struct Line {
     pub distance: u64,
 }
 
-// A pair's line, 37 bytes.
+// A pair's line.
 pub fn put_line(out: &mut [u8], at: usize, line: Line)
-    requires { ⌜ at + 37 ≤ length (now out) ⌝ }
+    requires { ⌜ at + lineLength ≤ length (now out) ⌝ }
     ensures { λ _. ⌜ now (out .exit) ≡ putAt at (lineBytes line) (now (out .entry)) ⌝ }
 {
     let b = at + 6;
@@ -94,9 +103,9 @@ pub fn put_line(out: &mut [u8], at: usize, line: Line)
     put_feed(out, end);
 }
 
-// The last line, 25 bytes: the rows read of each table, and the block pairs joined.
+// The last line: the rows read of each table, and the block pairs joined.
 pub fn put_last(out: &mut [u8], at: usize, s: Session)
-    requires { ⌜ at + 25 ≤ length (now out) ⌝ }
+    requires { ⌜ at + lastLength ≤ length (now out) ⌝ }
     ensures { λ _. ⌜ now (out .exit) ≡ putAt at (lastLine s) (now (out .entry)) ⌝ }
 {
     let b = at + 6;

@@ -1,35 +1,43 @@
 // The pairing program's answer: from the bytes of its two files and its input to the bytes that it prints.
-use rules::Answer;
 use rules::Loaded;
 use rules::Query;
 ghost use mathlib.Core.Path.{_≡_};
 ghost use mathlib.Core.List.{_++_};
-ghost use Prim.Native.Nat.{_≤_};
+ghost use Prim.Native.Nat.{_+_, _≤_};
 ghost use lib.ListN.{length, drop};
-ghost use Rattle.rules.specs.Numbers.{number};
-ghost use Rattle.rules.specs.File.{loadedInto, loadedCode};
-ghost use Rattle.rules.specs.Query.{refusalLine, wholeQuery};
-ghost use Rattle.program.specs.Program.{Written, programFile, inputHeld, answerBytes, inputBytes};
+ghost use Rattle.rules.specs.Numbers.{saidOf, refusal};
+ghost use Rattle.rules.specs.File.{loadedInto};
+ghost use Rattle.rules.specs.Query.{mostFileBytes, inputLength, refusalLine, wholeQuery};
+ghost use Rattle.printing.specs.Lines.{refusalLength};
+ghost use Rattle.listing.specs.Shown.{listingRoom};
+ghost use Rattle.program.specs.Program.{Written, tableRoom, programFile, inputHeld, answerBytes, inputBytes};
 
-const TABLE_SIZE: u32 = 4;
+// Room for a file's bytes, and for the input's: one more than is allowed, so that one too long is seen.
+pub const FILE_ROOM: usize = rules::MOST_FILE_BYTES + 1;
 
-const CUT_FILE: u32 = 8;
+pub const INPUT_ROOM: usize = rules::INPUT_LENGTH + 1;
 
-const BAD_COLUMN: u32 = 9;
-
-// The refusal's number that goes with an answer; 0 where none does.
-pub fn number_of(a: Answer) -> u32
-    ensures { λ r. ⌜ r ≡ number a ⌝ }
+pub fn file_room() -> usize
+    ensures { λ r. ⌜ r ≡ mostFileBytes + 1 ⌝ }
 {
-    match a {
-        Answer::Refused(n) => n,
-        _ => 0,
-    }
+    FILE_ROOM
 }
 
+pub fn input_room() -> usize
+    ensures { λ r. ⌜ r ≡ inputLength + 1 ⌝ }
+{
+    INPUT_ROOM
+}
+
+// Room for what is printed: the longest listing.
+pub const OUT_ROOM: usize = listing::ROOM;
+
+// The numbers of the longest table: 512 rows.
+const TABLE_ROOM: usize = 4 * ((rules::MOST_FILE_BYTES - rules::HEADER_BYTES) / rules::ROW_BYTES);
+
 // The refusal's number of a file; 0 where it is accepted.
-fn code_of(a: Loaded) -> u32
-    ensures { λ r. ⌜ r ≡ loadedCode a ⌝ }
+fn refusal(a: Loaded) -> u32
+    ensures { λ r. ⌜ r ≡ refusal (saidOf a) ⌝ }
 {
     match a {
         Loaded::Rows(_) => 0,
@@ -39,21 +47,21 @@ fn code_of(a: Loaded) -> u32
 
 // A refusal's line, at the front of `out`.
 fn refuse(out: &mut [u8], code: u32) -> usize
-    requires { ⌜ 7 ≤ length (now out) ⌝ }
+    requires { ⌜ refusalLength ≤ length (now out) ⌝ }
     ensures { λ r. ⌜ Written (refusalLine code) (now (out .entry)) (now (out .exit)) r ⌝ }
 {
     printing::put_refusal(out, 0, code);
-    7
+    printing::REFUSAL_LENGTH
 }
 
 // A table of at most 512 rows, from a file's bytes.
 fn load_table(bytes: &[u8], kind: i32, out: &mut [i32]) -> Loaded
-    requires { ⌜ 2048 ≤ length (now out) ⌝ }
+    requires { ⌜ tableRoom ≤ length (now out) ⌝ }
     ensures { λ r. ⌜ r ≡ programFile (now (bytes .entry)) kind ⌝ }
-    ensures { λ _. ⌜ now (out .exit) ≡ loadedInto (now (bytes .entry)) (now (out .entry)) (programFile (now (bytes .entry)) kind) ⌝ }
+    ensures { λ r. ⌜ now (out .exit) ≡ loadedInto (now (bytes .entry)) (now (out .entry)) r ⌝ }
 {
-    if !(bytes.len() <= 13837) {
-        return Loaded::Unfit(TABLE_SIZE, 0);
+    if !(bytes.len() <= rules::MOST_FILE_BYTES) {
+        return Loaded::Unfit(rules::TABLE_SIZE, 0);
     }
     file::load(bytes, kind, out)
 }
@@ -72,46 +80,44 @@ fn read_input(input: &[u8]) -> Input
         block: 0,
         radius: 0,
     };
-    if input.len() != 19 {
+    if input.len() != rules::INPUT_LENGTH {
         return Input {
-            code: CUT_FILE,
+            code: rules::CUT_FILE,
             query: none,
         };
     }
-    let k = file::column_at(input, 0, 6, false);
-    let block = file::column_at(input, 6, 6, false);
-    let radius = file::column_at(input, 12, 6, false);
+    let k = column::column_at(input, 0, 6, false);
+    let block = column::column_at(input, 6, 6, false);
+    let radius = column::column_at(input, 12, 6, false);
     if !(k.fits & (block.fits & (radius.fits & (input[18] == b'\n')))) {
         return Input {
-            code: BAD_COLUMN,
+            code: rules::BAD_COLUMN,
             query: none,
         };
     }
     let query = Query {
-        k: file::natural(k.number),
-        block: file::natural(block.number),
-        radius: file::natural(radius.number),
+        k: tables::natural(k.number),
+        block: tables::natural(block.number),
+        radius: tables::natural(radius.number),
     };
     Input { code: 0, query }
 }
 
 // The listing, or the refusal of the opening.
 fn put_answer(out: &mut [u8], q: Query, f: &[i32], t: &[i32]) -> usize
-    requires { ⌜ 2412 ≤ length (now out) ⌝ }
+    requires { ⌜ listingRoom ≤ length (now out) ⌝ }
     ensures { λ r. ⌜ Written (answerBytes q (now (f .entry)) (now (t .entry))) (now (out .entry)) (now (out .exit)) r ⌝ }
 {
-    let opening = session::start(q, f, t);
-    let answer = opening.answer;
-    let code = number_of(answer);
-    if code != 0 {
-        return refuse(out, code);
+    let run = run_query::run(q, f, t);
+    if run.opening != 0 {
+        return refuse(out, run.opening);
     }
-    listing::put_listing(out, q, f, t)
+    listing::put_listing(out, f, t, run)
 }
 
 // The same of the query that the input asks for.
 fn put_asked(out: &mut [u8], input: &[u8], f: &[i32], t: &[i32]) -> usize
-    requires { ⌜ 2412 ≤ length (now out) ⌝ }
+    requires { ⌜ listingRoom ≤ length (now out) ⌝ }
     ensures { λ r. ⌜ Written (inputBytes (now (input .entry)) (now (f .entry)) (now (t .entry))) (now (out .entry)) (now (out .exit)) r ⌝ }
 {
     let asked = read_input(input);
@@ -121,30 +127,30 @@ fn put_asked(out: &mut [u8], input: &[u8], f: &[i32], t: &[i32]) -> usize
     put_answer(out, asked.query, f, t)
 }
 
-// What the program prints, at the front of `out`: how many bytes it is. The rest of `out` stays as it was.
+// What the program prints, at the front of `out`: how many bytes it is.
 fn put_whole(out: &mut [u8], field: &[u8], trim: &[u8], input: &[u8]) -> usize
-    requires { ⌜ 2412 ≤ length (now out) ⌝ }
-    ensures { λ r. ⌜ (r ≤ 2412) × (r ≡ length (wholeQuery (now (field .entry)) (now (trim .entry)) (now (input .entry)))) ⌝ }
-    ensures { λ r. ⌜ now (out .exit) ≡ wholeQuery (now (field .entry)) (now (trim .entry)) (now (input .entry)) ++ drop r (now (out .entry)) ⌝ }
+    requires { ⌜ listingRoom ≤ length (now out) ⌝ }
+    ensures { λ r. ⌜ Written (wholeQuery (now (field .entry)) (now (trim .entry)) (now (input .entry))) (now (out .entry)) (now (out .exit)) r ⌝ }
 {
-    let mut f = [0i32; 2048];
+    let mut f = [0i32; TABLE_ROOM];
     let a = load_table(field, 1, &mut f);
     let Loaded::Rows(m) = a else {
-        return refuse(out, code_of(a));
+        return refuse(out, refusal(a));
     };
-    let mut t = [0i32; 2048];
+    let mut t = [0i32; TABLE_ROOM];
     let b = load_table(trim, 2, &mut t);
     let Loaded::Rows(n) = b else {
-        return refuse(out, code_of(b));
+        return refuse(out, refusal(b));
     };
     let e = 4 * (m as usize);
     let g = 4 * (n as usize);
     put_asked(out, input, &f[..e], &t[..g])
 }
 
-// What the program prints, at the front of a place for the longest listing: how many bytes it is.
-pub fn whole_query(field: &[u8], trim: &[u8], input: &[u8], out: &mut [u8; 2412]) -> usize
-    ensures { λ r. ⌜ (r ≤ 2412) × (r ≡ length (wholeQuery (now (field .entry)) (now (trim .entry)) (now (input .entry)))) ⌝ }
+// What the program prints, at the front of a place for the longest listing: how many bytes it is. The rest of the place
+// stays as it was.
+pub fn whole_query(field: &[u8], trim: &[u8], input: &[u8], out: &mut [u8; OUT_ROOM]) -> usize
+    ensures { λ r. ⌜ (r ≤ listingRoom) × (r ≡ length (wholeQuery (now (field .entry)) (now (trim .entry)) (now (input .entry)))) ⌝ }
     ensures { λ r. ⌜ now (out .exit) ≡ wholeQuery (now (field .entry)) (now (trim .entry)) (now (input .entry)) ++ drop r (now (out .entry)) ⌝ }
 {
     put_whole(out, field, trim, input)

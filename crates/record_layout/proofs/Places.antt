@@ -11,7 +11,7 @@ use Rattle.lists.specs.Appends.{each-append}
 use Rattle.lists.specs.Parts.{length-map-range}
 use Rattle.rules.specs.declared.Pair.{Pair}
 use Rattle.rules.specs.Session.{noPair}
-use Rattle.record_layout.specs.Flat.{flatPair, pairIn, pairsIn}
+use Rattle.record_layout.specs.Flat.{pairsAt, pairSize, pairAt, flatPair, pairIn, pairsIn}
 use Rattle.record_layout.specs.RoundTrip.{pairs-end}
 
 pub plus-1 : (n : ℕ) → n + 1 ≡ suc n
@@ -19,9 +19,6 @@ plus-1 n = omega arith
 
 pub plus-2 : (n : ℕ) → n + 2 ≡ suc (suc n)
 plus-2 n = omega arith
-
-pub plus-3 : (n : ℕ) → n + 3 ≡ suc (suc (suc n))
-plus-3 n = omega arith
 
 -- m numbers laid behind n that already stand in front of l
 module _ {A : Type 0} (xs vs l : List A) (n m : ℕ) (h : length xs ≡ n) where
@@ -37,40 +34,50 @@ module _ (l : List ℕ) where
   unfolding pairsIn
   pairs-length n = length-map-range (pairIn l) 0 n
 
-  pub one-in : (a : List Pair) (i : ℕ) → i < length a → set (pairsIn l i ++ drop i a) i (pairIn l i) ≡ pairsIn l (i + 1) ++ drop (i + 1) a
+  pub one-in : (a : List Pair) (i : ℕ) → i < length a
+      → set (pairsIn l i ++ drop i a) i (pairIn l i) ≡ pairsIn l (i + 1) ++ drop (i + 1) a
   one-in a i h =
       ap (λ (r : List Pair). set (pairsIn l i ++ r) i (pairIn l i)) (drop-cons a i noPair h)
       ∙ set-at (pairsIn l i) (getD a i noPair) (drop (suc i) a) (pairIn l i) i (pairs-length i)
       ∙ sym (append-snoc (pairsIn l i) (pairIn l i) (drop (suc i) a))
       ∙ rw (add-one, pairs-end l i)
 
-pub flat-length : (a : List Pair) → length (each flatPair a) ≡ 3 * length a
+pub flat-length : (a : List Pair) → length (each flatPair a) ≡ pairSize * length a
 unfolding each flatPair
 flat-length [] = refl
 flat-length (p ∷ a) = let h = flat-length a in omega arith
 
--- after i pairs: those laid down behind the first 12 numbers, and what stood behind them
+-- after i pairs: those laid down behind the numbers in front, and what stood behind them
 abbrev pub laid : List ℕ → List Pair → ℕ → List ℕ
-laid l a i = take 12 l ++ each flatPair (take i a) ++ drop (12 + 3 * i) l
+laid l a i = take pairsAt l ++ each flatPair (take i a) ++ drop (pairAt i) l
 
 pub none-laid : (l : List ℕ) (a : List Pair) → l ≡ laid l a 0
 unfolding each
-none-laid l a = sym (ap (λ (r : List ℕ). r ++ drop 12 l) (append-nil (take 12 l)) ∙ take-append-drop 12 l)
+none-laid l a =
+    sym (ap (λ (r : List ℕ). r ++ drop pairsAt l) (append-nil (take pairsAt l)) ∙ take-append-drop pairsAt l)
 
-module _ (l : List ℕ) (a : List Pair) (long : 12 ≤ length l) where
-  flat-end : (i : ℕ) → i < length a → each flatPair (take (suc i) a) ≡ each flatPair (take i a) ++ flatPair (getD a i noPair)
+module _ (l : List ℕ) (a : List Pair) (long : pairsAt ≤ length l) where
+  flat-end : (i : ℕ) → i < length a
+      → each flatPair (take (suc i) a) ≡ each flatPair (take i a) ++ flatPair (getD a i noPair)
   unfolding each flatPair
   flat-end i h =
       ap (each flatPair) (take-suc a i noPair h) ∙ each-append flatPair (take i a) (getD a i noPair ∷ [])
 
-  front : (i : ℕ) → i ≤ length a → length (take 12 l ++ each flatPair (take i a)) ≡ 12 + 3 * i
+  front : (i : ℕ) → i ≤ length a → length (take pairsAt l ++ each flatPair (take i a)) ≡ pairAt i
   front i h =
-      omega
-      (arith, length-append (take 12 l) (each flatPair (take i a)), length-take-le 12 l long, flat-length (take i a), length-take-le i a h)
+      let both = length-append (take pairsAt l) (each flatPair (take i a)) in
+      omega (arith, both, length-take-le pairsAt l long, flat-length (take i a), length-take-le i a h)
 
   pub one-out : (i : ℕ) → i < length a
-      → take (12 + 3 * i) (laid l a i) ++ flatPair (getD a i noPair) ++ drop (12 + 3 * i + 3) (laid l a i) ≡ laid l a (i + 1)
+      → take (pairAt i) (laid l a i) ++ flatPair (getD a i noPair) ++ drop (pairAt i + pairSize) (laid l a i)
+      ≡ laid l a (i + 1)
   one-out i h =
-      let k : 12 + 3 * suc i ≡ 12 + 3 * i + 3 = omega arith in
-      onto (take 12 l ++ each flatPair (take i a)) (flatPair (getD a i noPair)) l (12 + 3 * i) 3 (front i (omega arith))
-      ∙ simp (add-one, flat-end i h, k, append-assoc)
+      let k : pairAt (suc i) ≡ pairAt i + pairSize = omega arith in
+      let head = take pairsAt l in
+      let done = each flatPair (take i a) in
+      let p = flatPair (getD a i noPair) in
+      let rest = drop (pairAt i + pairSize) l in
+      onto (head ++ done) p l (pairAt i) pairSize (front i (omega arith))
+      ∙ ap (λ (r : List ℕ). r ++ rest) (append-assoc head done p ∙ sym (ap (λ (r : List ℕ). head ++ r) (flat-end i h)))
+      ∙ sym (ap (λ (m : ℕ). head ++ each flatPair (take (suc i) a) ++ drop m l) k)
+      ∙ sym (ap (laid l a) (plus-1 i))

@@ -2,22 +2,84 @@
 -- Assumes nothing.
 use Prim.Native.Nat.{ℕ, _+_, _*_, _/_, _%_}
 use mathlib.Core.List.{List, [], _∷_, _++_, map}
-use lib.ListN.{getD}
+use lib.ListN.{length, getD, take, drop}
 use Rattle.lists.specs.Lists.{range, each}
 use Rattle.rules.specs.declared.Pair.{Pair}
 use Rattle.rules.specs.declared.Query.{Query}
 use Rattle.rules.specs.declared.Session.{Session}
+use Rattle.rules.specs.declared.Answer.the-variants.{Given}
+use Rattle.rules.specs.Session.{placeCount}
+use Rattle.rules.specs.Numbers.{said}
 
--- how many numbers a record is: 12, and three for each of its 64 pair places
+-- Where a record's numbers stand: first the query's three
+abbrev pub kAt : ℕ
+kAt = 0
+
+abbrev pub blockAt : ℕ
+blockAt = 1
+
+abbrev pub radiusAt : ℕ
+radiusAt = 2
+
+abbrev pub fieldRowsAt : ℕ
+fieldRowsAt = 3
+
+abbrev pub trimRowsAt : ℕ
+trimRowsAt = 4
+
+abbrev pub fieldDepthAt : ℕ
+fieldDepthAt = 5
+
+abbrev pub trimDepthAt : ℕ
+trimDepthAt = 6
+
+abbrev pub lastAt : ℕ
+lastAt = 7
+
+abbrev pub outAt : ℕ
+outAt = 8
+
+abbrev pub heldAt : ℕ
+heldAt = 9
+
+-- block pairs joined: its low 32 bits, and the rest
+abbrev pub joinedAt : ℕ
+joinedAt = 10
+
+abbrev pub joinedHighAt : ℕ
+joinedHighAt = 11
+
+-- the pair places
+abbrev pub pairsAt : ℕ
+pairsAt = 12
+
+-- how many numbers a query is
+abbrev pub querySize : ℕ
+querySize = 3
+
+-- a pair: sum, field row, trim row
+abbrev pub pairSize : ℕ
+pairSize = 3
+
+-- pair place i + 1
+abbrev pub pairAt : ℕ → ℕ
+pairAt i = pairsAt + pairSize * i
+
+-- a record: 204
 abbrev pub flatSize : ℕ
-flatSize = 204
+flatSize = pairAt placeCount
 
 -- the first number above 32 bits
 abbrev pub word : ℕ
 word = 4294967296
 
+-- numbers laid over a list from place o on, the rest untouched
+abbrev pub laidAt : ℕ → List ℕ → List ℕ → List ℕ
+laidAt o vs l = take o l ++ vs ++ drop (o + length vs) l
+
+-- a pair's numbers are the values that go with it in an answer
 unfoldable pub flatPair : Pair → List ℕ
-flatPair p = p .sum ∷ p .field ∷ p .trim ∷ []
+flatPair p = said (Given p) .values
 
 -- the numbers in front of the pair places; joined stands last of them, its low 32 bits first
 unfoldable pub flatHead : Session → List ℕ
@@ -39,12 +101,17 @@ flatHead s =
 unfoldable pub flatten : Session → List ℕ
 flatten s = flatHead s ++ each flatPair (s .pairs)
 
+-- a record laid out at the front of a lent slice, the rest untouched
+abbrev pub laidIn : List ℕ → Session → List ℕ
+laidIn l s = flatten s ++ drop flatSize l
+
 -- The way back: number i, of a query and of a record
 unfoldable pub queryIn : List ℕ → Query
-queryIn l = record { k = getD l 0 0; block = getD l 1 0; radius = getD l 2 0 }
+queryIn l = record { k = getD l kAt 0; block = getD l blockAt 0; radius = getD l radiusAt 0 }
 
 unfoldable pub pairIn : List ℕ → ℕ → Pair
-pairIn l i = record { sum = getD l (12 + 3 * i) 0; field = getD l (13 + 3 * i) 0; trim = getD l (14 + 3 * i) 0 }
+pairIn l i =
+    record { sum = getD l (pairAt i) 0; field = getD l (pairAt i + 1) 0; trim = getD l (pairAt i + 2) 0 }
 
 -- the first n pair places
 unfoldable pub pairsIn : List ℕ → ℕ → List Pair
@@ -55,14 +122,14 @@ unfoldable pub withPairs : List ℕ → List Pair → Session
 withPairs l pairs =
     record {
       query = queryIn l;
-      rows = record { field = record { 0 = getD l 3 0 }; trim = record { 0 = getD l 4 0 } };
-      depth = record { field = record { 0 = getD l 5 0 }; trim = record { 0 = getD l 6 0 } };
-      last = getD l 7 0;
-      out = getD l 8 0;
-      held = getD l 9 0;
+      rows = record { field = record { 0 = getD l fieldRowsAt 0 }; trim = record { 0 = getD l trimRowsAt 0 } };
+      depth = record { field = record { 0 = getD l fieldDepthAt 0 }; trim = record { 0 = getD l trimDepthAt 0 } };
+      last = getD l lastAt 0;
+      out = getD l outAt 0;
+      held = getD l heldAt 0;
       pairs = pairs;
-      joined = getD l 10 0 + getD l 11 0 * word;
+      joined = getD l joinedAt 0 + getD l joinedHighAt 0 * word;
     }
 
 unfoldable pub unflatten : List ℕ → Session
-unflatten l = withPairs l (pairsIn l 64)
+unflatten l = withPairs l (pairsIn l placeCount)

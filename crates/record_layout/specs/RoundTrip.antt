@@ -10,8 +10,9 @@ use Rattle.lists.specs.Lists.{each, range}
 use Rattle.lists.specs.Appends.{each-append, range-end}
 use Rattle.rules.specs.declared.Pair.{Pair}
 use Rattle.rules.specs.declared.Session.{Session}
-use Rattle.rules.specs.Session.{noPair}
-use Rattle.record_layout.specs.Flat.{flatSize, word, flatPair, flatHead, flatten, queryIn, pairIn, pairsIn, withPairs, unflatten}
+use Rattle.rules.specs.Session.{noPair, placeCount}
+use Rattle.record_layout.specs.Flat.{joinedAt, joinedHighAt, pairsAt, pairSize, pairAt, flatSize, word}
+use Rattle.record_layout.specs.Flat.{flatPair, flatHead, flatten, queryIn, pairIn, pairsIn, withPairs, unflatten}
 
 zero-add : (n : ℕ) → 0 + n ≡ n
 zero-add n = omega arith
@@ -20,12 +21,13 @@ zero-add n = omega arith
 abbrev three : List ℕ → ℕ → Pair
 three l n = record { sum = getD l n 0; field = getD l (suc n) 0; trim = getD l (suc (suc n)) 0 }
 
-three-at : (a : List Pair) (rest : List ℕ) (i : ℕ) → i < length a → three (each flatPair a ++ rest) (3 * i) ≡ getD a i noPair
+three-at : (a : List Pair) (rest : List ℕ) (i : ℕ) → i < length a
+    → three (each flatPair a ++ rest) (pairSize * i) ≡ getD a i noPair
 unfolding each flatPair
 three-at [] rest i h = absurd (omega arith)
 three-at (p ∷ a) rest zero h = refl
 three-at (p ∷ a) rest (suc i) h =
-    let x : 3 * suc i ≡ suc (suc (suc (3 * i))) = omega arith in
+    let x : pairSize * suc i ≡ suc (suc (suc (pairSize * i))) = omega arith in
     ap (three (each flatPair (p ∷ a) ++ rest)) x ∙ three-at a rest i (omega arith)
 
 module _ (l : List ℕ) where
@@ -41,16 +43,17 @@ module _ (s : Session) (rest : List ℕ) where
   abbrev behind : List ℕ
   behind = each flatPair (s .pairs) ++ rest
 
-  number-at : (n : ℕ) → getD (flatHead s ++ behind) (12 + n) 0 ≡ getD behind n 0
+  number-at : (n : ℕ) → getD (flatHead s ++ behind) (pairsAt + n) 0 ≡ getD behind n 0
   unfolding flatHead
   number-at n = getD-append-add (flatHead s) behind n 0
 
   pair-back : (i : ℕ) → i < length (s .pairs) → pairIn (flatHead s ++ behind) i ≡ getD (s .pairs) i noPair
   unfolding pairIn
   pair-back i h =
-      let x : 13 + 3 * i ≡ 12 + suc (3 * i) = omega arith in
-      let y : 14 + 3 * i ≡ 12 + suc (suc (3 * i)) = omega arith in
-      simp (x, y, number-at (3 * i), number-at (suc (3 * i)), number-at (suc (suc (3 * i)))) (three-at (s .pairs) rest i h)
+      let x : pairAt i + 1 ≡ pairsAt + suc (pairSize * i) = omega arith in
+      let y : pairAt i + 2 ≡ pairsAt + suc (suc (pairSize * i)) = omega arith in
+      let n = pairSize * i in
+      simp (x, y, number-at n, number-at (suc n), number-at (suc (suc n))) (three-at (s .pairs) rest i h)
 
   pairs-back : (n : ℕ) → n ≤ length (s .pairs) → pairsIn (flatHead s ++ behind) n ≡ take n (s .pairs)
   unfolding pairsIn range
@@ -62,11 +65,12 @@ module _ (s : Session) (rest : List ℕ) where
       ∙ ap (λ (a : List Pair). a ++ getD (s .pairs) n noPair ∷ []) back
       ∙ sym (take-suc (s .pairs) n noPair (omega arith))
 
-  pub back : length (s .pairs) ≡ 64 → unflatten (flatten s ++ rest) ≡ s
+  pub back : length (s .pairs) ≡ placeCount → unflatten (flatten s ++ rest) ≡ s
   unfolding flatten flatHead unflatten withPairs queryIn
   back h =
-      let pairs = pairs-back 64 (omega arith) ∙ take-all 64 (s .pairs) (omega arith) in
-      let joined : s .joined % word + s .joined / word * word ≡ s .joined = omega (arith, div-add-mod' (s .joined) word) in
+      let pairs = pairs-back placeCount (omega arith) ∙ take-all placeCount (s .pairs) (omega arith) in
+      let n = s .joined in
+      let joined : n % word + n / word * word ≡ n = omega (arith, div-add-mod' n word) in
       λ i.
       record {
         query = s .query;
@@ -85,43 +89,58 @@ module _ (l : List ℕ) (long : flatSize ≤ length l) where
   one-from : (n j : ℕ) → j < length l → take (suc n) (drop j l) ≡ getD l j 0 ∷ take n (drop (suc j) l)
   one-from n j h = ap (take (suc n)) (drop-cons l j 0 h)
 
-  pair-forth : (n : ℕ) → n < 64 → take 3 (drop (3 * n) (drop 12 l)) ≡ flatPair (pairIn l n)
+  pair-forth : (n : ℕ) → n < placeCount → take pairSize (drop (pairSize * n) (drop pairsAt l)) ≡ flatPair (pairIn l n)
   unfolding flatPair pairIn
   pair-forth n h =
-      let j = 12 + 3 * n in
-      let x : 13 + 3 * n ≡ suc j = omega arith in
-      let y : 14 + 3 * n ≡ suc (suc j) = omega arith in
-      ap (take 3) (drop-drop (3 * n) 12 l)
+      let j = pairAt n in
+      let x : pairAt n + 1 ≡ suc j = omega arith in
+      let y : pairAt n + 2 ≡ suc (suc j) = omega arith in
+      ap (take pairSize) (drop-drop (pairSize * n) pairsAt l)
       ∙ one-from 2 j (omega arith)
       ∙ ap (λ (r : List ℕ). getD l j 0 ∷ r) (one-from 1 (suc j) (omega arith))
       ∙ ap (λ (r : List ℕ). getD l j 0 ∷ getD l (suc j) 0 ∷ r) (one-from 0 (suc (suc j)) (omega arith))
       ∙ rw (x, y)
 
-  pairs-forth : (n : ℕ) → n ≤ 64 → each flatPair (pairsIn l n) ≡ take (3 * n) (drop 12 l)
+  pairs-forth : (n : ℕ) → n ≤ placeCount → each flatPair (pairsIn l n) ≡ take (pairSize * n) (drop pairsAt l)
   unfolding each flatPair pairsIn range
   pairs-forth zero h = refl
   pairs-forth (suc n) h =
       let forth = pairs-forth n (omega arith) in
-      let k : 3 * suc n ≡ 3 * n + 3 = omega arith in
+      let k : pairSize * suc n ≡ pairSize * n + pairSize = omega arith in
       ap (each flatPair) (pairs-end l n)
       ∙ each-append flatPair (pairsIn l n) (pairIn l n ∷ [])
       ∙ ap (λ (r : List ℕ). r ++ flatPair (pairIn l n)) forth
-      ∙ ap (λ (r : List ℕ). take (3 * n) (drop 12 l) ++ r) (sym (pair-forth n (omega arith)))
-      ∙ sym (take-add (3 * n) 3 (drop 12 l))
-      ∙ ap (λ (m : ℕ). take m (drop 12 l)) (sym k)
+      ∙ ap (λ (r : List ℕ). take (pairSize * n) (drop pairsAt l) ++ r) (sym (pair-forth n (omega arith)))
+      ∙ sym (take-add (pairSize * n) pairSize (drop pairsAt l))
+      ∙ ap (λ (m : ℕ). take m (drop pairsAt l)) (sym k)
 
-  head-forth : getD l 10 0 < word → flatHead (unflatten l) ≡ take 12 l
+  head-forth : getD l joinedAt 0 < word → flatHead (unflatten l) ≡ take pairsAt l
   unfolding flatHead unflatten withPairs queryIn
   head-forth h =
-      simp
-      (add-mul-mod-self-right (getD l 10 0) (getD l 11 0) word, mod-eq-of-lt h, add-mul-div-right (getD l 10 0) (getD l 11 0) {z = word} (omega arith), div-eq-of-lt h, zero-add (getD l 11 0))
-      (rw (one-from 11 0 (omega arith), one-from 10 1 (omega arith), one-from 9 2 (omega arith), one-from 8 3 (omega arith), one-from 7 4 (omega arith), one-from 6 5 (omega arith), one-from 5 6 (omega arith), one-from 4 7 (omega arith), one-from 3 8 (omega arith), one-from 2 9 (omega arith), one-from 1 10 (omega arith), one-from 0 11 (omega arith)))
+      let low = getD l joinedAt 0 in
+      let high = getD l joinedHighAt 0 in
+      let shift = add-mul-div-right low high {z = word} (omega arith) in
+      simp (add-mul-mod-self-right low high word, mod-eq-of-lt h, shift, div-eq-of-lt h, zero-add high)
+      (rw (
+        one-from 11 0 (omega arith),
+        one-from 10 1 (omega arith),
+        one-from 9 2 (omega arith),
+        one-from 8 3 (omega arith),
+        one-from 7 4 (omega arith),
+        one-from 6 5 (omega arith),
+        one-from 5 6 (omega arith),
+        one-from 4 7 (omega arith),
+        one-from 3 8 (omega arith),
+        one-from 2 9 (omega arith),
+        one-from 1 10 (omega arith),
+        one-from 0 11 (omega arith),
+      ))
 
   -- the record that stands in a lent slice, laid out in it, changes no number
-  pub forth : getD l 10 0 < word → flatten (unflatten l) ++ drop flatSize l ≡ l
+  pub forth : getD l joinedAt 0 < word → flatten (unflatten l) ++ drop flatSize l ≡ l
   unfolding flatten unflatten withPairs
   forth h =
-      ap (λ (r : List ℕ). r ++ each flatPair (pairsIn l 64) ++ drop flatSize l) (head-forth h)
-      ∙ ap (λ (r : List ℕ). take 12 l ++ r ++ drop flatSize l) (pairs-forth 64 (omega arith))
-      ∙ ap (λ (r : List ℕ). r ++ drop flatSize l) (sym (take-add 12 192 l))
+      ap (λ (r : List ℕ). r ++ each flatPair (pairsIn l placeCount) ++ drop flatSize l) (head-forth h)
+      ∙ ap (λ (r : List ℕ). take pairsAt l ++ r ++ drop flatSize l) (pairs-forth placeCount (omega arith))
+      ∙ ap (λ (r : List ℕ). r ++ drop flatSize l) (sym (take-add pairsAt (pairSize * placeCount) l))
       ∙ take-append-drop flatSize l

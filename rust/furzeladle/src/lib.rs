@@ -199,8 +199,14 @@ pub struct Session {
 impl Session {
     /// Opens a session over two tables. Refused by 1, 2, 3 or 4.
     pub fn open(query: Query, field: &[i32], trim: &[i32]) -> Result<Session, Refusal> {
+        let mut session = Session::from_record([0; RECORD_SIZE]);
+        session.reopen(query, field, trim)?;
+        Ok(session)
+    }
+
+    /// Opens it anew, over these tables. Refused by 1, 2, 3 or 4: the session is as it was.
+    pub fn reopen(&mut self, query: Query, field: &[i32], trim: &[i32]) -> Result<(), Refusal> {
         let numbers = [query.k, query.block, query.radius];
-        let mut record = [0; RECORD_SIZE];
         let answer = unsafe {
             exported::furzeladle_open(
                 numbers.as_ptr(),
@@ -209,12 +215,12 @@ impl Session {
                 field.len(),
                 trim.as_ptr(),
                 trim.len(),
-                record.as_mut_ptr(),
-                record.len(),
+                self.record.as_mut_ptr(),
+                self.record.len(),
             )
         };
         match answer {
-            0 => Ok(Session { record }),
+            0 => Ok(()),
             _ => Err(Refusal::of(answer)),
         }
     }

@@ -1,5 +1,5 @@
 //! The session beside the model of document 01 and the plain double loop, over seeded tables and random calls.
-use furzeladle::{Pair, Progress, Query, Refusal, Session, Table, Taken};
+use furzeladle::{Pair, Progress, Query, Refusal, Session, Table, Taken, RECORD_SIZE};
 use furzeladle_tests::cases::{query, table, Dice, Spread};
 use furzeladle_tests::judge::{self, Fault, Tables};
 use furzeladle_tests::model::{self, Record, Said};
@@ -214,10 +214,17 @@ fn openings() {
         let query = Query { k: numbers[0], block: numbers[1], radius: numbers[2] };
         let lent = &field[..dice.below(9) as usize];
         let (said, record) = model::open(query, lent, &field);
+        let stood = [dice.below(1_000); RECORD_SIZE];
+        let mut again = Session::from_record(stood);
+        assert_eq!(again.reopen(query, lent, &field).err(), Session::open(query, lent, &field).err());
         match Session::open(query, lent, &field) {
-            Ok(session) => assert_eq!((said, session.record().to_vec()), (Said::Opened, record.flat())),
+            Ok(session) => {
+                assert_eq!((said, session.record().to_vec()), (Said::Opened, record.flat()));
+                assert_eq!(again, session);
+            }
             Err(refusal) => {
                 assert_eq!((said, record.flat()), (Said::Refused(refusal.number), vec![0; 204]));
+                assert_eq!(again.record(), &stood);
                 *refusals.entry(refusal.number).or_insert(0) += 1;
             }
         }
@@ -365,4 +372,24 @@ fn the_worked_query() {
     assert_eq!(s.take(&field, &trim), Ok(Taken::Given(Pair { sum: 110, field: 2, trim: 3 })));
     assert_eq!(s.take(&field, &trim), Ok(Taken::Finished));
     assert_eq!((s.depths(), s.joined()), ((4, 4), 10));
+}
+
+/// Openings that are refused in the middle of a session: it goes on as if they had not been called.
+#[test]
+fn a_live_record_survives_a_refused_opening() {
+    let field = [101, 90, 0, 0, 102, 80, 100, 0, 103, 60, 0, 300, 104, 40, 500, 500, 105, 10, 0, 0];
+    let trim = [201, 70, 400, 0, 202, 50, 3, 4, 203, 30, 100, 5, 204, 20, 0, 300, 205, 15, 500, 500];
+    let query = Query { k: 2, block: 1, radius: 5 };
+    let mut s = Session::open(query, &field, &trim).unwrap();
+    while s.read(&field, &trim).unwrap() == Progress::Read {}
+    let before = s.clone();
+    let refused = |number| Err(Refusal { number, row: 0 });
+    assert_eq!(s.reopen(Query { k: 0, ..query }, &field, &trim), refused(1));
+    assert_eq!(s.reopen(Query { block: 0, ..query }, &field, &trim), refused(2));
+    assert_eq!(s.reopen(Query { radius: 40_001, ..query }, &field, &trim), refused(3));
+    assert_eq!(s.reopen(query, &field[..19], &trim), refused(4));
+    assert_eq!(s, before);
+    assert_eq!(s.take(&field, &trim), Ok(Taken::Given(Pair { sum: 140, field: 1, trim: 2 })));
+    assert_eq!(s.reopen(query, &field, &trim), Ok(()));
+    assert_eq!(s.depths(), (0, 0));
 }

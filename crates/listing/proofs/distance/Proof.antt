@@ -1,8 +1,9 @@
--- `distance` meets its contract: the squared distance of rows inside their ranges is no more than 64 bits hold. Assumes nothing.
+-- `distance` meets its contract: what 64 bits hold is not cut. Assumes nothing.
 use mathlib.Core.Path.{_≡_}
 use Prim.Native.Nat.{_-_, _<_, _^_, min}
 use native.Mathlib.Omega.{arith}
 use Rattle.rules.specs.Tables.{row, squaredDistance}
+use Rattle.listing.specs.Shown.{lineOf}
 use borrow.Author.Needs.{needs}
 use Rattle.listing.proofs.distance.Statement.{statement}
 use Rattle.listing.proofs.distance.Tie as tie
@@ -29,11 +30,14 @@ squared-distance-requires : tie.Need-squared-distance-requires
 squared-distance-requires c κs = search needs
 
 returns : tie.Need-returns
+unfolding lineOf
 returns c =
     let s = c .before .before .before .before .before in
-    let d = squaredDistance (row (s .args .f .now) (s .args .p .field - 1) .shade) (row (s .args .t .now) (s .args .p .trim - 1) .shade) in
-    let small : d < 2 ^ 64 = s .pre .small in
-    let e : c .squared-distance .result ≡ min d (2 ^ 64 - 1) = simp (c .before .before .before .shade .ensures, c .before .shade2 .ensures) at (c .squared-distance .ensures) in
+    let x = row (s .args .f .now) (s .args .p .field - 1) .shade in
+    let y = row (s .args .t .now) (s .args .p .trim - 1) .shade in
+    let small : squaredDistance x y < 2 ^ 64 = s .pre .small in
+    let e : c .squared-distance .result ≡ min (squaredDistance x y) (2 ^ 64 - 1) =
+    simp (c .before .before .before .shade .ensures, c .before .shade2 .ensures) at (c .squared-distance .ensures) in
     omega arith
 
 pub distance-spec : {M : Type 1} → statement M

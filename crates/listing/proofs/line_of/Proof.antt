@@ -1,5 +1,5 @@
 -- `line_of` meets its contract. Assumes nothing.
-use Rattle.listing.specs.Inside.{lineOf}
+use Rattle.listing.specs.Shown.{lineOf}
 use borrow.Author.Needs.{needs}
 use Rattle.listing.proofs.line_of.Statement.{statement}
 use Rattle.listing.proofs.line_of.Tie as tie

@@ -6,6 +6,7 @@ use native.Mathlib.Omega.{arith}
 use lib.ListN.{length, length-append, drop, replicate}
 use lib.Seq.{length-take-le}
 use Rattle.rules.specs.Query.{wholeQuery}
+use Rattle.listing.specs.Shown.{listingRoom}
 use borrow.Author.Needs.{needs}
 use Rattle.pairing.proofs.main.Statement.{statement}
 use Rattle.pairing.proofs.main.Tie as tie
@@ -62,13 +63,14 @@ front f t i l m r e h = omega (arith, ap length h, length-append (wholeQuery f t
 fits : (c : tie.After-whole-query) → c .whole-query .result ≤ length (c .whole-query .last .1 .1 .1 .0)
 fits c =
     let w = c .whole-query in
-    front _ _ _ (w .last .1 .1 .1 .0) (replicate 2412 0) (w .result) (w .ensures .0 .1) (w .ensures .1)
+    front _ _ _ (w .last .1 .1 .1 .0) (replicate listingRoom 0) (w .result) (w .ensures .0 .1) (w .ensures .1)
 
 array-share-prefix-out : tie.Need-array-share-prefix-out
 array-share-prefix-out c = fits c
 
 slice-aggregate-write-all : tie.Need-slice-aggregate-write-all
-slice-aggregate-write-all c = let w = c .before .whole-query in sym (length-take-le (w .result) (w .last .1 .1 .1 .0) (fits (c .before)))
+slice-aggregate-write-all c =
+    let w = c .before .whole-query in sym (length-take-le (w .result) (w .last .1 .1 .1 .0) (fits (c .before)))
 
 write-all-requires : tie.Need-write-all-requires
 write-all-requires c κs = search needs

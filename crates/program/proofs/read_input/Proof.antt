@@ -4,6 +4,7 @@ use mir.Syntax.{w32}
 use mir.Facts.{toZ-ofZ}
 use borrow.Author.Tests.{eq-eqb, ne-eqb, not-true, not-false}
 use Rattle.rules.specs.File.{endsLine}
+use Rattle.rules.specs.Query.{inputCode}
 use Rattle.program.specs.Program.{inputHeld}
 use Rattle.program.proofs.Steps.{input-bad, input-good}
 use borrow.Author.Needs.{needs}
@@ -11,9 +12,8 @@ use Rattle.program.proofs.read_input.Statement.{statement}
 use Rattle.program.proofs.read_input.Tie as tie
 
 returns : tie.Need-returns
-unfolding inputHeld
-returns c =
-    simp (ne-eqb _ _ (c .if1 .taken))
+unfolding inputHeld inputCode
+returns c = simp (ne-eqb _ _ (c .if1 .taken))
 
 column-at-requires : tie.Need-column-at-requires
 column-at-requires c κs = search needs
@@ -29,13 +29,15 @@ shared-slice-read-if2 c = search needs
 
 returns-2 : tie.Need-returns-2
 returns-2 c =
-    let k = c .before .before .before .before .before .before .before .column-at in
-    let b = c .before .before .before .before .before .before .column-at2 in
-    let r = c .before .before .before .before .before .column-at3 in
-    let input = c .before .before .before .before .before .before .before .before .before .before .args .input .now in
-    let size = eq-eqb _ _ (c .before .before .before .before .before .before .before .before .if1 .left) in
+    let at = c .before .before .before .before .before in
+    let k = at .before .before .column-at in
+    let b = at .before .column-at2 in
+    let r = at .column-at3 in
+    let input = at .before .before .before .before .before .args .input .now in
+    let size = eq-eqb _ _ (at .before .before .before .if1 .left) in
     let all = k .result .fits && (b .result .fits && (r .result .fits && endsLine input 18)) in
-    input-bad input (k .result) (b .result) (r .result) (k .ensures) (b .ensures) (r .ensures) size (not-true all (c .if2 .taken))
+    input-bad input (k .result) (b .result) (r .result) (k .ensures) (b .ensures) (r .ensures) size
+    (not-true all (c .if2 .taken))
 
 natural-requires : tie.Need-natural-requires
 natural-requires c κs = search needs
@@ -48,17 +50,23 @@ natural-requires-3 c κs = search needs
 
 returns-3 : tie.Need-returns-3
 returns-3 c =
-    let k = c .before .before .before .before .before .before .before .before .before .before .before .before .before .column-at in
-    let b = c .before .before .before .before .before .before .before .before .before .before .before .before .column-at2 in
-    let r = c .before .before .before .before .before .before .before .before .before .before .before .column-at3 in
-    let input = c .before .before .before .before .before .before .before .before .before .before .before .before .before .before .before .before .args .input .now in
-    let size = eq-eqb _ _ (c .before .before .before .before .before .before .before .before .before .before .before .before .before .before .if1 .left) in
+    let told = c .before .before .before .before .before in
+    let at = told .before .before .before .before .before .before in
+    let k = at .before .before .column-at in
+    let b = at .before .column-at2 in
+    let r = at .column-at3 in
+    let input = at .before .before .before .before .before .args .input .now in
+    let size = eq-eqb _ _ (at .before .before .before .if1 .left) in
     let all = k .result .fits && (b .result .fits && (r .result .fits && endsLine input 18)) in
-    let good = input-good input (k .result) (b .result) (r .result) (k .ensures) (b .ensures) (r .ensures) size (not-false all (c .before .before .before .before .before .before .if2 .left)) in
-    let x = toZ-ofZ {w = w32} {z = k .result .number} (record { sfits = c .before .before .before .before .before .struct-told .given .1 .0 .1 }) in
-    let y = toZ-ofZ {w = w32} {z = b .result .number} (record { sfits = c .before .before .before .struct-told2 .given .1 .0 .1 }) in
+    let good =
+    input-good input (k .result) (b .result) (r .result) (k .ensures) (b .ensures) (r .ensures) size
+    (not-false all (told .before .if2 .left)) in
+    let x = toZ-ofZ {w = w32} {z = k .result .number} (record { sfits = told .struct-told .given .1 .0 .1 }) in
+    let y = toZ-ofZ {w = w32} {z = b .result .number}
+    (record { sfits = c .before .before .before .struct-told2 .given .1 .0 .1 }) in
     let z = toZ-ofZ {w = w32} {z = r .result .number} (record { sfits = c .before .struct-told3 .given .1 .0 .1 }) in
-    simp (c .before .before .before .before .natural .ensures, c .before .before .natural2 .ensures, c .natural3 .ensures, x, y, z) good
+    simp (c .before .before .before .before .natural .ensures, c .before .before .natural2 .ensures, c .natural3 .ensures, x, y, z)
+    good
 
 pub read-input-spec : {M : Type 1} → statement M
 read-input-spec =

@@ -14,7 +14,12 @@ same-length c = search needs
 
 returns : tie.Need-returns
 returns c =
-    record { count = sym (refusal-length (c .before .before .before .before .before .args .code)); short = omega arith; front = c .before .before .put-refusal .ensures }
+    let put = c .before .before in
+    record {
+      count = sym (refusal-length (put .before .before .before .args .code));
+      short = omega arith;
+      front = put .put-refusal .ensures;
+    }
 
 pub refuse-spec : {M : Type 1} → statement M
 refuse-spec = tie.close (tie.spec put-refusal-requires same-length returns)

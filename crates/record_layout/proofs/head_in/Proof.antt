@@ -1,7 +1,7 @@
 -- `head_in` meets its contract. Assumes nothing.
 use mathlib.Core.Path.{refl}
 use native.Mathlib.Omega.{arith}
-use Rattle.record_layout.specs.Flat.{withPairs}
+use Rattle.record_layout.specs.Flat.{joinedAt, joinedHighAt, withPairs}
 use borrow.Author.Needs.{needs}
 use Rattle.record_layout.proofs.head_in.Statement.{statement}
 use Rattle.record_layout.proofs.head_in.Tie as tie
@@ -9,29 +9,23 @@ use Rattle.record_layout.proofs.head_in.Tie as tie
 query-in-requires : tie.Need-query-in-requires
 query-in-requires c κs = search needs
 
-shared-slice-read-wide : tie.Need-shared-slice-read-wide
-shared-slice-read-wide c = search needs
+shared-slice-read-low : tie.Need-shared-slice-read-low
+shared-slice-read-low c = search needs
 
-shared-slice-read-wide-2 : tie.Need-shared-slice-read-wide-2
-shared-slice-read-wide-2 c = search needs
+shared-slice-read-high : tie.Need-shared-slice-read-high
+shared-slice-read-high c = search needs
 
-shared-slice-read-wide-3 : tie.Need-shared-slice-read-wide-3
-shared-slice-read-wide-3 c = search needs
+shared-slice-read-low-2 : tie.Need-shared-slice-read-low-2
+shared-slice-read-low-2 c = search needs
 
-shared-slice-read-wide-4 : tie.Need-shared-slice-read-wide-4
-shared-slice-read-wide-4 c = search needs
+shared-slice-read-high-2 : tie.Need-shared-slice-read-high-2
+shared-slice-read-high-2 c = search needs
 
-shared-slice-read-wide-5 : tie.Need-shared-slice-read-wide-5
-shared-slice-read-wide-5 c = search needs
+shared-slice-read-low-3 : tie.Need-shared-slice-read-low-3
+shared-slice-read-low-3 c = search needs
 
-wide-requires : tie.Need-wide-requires
-wide-requires c κs = search needs
-
-shared-slice-read-wide-6 : tie.Need-shared-slice-read-wide-6
-shared-slice-read-wide-6 c = search needs
-
-wide-requires-2 : tie.Need-wide-requires-2
-wide-requires-2 c κs = search needs
+shared-slice-read-high-3 : tie.Need-shared-slice-read-high-3
+shared-slice-read-high-3 c = search needs
 
 shared-slice-read-t9 : tie.Need-shared-slice-read-t9
 shared-slice-read-t9 c = search needs
@@ -42,41 +36,41 @@ shared-slice-read-t12 c = search needs
 shared-slice-read-t21 : tie.Need-shared-slice-read-t21
 shared-slice-read-t21 c = search needs
 
-mul-t23 : tie.Need-mul-t23
-mul-t23 c = omega arith
+cast-t23 : tie.Need-cast-t23
+cast-t23 c = record { fits = omega (arith, c .shared-slice-known10 .given joinedAt) }
 
-add-t24 : tie.Need-add-t24
-add-t24 c = omega arith
+cast-t24 : tie.Need-cast-t24
+cast-t24 c = record { fits = omega (arith, c .shared-slice-known10 .given joinedHighAt) }
+
+mul-t25 : tie.Need-mul-t25
+mul-t25 c = omega (arith, c .shared-slice-known10 .given joinedHighAt)
+
+add-t26 : tie.Need-add-t26
+add-t26 c = omega (arith, c .shared-slice-known10 .given joinedAt, c .shared-slice-known10 .given joinedHighAt)
 
 returns : tie.Need-returns
 unfolding withPairs
 returns c =
-    let low = c .before .before .before .before .before .wide in (
-      simp (
-        c .before .before .before .wide2 .ensures .0,
-        low .ensures .0,
-        c .before .before .before .before .before .before .before .before .before .before .before .query-in .ensures,
-      )
-          refl,
-      omega (arith, low .ensures .0, low .ensures .1),
-    )
+    let at = c .before .before .before .before .before in
+    let known = c .shared-slice-known10 .given joinedAt in
+    (simp (at .before .before .before .before .query-in .ensures) refl, omega (arith, known))
 
 pub head-in-spec : {M : Type 1} → statement M
 head-in-spec =
     tie.close
     (tie.spec
     query-in-requires
-    shared-slice-read-wide
-    shared-slice-read-wide-2
-    shared-slice-read-wide-3
-    shared-slice-read-wide-4
-    shared-slice-read-wide-5
-    wide-requires
-    shared-slice-read-wide-6
-    wide-requires-2
+    shared-slice-read-low
+    shared-slice-read-high
+    shared-slice-read-low-2
+    shared-slice-read-high-2
+    shared-slice-read-low-3
+    shared-slice-read-high-3
     shared-slice-read-t9
     shared-slice-read-t12
     shared-slice-read-t21
-    mul-t23
-    add-t24
+    cast-t23
+    cast-t24
+    mul-t25
+    add-t26
     returns)

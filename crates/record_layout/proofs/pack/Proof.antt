@@ -8,18 +8,22 @@ use lib.Seq.{take-all}
 use borrow.Author.Needs.{needs}
 use Rattle.lists.specs.Lists.{each}
 use Rattle.rules.specs.declared.Pair.{Pair}
-use Rattle.rules.specs.Session.{noPair}
-use Rattle.record_layout.specs.Flat.{flatSize, flatPair, flatHead, flatten}
+use Rattle.rules.specs.Session.{noPair, placeCount}
+use Rattle.record_layout.specs.Flat.{pairsAt, pairSize, pairAt, flatSize, flatPair, flatHead, flatten}
 use Rattle.record_layout.proofs.Places.{onto, laid, none-laid, one-out}
 use Rattle.record_layout.proofs.pack.Statement.{statement}
 use Rattle.record_layout.proofs.pack.Tie as tie
 
 abbrev Inv-loop : tie.InvT-loop
 Inv-loop out₀ s i₀ out i =
-    (i ≤ 64) × (length (s .pairs) ≡ 64) × (length out ≡ length out₀) × (flatSize ≤ length out₀) × (out ≡ laid out₀ (s .pairs) i)
+    (i ≤ placeCount)
+    × (length (s .pairs) ≡ placeCount)
+    × (length out ≡ length out₀)
+    × (flatSize ≤ length out₀)
+    × (out ≡ laid out₀ (s .pairs) i)
 
 abbrev μ-loop : tie.MeasureT-loop
-μ-loop out₀ s i₀ out i = 64 - i
+μ-loop out₀ s i₀ out i = placeCount - i
 
 put-head-requires : tie.Need-put-head-requires Inv-loop μ-loop
 put-head-requires c κs = search needs
@@ -28,8 +32,10 @@ loop-holds : tie.Need-loop-holds Inv-loop μ-loop
 loop-holds c =
     let s = c .before .before .before .before .before in
     let head = c .before .before .put-head in
-    let long : length (s .args .t1 .pairs) ≡ 64 = sym (length-map (s .args .t1 .pairs) _) ∙ s .good .0 .1 .1 .1 .1 .1 .1 .1 .1 .0 .1 .0 .1 in
-    (omega arith, long, refl, omega (arith, head .kept .0, s .pre), none-laid (head .last .0) (s .args .t1 .pairs))
+    let a = s .args .t1 .pairs in
+    let array = s .good .0 .1 .1 .1 .1 .1 .1 .1 .1 .0 in
+    let long : length a ≡ placeCount = sym (length-map a _) ∙ array .1 .0 .1 in
+    (omega arith, long, refl, omega (arith, head .kept .0, s .pre), none-laid (head .last .0) a)
 
 mul-p : tie.Need-mul-p Inv-loop μ-loop
 mul-p c = omega arith
@@ -55,18 +61,21 @@ loop-less : tie.Need-loop-less Inv-loop μ-loop
 loop-less c = omega arith
 
 loop-again : tie.Need-loop-again Inv-loop μ-loop
+unfolding flatPair
 loop-again c =
-    let v = c .before .before .before .before .before .before .loop in
-    let s = c .before .before .before .before .before .before .before .before .before .before .before .before .args .t1 in
-    let l = c .before .before .before .before .before .before .before .before .before .put-head .last .0 in
+    let turn = c .before .before .before .before .before in
+    let v = turn .before .loop in
+    let start = turn .before .before .before .before in
+    let s = start .before .before .before .args .t1 in
+    let l = start .put-head .last .0 in
     let p = getD (s .pairs) (v .i) noPair in
-    let h : v .i < 64 = c .before .before .before .before .before .loop-test .taken in (
+    let h : v .i < placeCount = turn .loop-test .taken in (
       omega (arith, h),
       v .inv .1,
       c .before .before .put-pair .kept .0 ∙ v .inv .2,
       v .inv .3,
       c .before .before .put-pair .ensures
-          ∙ ap (λ (r : List ℕ). take (12 + 3 * v .i) r ++ flatPair p ++ drop (12 + 3 * v .i + 3) r) (v .inv .4)
+          ∙ ap (λ (r : List ℕ). take (pairAt (v .i)) r ++ flatPair p ++ drop (pairAt (v .i) + pairSize) r) (v .inv .4)
           ∙ one-out l (s .pairs) (omega (arith, v .inv .3)) (v .i) (omega (arith, h, v .inv .1)),
     )
 
@@ -77,15 +86,18 @@ returns : tie.Need-returns Inv-loop μ-loop
 unfolding flatten flatHead
 returns c =
     let v = c .before .loop in
-    let s = c .before .before .before .before .before .before .before .args .t1 in
-    let l = c .before .before .before .before .before .before .before .args .out .now in
-    let head = c .before .before .before .before .put-head in
-    let e : v .i ≡ 64 = omega (arith, v .inv .0, c .loop-test .left) in
+    let start = c .before .before .before .before in
+    let s = start .before .before .before .args .t1 in
+    let l = start .before .before .before .args .out .now in
+    let head = start .put-head in
+    let last = head .last .0 in
+    let e : v .i ≡ placeCount = omega (arith, v .inv .0, c .loop-test .left) in
     v .inv .4
-    ∙ ap (laid (head .last .0) (s .pairs)) e
-    ∙ ap (λ (a : List Pair). take 12 (head .last .0) ++ each flatPair a ++ drop flatSize (head .last .0)) (take-all 64 (s .pairs) (omega (arith, v .inv .1)))
-    ∙ ap (λ (r : List ℕ). take 12 r ++ each flatPair (s .pairs) ++ drop flatSize r) (head .ensures)
-    ∙ onto (flatHead s) (each flatPair (s .pairs)) l 12 192 refl
+    ∙ ap (laid last (s .pairs)) e
+    ∙ ap (λ (a : List Pair). take pairsAt last ++ each flatPair a ++ drop flatSize last)
+    (take-all placeCount (s .pairs) (omega (arith, v .inv .1)))
+    ∙ ap (λ (r : List ℕ). take pairsAt r ++ each flatPair (s .pairs) ++ drop flatSize r) (head .ensures)
+    ∙ onto (flatHead s) (each flatPair (s .pairs)) l pairsAt (pairSize * placeCount) refl
 
 pub pack-spec : {M : Type 1} → statement M
 pack-spec =

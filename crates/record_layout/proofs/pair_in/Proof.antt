@@ -5,41 +5,35 @@ use borrow.Author.Needs.{needs}
 use Rattle.record_layout.proofs.pair_in.Statement.{statement}
 use Rattle.record_layout.proofs.pair_in.Tie as tie
 
-mul-t3 : tie.Need-mul-t3
-mul-t3 c = search needs
+mul-at : tie.Need-mul-at
+mul-at c = search needs
 
-add-t4 : tie.Need-add-t4
-add-t4 c = search needs
+add-at : tie.Need-add-at
+add-at c = search needs
 
-mul-t5 : tie.Need-mul-t5
-mul-t5 c = search needs
+mul-t4 : tie.Need-mul-t4
+mul-t4 c = search needs
 
-shared-slice-read-t7 : tie.Need-shared-slice-read-t7
-shared-slice-read-t7 c = search needs
+shared-slice-read-t6 : tie.Need-shared-slice-read-t6
+shared-slice-read-t6 c = search needs
+
+add-t7 : tie.Need-add-t7
+add-t7 c = search needs
 
 mul-t8 : tie.Need-mul-t8
 mul-t8 c = search needs
 
-add-t9 : tie.Need-add-t9
-add-t9 c = search needs
+shared-slice-read-t10 : tie.Need-shared-slice-read-t10
+shared-slice-read-t10 c = search needs
 
-mul-t10 : tie.Need-mul-t10
-mul-t10 c = search needs
+add-t11 : tie.Need-add-t11
+add-t11 c = search needs
 
-shared-slice-read-t12 : tie.Need-shared-slice-read-t12
-shared-slice-read-t12 c = search needs
+mul-t12 : tie.Need-mul-t12
+mul-t12 c = search needs
 
-mul-t13 : tie.Need-mul-t13
-mul-t13 c = search needs
-
-add-t14 : tie.Need-add-t14
-add-t14 c = search needs
-
-mul-t15 : tie.Need-mul-t15
-mul-t15 c = search needs
-
-shared-slice-read-t17 : tie.Need-shared-slice-read-t17
-shared-slice-read-t17 c = search needs
+shared-slice-read-t14 : tie.Need-shared-slice-read-t14
+shared-slice-read-t14 c = search needs
 
 returns : tie.Need-returns
 unfolding pairIn
@@ -49,16 +43,14 @@ pub pair-in-spec : {M : Type 1} → statement M
 pair-in-spec =
     tie.close
     (tie.spec
-    mul-t3
-    add-t4
-    mul-t5
-    shared-slice-read-t7
+    mul-at
+    add-at
+    mul-t4
+    shared-slice-read-t6
+    add-t7
     mul-t8
-    add-t9
-    mul-t10
-    shared-slice-read-t12
-    mul-t13
-    add-t14
-    mul-t15
-    shared-slice-read-t17
+    shared-slice-read-t10
+    add-t11
+    mul-t12
+    shared-slice-read-t14
     returns)

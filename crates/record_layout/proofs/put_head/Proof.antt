@@ -1,4 +1,4 @@
--- `put_head` meets its contract: three times four numbers. Assumes nothing.
+-- `put_head` meets its contract: four times three numbers. Assumes nothing.
 use mathlib.Core.Path.{refl, ap, _∙_}
 use mathlib.Core.List.{List, [], _∷_, _++_}
 use Prim.Native.Nat.{ℕ, _/_, _%_}
@@ -15,14 +15,17 @@ cast-low c = search needs
 cast-high : tie.Need-cast-high
 cast-high c = search needs
 
-put-four-requires : tie.Need-put-four-requires
-put-four-requires c κs = search needs
+put-three-requires : tie.Need-put-three-requires
+put-three-requires c κs = search needs
 
-put-four-requires-2 : tie.Need-put-four-requires-2
-put-four-requires-2 c κs = search needs
+put-three-requires-2 : tie.Need-put-three-requires-2
+put-three-requires-2 c κs = search needs
 
-put-four-requires-3 : tie.Need-put-four-requires-3
-put-four-requires-3 c κs = search needs
+put-three-requires-3 : tie.Need-put-three-requires-3
+put-three-requires-3 c κs = search needs
+
+put-three-requires-4 : tie.Need-put-three-requires-4
+put-three-requires-4 c κs = search needs
 
 same-length : tie.Need-same-length
 same-length c = search needs
@@ -30,19 +33,25 @@ same-length c = search needs
 returns : tie.Need-returns
 unfolding flatHead
 returns c =
-    let b = c .before .before .before .before .before .before in
-    let a = b .before .before .before .before in
-    let s = a .before .before .before .before .before .args .s in
-    let l = a .before .before .before .before .before .args .out .now in
-    let x = s .query .k ∷ s .query .block ∷ s .query .radius ∷ s .rows .field .0 ∷ [] in
-    let y = s .rows .trim .0 ∷ s .depth .field .0 ∷ s .depth .trim .0 ∷ s .last ∷ [] in
-    let z = s .out ∷ s .held ∷ s .joined % word ∷ s .joined / word ∷ [] in
-    c .before .before .put-four3 .ensures
-    ∙ ap (λ (r : List ℕ). take 8 r ++ z ++ drop 12 r)
-    (b .put-four2 .ensures
-    ∙ ap (λ (r : List ℕ). take 4 r ++ y ++ drop 8 r) (a .put-four .ensures)
-    ∙ onto x y l 4 4 refl)
-    ∙ onto (x ++ y) z l 8 4 refl
+    let third = c .before .before .before .before in
+    let second = third .before .before .before .before in
+    let one = second .before .before .before .before in
+    let at = one .before .before .before .before .before in
+    let s = at .before .before .args .s in
+    let l = at .before .before .args .out .now in
+    let x = s .query .k ∷ s .query .block ∷ s .query .radius ∷ [] in
+    let y = s .rows .field .0 ∷ s .rows .trim .0 ∷ s .depth .field .0 ∷ [] in
+    let z = s .depth .trim .0 ∷ s .last ∷ s .out ∷ [] in
+    let w = s .held ∷ s .joined % word ∷ s .joined / word ∷ [] in
+    c .before .before .put-three4 .ensures
+    ∙ ap (λ (r : List ℕ). take 9 r ++ w ++ drop 12 r)
+    (third .before .before .put-three3 .ensures
+    ∙ ap (λ (r : List ℕ). take 6 r ++ z ++ drop 9 r)
+    (second .before .before .put-three2 .ensures
+    ∙ ap (λ (r : List ℕ). take 3 r ++ y ++ drop 6 r) (one .before .before .put-three .ensures)
+    ∙ onto x y l 3 3 refl)
+    ∙ onto (x ++ y) z l 6 3 refl)
+    ∙ onto (x ++ y ++ z) w l 9 3 refl
 
 pub put-head-spec : {M : Type 1} → statement M
 put-head-spec =
@@ -50,8 +59,9 @@ put-head-spec =
     (tie.spec
     cast-low
     cast-high
-    put-four-requires
-    put-four-requires-2
-    put-four-requires-3
+    put-three-requires
+    put-three-requires-2
+    put-three-requires-3
+    put-three-requires-4
     same-length
     returns)

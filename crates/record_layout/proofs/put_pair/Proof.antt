@@ -1,59 +1,18 @@
 -- `put_pair` meets its contract. Assumes nothing.
-use mathlib.Core.List.{[], _∷_}
-use native.Mathlib.Omega.{arith}
-use lib.ListN.{length-set}
-use lib.Seq.{sets-eq}
-use denote.Ref.{now}
 use Rattle.record_layout.specs.Flat.{flatPair}
-use Rattle.record_layout.proofs.Places.{plus-1, plus-2}
 use borrow.Author.Needs.{needs}
 use Rattle.record_layout.proofs.put_pair.Statement.{statement}
 use Rattle.record_layout.proofs.put_pair.Tie as tie
 
-mul-out : tie.Need-mul-out
-mul-out c = search needs
-
-slice-write-out : tie.Need-slice-write-out
-slice-write-out c = search needs
-
-add-out : tie.Need-add-out
-add-out c = search needs
-
-mul-out-2 : tie.Need-mul-out-2
-mul-out-2 c = search needs
-
-slice-write-out-2 : tie.Need-slice-write-out-2
-slice-write-out-2 c = simp length-set (omega arith)
-
-add-out-2 : tie.Need-add-out-2
-add-out-2 c = search needs
-
-mul-out-3 : tie.Need-mul-out-3
-mul-out-3 c = search needs
-
-slice-write-out-3 : tie.Need-slice-write-out-3
-slice-write-out-3 c = simp length-set (omega arith)
+put-three-requires : tie.Need-put-three-requires
+put-three-requires c κs = search needs
 
 same-length : tie.Need-same-length
 same-length c = search needs
 
 returns : tie.Need-returns
 unfolding flatPair
-returns c =
-    let p = c .args .p in
-    simp (plus-1, plus-2) (sets-eq (p .sum ∷ p .field ∷ p .trim ∷ []) (now (c .args .out)) (c .args .o) (c .pre))
+returns c = c .before .before .put-three .ensures
 
 pub put-pair-spec : {M : Type 1} → statement M
-put-pair-spec =
-    tie.close
-    (tie.spec
-    mul-out
-    slice-write-out
-    add-out
-    mul-out-2
-    slice-write-out-2
-    add-out-2
-    mul-out-3
-    slice-write-out-3
-    same-length
-    returns)
+put-pair-spec = tie.close (tie.spec put-three-requires same-length returns)

@@ -8,14 +8,14 @@ use borrow.Author.Needs.{needs}
 use Rattle.lists.specs.Lists.{range}
 use Rattle.rules.specs.declared.Pair.{Pair}
 use Rattle.rules.specs.declared.Session.{Session}
-use Rattle.rules.specs.Session.{noPair}
+use Rattle.rules.specs.Session.{noPair, placeCount}
 use Rattle.record_layout.specs.Flat.{pairsIn, withPairs, unflatten}
 use Rattle.record_layout.proofs.Places.{one-in}
 use Rattle.record_layout.proofs.unpack.Statement.{statement}
 use Rattle.record_layout.proofs.unpack.Tie as tie
 
 abbrev zeros : List Pair
-zeros = replicate 64 noPair
+zeros = replicate placeCount noPair
 
 -- a record with one place set
 abbrev put : Session → ℕ → Pair → Session
@@ -32,17 +32,19 @@ put s i p =
     }
 
 abbrev Inv-loop : tie.InvT-loop
-Inv-loop l s₀ i₀ s i = (i ≤ 64) × (length (s .pairs) ≡ 64) × (s ≡ withPairs l (pairsIn l i ++ drop i zeros))
+Inv-loop l s₀ i₀ s i =
+    (i ≤ placeCount) × (length (s .pairs) ≡ placeCount) × (s ≡ withPairs l (pairsIn l i ++ drop i zeros))
 
 abbrev μ-loop : tie.MeasureT-loop
-μ-loop l s₀ i₀ s i = 64 - i
+μ-loop l s₀ i₀ s i = placeCount - i
 
 head-in-requires : tie.Need-head-in-requires Inv-loop μ-loop
 head-in-requires c κs = search needs
 
 loop-holds : tie.Need-loop-holds Inv-loop μ-loop
 unfolding withPairs pairsIn range
-loop-holds c = (omega arith, ap (λ (s : Session). length (s .pairs)) (c .head-in .ensures .0), c .head-in .ensures .0)
+loop-holds c =
+    let head = c .head-in .ensures .0 in (omega arith, ap (λ (s : Session). length (s .pairs)) head, head)
 
 pair-in-requires : tie.Need-pair-in-requires Inv-loop μ-loop
 pair-in-requires c κs = search needs
@@ -64,7 +66,7 @@ unfolding withPairs
 loop-again c =
     let l = c .before .before .before .before .before .args .l .now in
     let v = c .before .before .loop in
-    let h : v .i < 64 = c .before .loop-test .taken in (
+    let h : v .i < placeCount = c .before .loop-test .taken in (
       omega arith,
       length-set (v .s .pairs) (v .i) (c .pair-in .result) ∙ v .inv .1,
       ap (λ (s : Session). put s (v .i) (c .pair-in .result)) (v .inv .2)
@@ -77,8 +79,12 @@ unfolding unflatten
 returns c =
     let l = c .before .before .before .before .args .l .now in
     let v = c .before .loop in
-    let e : v .i ≡ 64 = omega (arith, v .inv .0, c .loop-test .left) in
-    (v .inv .2 ∙ ap (λ (i : ℕ). withPairs l (pairsIn l i ++ drop i zeros)) e ∙ ap (withPairs l) (append-nil (pairsIn l 64)), c .before .before .head-in .ensures .1)
+    let e : v .i ≡ placeCount = omega (arith, v .inv .0, c .loop-test .left) in (
+      v .inv .2
+          ∙ ap (λ (i : ℕ). withPairs l (pairsIn l i ++ drop i zeros)) e
+          ∙ ap (withPairs l) (append-nil (pairsIn l placeCount)),
+      c .before .before .head-in .ensures .1,
+    )
 
 pub unpack-spec : {M : Type 1} → statement M
 unpack-spec =

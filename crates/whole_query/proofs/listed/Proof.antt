@@ -1,62 +1,84 @@
 -- `listed` meets its contract. Assumes nothing.
 use mathlib.Core.Path.{_≡_, sym, ap, _∙_}
+use Prim.Native.Nat.{_≤_}
 use native.Mathlib.Omega.{arith}
 use lib.ListN.{length}
+use mir.Syntax.{w32}
+use mir.Facts.{toZ-ofZ, toZ-pos}
+use borrow.Author.Needs.{needs, sfits-of}
 use Rattle.rules.specs.declared.Query.{Query}
 use Rattle.rules.specs.Query.{listing}
-use Rattle.printing.specs.Put.{putAt}
-use Rattle.whole_query.specs.Numbers.{queryOf, lentListingCode, lentListingBytes}
-use Rattle.whole_query.proofs.Small.{refused, found, has-room}
-use borrow.Author.Needs.{needs}
+use Rattle.listing.specs.Shown.{listingRoom}
+use Rattle.whole_query.specs.Numbers.{lentListingAnswer, lentListingBytes}
+use Rattle.whole_query.proofs.Ends.{Asking, outcome-is, code-refusal, has-room, refused, found}
 use Rattle.whole_query.proofs.listed.Statement.{statement}
 use Rattle.whole_query.proofs.listed.Tie as tie
 
-ask-requires : tie.Need-ask-requires
-ask-requires c κs = search needs
+query-in-requires : tie.Need-query-in-requires
+query-in-requires c κs = search needs
+
+run-requires : tie.Need-run-requires
+run-requires c κs = search needs
+
+asked-code-requires : tie.Need-asked-code-requires
+asked-code-requires c κs = search needs
+
+-- what is known where the code is
+asked : (c : tie.After-asked-code) →
+    (let s = c .before .before .before .before .before .args in
+    Asking listingRoom (s .query .now) (s .f .now) (s .t .now) (length (s .out .now)) (c .before .before .query-in .result)
+    (c .before .run .result) (c .asked-code .result))
+asked c =
+    record { asks = c .before .before .query-in .ensures; ran = c .before .run .ensures; checked = c .asked-code .ensures }
+
+minus-requires : tie.Need-minus-requires
+minus-requires c κs = omega (arith, code-refusal (asked (c .before)))
 
 returns : tie.Need-returns
-unfolding lentListingCode lentListingBytes
+unfolding lentListingAnswer lentListingBytes
 returns c =
-    let s = c .before .before .before .before .args in
-    let a = c .before .ask in
-    let answer = listing (queryOf (s .query .now)) (s .f .now) (s .t .now) in
-    let out = s .out .now in (
-      record { code = a .ensures .code; small = a .ensures .small; few = omega arith; count = λ z. absurd (c .if1 .taken z) },
-      rw (← a .ensures .code) (refused (a .result .code) answer out (c .if1 .taken)),
-    )
+    let at = c .before .before in
+    let s = at .before .before .before .before .before .args in
+    let f = s .f .now in
+    let t = s .t .now in
+    let end =
+    refused (asked at) (λ (q : Query). length (listing q f t)) (λ (q : Query). listing q f t) (s .out .now)
+    (c .before .if1 .taken) in
+    (toZ-ofZ {w = w32} {z = c .minus .result} (sfits-of (c .minus .ok)) ∙ c .minus .ensures ∙ end .0, end .1)
 
-put-settled-requires : tie.Need-put-settled-requires
-put-settled-requires c κs =
-    let s = c .before .before .before .before .before .before .args in
-    let a = c .before .before .before .ask in
-    (has-room 2412 (s .query .now) (s .f .now) (s .t .now) (length (s .out .now)) (sym (a .ensures .code) ∙ c .before .before .if1 .left), a .ensures .session)
+put-listing-requires : tie.Need-put-listing-requires
+put-listing-requires c κs =
+    let at = asked (c .before .before) in (has-room at (c .before .if1 .left), outcome-is at)
 
-cast-t13 : tie.Need-cast-t13
-cast-t13 c = search needs
+cast-result : tie.Need-cast-result
+cast-result c = search needs
 
 same-length : tie.Need-same-length
 same-length c = search needs
 
 returns-2 : tie.Need-returns-2
-unfolding lentListingCode lentListingBytes
+unfolding lentListingAnswer lentListingBytes
 returns-2 c =
-    let s = c .before .before .before .before .before .before .before .before .before .args in
-    let a = c .before .before .before .before .before .before .ask in
-    let put = c .before .before .put-settled in
+    let put = c .before .before .put-listing in
+    let if = c .before .before .before .before in
+    let s = if .before .before .before .before .before .before .args in
     let f = s .f .now in
     let t = s .t .now in
-    let out = s .out .now in
-    let answer = listing (queryOf (s .query .now)) f t in
-    let written : put .last .0 ≡ putAt 0 answer out = put .ensures .1 ∙ ap (λ (x : Query). putAt 0 (listing x f t) out) (a .ensures .query) in (
-      record {
-        code = a .ensures .code;
-        small = a .ensures .small;
-        few = put .ensures .0 .0;
-        count = λ z. put .ensures .0 .1 ∙ ap (λ (x : Query). length (listing x f t)) (a .ensures .query);
-      },
-      rw (← a .ensures .code) (found (a .result .code) answer out (put .last .0) (c .before .before .before .before .before .if1 .left) written),
-    )
+    let end =
+    found (asked (if .before)) (λ (q : Query). length (listing q f t)) (λ (q : Query). listing q f t) (s .out .now)
+    (if .if1 .left) (put .result) (put .last .0) (put .ensures .0 .1) (put .ensures .1) in
+    (toZ-pos w32 {n = put .result} (omega (arith, put .ensures .0 .0)) ∙ end .0, end .1)
 
 pub listed-spec : {M : Type 1} → statement M
 listed-spec =
-    tie.close (tie.spec ask-requires returns put-settled-requires cast-t13 same-length returns-2)
+    tie.close
+    (tie.spec
+    query-in-requires
+    run-requires
+    asked-code-requires
+    minus-requires
+    returns
+    put-listing-requires
+    cast-result
+    same-length
+    returns-2)

@@ -36,11 +36,12 @@ same-length c = search needs
 
 returns : tie.Need-returns
 returns c =
-    let s = c .before .before .before .before .before .before .before .before .before .before .before .before .before .before .before .args in
-    let line = c .before .before .before .before .before .before .before .before .before .before .before .before .before .line-of in
-    let three = c .before .before .before .before .before .before .before .before .put-three in
     let more = c .before .before .put-three2 in
-    pair-put (s .f .now) (s .t .now) (s .p) (line .result) (s .at) (s .out .now) (three .last .0) (more .last .0) (line .ensures) (three .ensures) (more .ensures)
+    let three = c .before .before .before .before .before .before .before .before in
+    let line = three .before .before .before .before .before in
+    let s = line .before .before .args in
+    pair-put (s .f .now) (s .t .now) (s .p) (line .line-of .result) (s .at) (s .out .now) (three .put-three .last .0)
+    (more .last .0) (line .line-of .ensures) (three .put-three .ensures) (more .ensures)
 
 pub put-pair-spec : {M : Type 1} → statement M
 put-pair-spec =

@@ -1,52 +1,43 @@
--- `put_pairs` meets its contract: the numbers written and those of the pairs still to come are the list's. Assumes nothing.
-use mathlib.Core.Path.{_≡_, refl, sym, ap, _∙_}
-use Prim.Native.Nat.{_+_, _*_, _-_, _≤_, _<_}
+-- `put_pairs` meets its contract. Assumes nothing.
+use mathlib.Core.Path.{_≡_, sym, ap, _∙_}
+use mathlib.Core.List.{List}
+use Prim.Native.Nat.{ℕ, _+_, _*_, _-_, _≤_, _<_}
 use native.Mathlib.Omega.{arith}
-use lib.ListN.{length, length-map}
+use lib.ListN.{length, getD}
 use borrow.Author.Needs.{needs}
-use Rattle.rules.specs.declared.Step.{Step}
-use Rattle.rules.specs.Query.{wasGiven, takeUntilFinished}
+use Rattle.rules.specs.declared.Pair.{Pair}
+use Rattle.rules.specs.Session.{noPair, placeCount}
+use Rattle.rules.specs.Query.{list}
 use Rattle.printing.specs.Put.{putAt}
-use Rattle.session.proofs.Answers.{not-given}
-use Rattle.listing.proofs.Taking.{left, none-out, all-out, pair-inside, next-long}
-use Rattle.whole_query.specs.Numbers.{listNumbers}
-use Rattle.whole_query.proofs.Steps.{turn, stopped}
+use Rattle.printing.specs.Laid.{Writing, writing-starts, writing-on, writing-ends}
+use Rattle.listing.specs.ListShown.{counted, count-few, pair-at}
+use Rattle.whole_query.specs.Numbers.{headSize, pairSize, pairNumbers}
+use Rattle.whole_query.proofs.Steps.{numbersAt, numbersAt-length, numbers-laid}
 use Rattle.whole_query.proofs.put_pairs.Statement.{statement}
 use Rattle.whole_query.proofs.put_pairs.Tie as tie
 
 abbrev Inv-loop : tie.InvT-loop
-Inv-loop out₀ f t left₀ n₀ out s n =
-    (n ≤ 64)
-    × (length out ≡ length out₀)
-    × (length (s .pairs) ≡ 64)
-    × (putAt (3 + 6 * n) (listNumbers f t (left f t n s)) out ≡ putAt 3 (listNumbers f t (takeUntilFinished 64 f t left₀)) out₀)
-    × (n + length (left f t n s) ≡ length (takeUntilFinished 64 f t left₀))
+Inv-loop out₀ f t run i₀ out i =
+    (run .count ≤ placeCount) × Writing (numbersAt f t) pairSize headSize (list (run .query) f t) out₀ i out
 
 abbrev μ-loop : tie.MeasureT-loop
-μ-loop out₀ f t left₀ n₀ out s n = 64 - n
+μ-loop out₀ f t run i₀ out i = run .count - i
 
 loop-holds : tie.Need-loop-holds Inv-loop μ-loop
 loop-holds c =
     let s = c .before .args in
-    let places = sym (length-map (s .s .pairs) _) ∙ c .before .good .1 .1 .1 .0 .1 .1 .1 .1 .1 .1 .1 .1 .0 .1 .0 .1 in
-    (omega arith, refl, places, refl, omega arith)
+    let f = s .f .now in
+    let t = s .t .now in
+    let l = list (s .t4 .query) f t in (
+      count-few f t (s .t4) (c .before .pre .1),
+      writing-starts (numbersAt f t) pairSize headSize l (s .out .now),
+    )
 
-take-requires : tie.Need-take-requires Inv-loop μ-loop
-take-requires c κs = search needs
+mul-p : tie.Need-mul-p Inv-loop μ-loop
+mul-p c = search needs
 
-enum-known-answer : tie.Need-enum-known-answer Inv-loop μ-loop
-enum-known-answer c = search needs
-
-same-length : tie.Need-same-length Inv-loop μ-loop
-same-length c = search needs
-
-returns : tie.Need-returns Inv-loop μ-loop
-returns c =
-    let l = c .before .before .before .loop in
-    let s = c .before .before .before .before .before .args in
-    let no = ap (λ (x : Step). wasGiven (x .answer)) (sym (c .before .take .ensures)) ∙ not-given (c .before .take .result .answer) (c .match .keys2) in
-    let end = stopped (s .f .now) (s .t .now) (l .n) _ _ _ _ _ (none-out (s .f .now) (s .t .now) (l .n) (l .left) no) (l .inv .3) (l .inv .4) in
-    ((l .inv .0, end .0), end .1)
+element-copy-out-p : tie.Need-element-copy-out-p Inv-loop μ-loop
+element-copy-out-p c = search needs
 
 mul-put-pair : tie.Need-mul-put-pair Inv-loop μ-loop
 mul-put-pair c = search needs
@@ -56,47 +47,47 @@ add-put-pair c = search needs
 
 put-pair-requires : tie.Need-put-pair-requires Inv-loop μ-loop
 put-pair-requires c κs =
-    let l = c .before .before .before .before .before .before .loop in
-    let s = c .before .before .before .before .before .before .before .before in
-    let take = c .before .before .before .before .take in
-    let told = c .before .before .answer .given in (
-      omega (arith, c .before .before .before .before .before .loop-test .taken, l .inv .1, s .pre),
-      pair-inside (s .args .f .now) (s .args .t .now) (l .left) (take .result) (told .0 .0) (take .ensures) (told .1) (l .inv .2),
+    let l = c .before .before .before .loop in
+    let s = c .before .before .before .before .before in
+    let more = c .before .before .loop-test .taken in (
+      omega (arith, more, l .inv .0, l .inv .1 .kept, s .pre .0),
+      pair-at (s .args .f .now) (s .args .t .now) (s .args .t4) (s .pre .1) (l .i) more .shown,
     )
 
-add-n : tie.Need-add-n Inv-loop μ-loop
-add-n c = search needs
+add-i : tie.Need-add-i Inv-loop μ-loop
+add-i c = search needs
 
 loop-less : tie.Need-loop-less Inv-loop μ-loop
 loop-less c = search needs
 
 loop-again : tie.Need-loop-again Inv-loop μ-loop
 loop-again c =
-    let at = c .before .before .before .before .before .before .before .before in
-    let l = at .before .before .loop in
-    let s = at .before .before .before .before .args in
-    let told = c .before .before .before .before .before .before .answer .given in
-    let put = c .before .before .before .put-pair in
-    let more : l .n < 64 = omega (arith, at .before .loop-test .taken) in
-    let f = s .f .now in
-    let t = s .t .now in
-    let go = turn f t (l .left) (at .take .result) (told .0 .0) (at .take .ensures) (told .1) (l .n) _ (l .out) (put .last .0) _ more (put .ensures) (l .inv .3) (l .inv .4) in (
-      omega (arith, more),
-      put .kept .0 ∙ l .inv .1,
-      next-long f t (l .left) (at .take .result) (told .0 .0) (at .take .ensures) (told .1) (l .inv .2),
-      go .0,
-      go .1,
-    )
+    let put = c .before .before .put-pair in
+    let at = c .before .before .before .before .before in
+    let l = at .before .loop in
+    let s = at .before .before .before in
+    let f = s .args .f .now in
+    let t = s .args .t .now in
+    let run = s .args .t4 in
+    let p = pair-at f t run (s .pre .1) (l .i) (at .loop-test .taken) in
+    let put-is =
+    put .ensures ∙ ap (λ (x : Pair). putAt (headSize + pairSize * l .i) (numbersAt f t (l .i) x) (l .out)) (p .same) in
+    (l .inv .0, writing-on (numbersAt-length f t) (l .inv .1) (p .within) noPair (put .last .0) put-is)
 
-same-length-2 : tie.Need-same-length-2 Inv-loop μ-loop
-same-length-2 c = search needs
+same-length : tie.Need-same-length Inv-loop μ-loop
+same-length c = c .before .loop .inv .1 .kept
 
-returns-2 : tie.Need-returns-2 Inv-loop μ-loop
-returns-2 c =
+returns : tie.Need-returns Inv-loop μ-loop
+returns c =
+    let s = c .before .before .before in
+    let f = s .args .f .now in
+    let t = s .args .t .now in
+    let run = s .args .t4 in
     let l = c .before .loop in
-    let s = c .before .before .before .args in
-    let end = stopped (s .f .now) (s .t .now) (l .n) _ _ _ _ _ (all-out (s .f .now) (s .t .now) (l .n) (l .left) (c .loop-test .left)) (l .inv .3) (l .inv .4) in
-    ((l .inv .0, end .0), end .1)
+    let all = list (run .query) f t in
+    let done : length all ≤ l .i = omega (arith, c .loop-test .left, counted f t run (s .pre .1)) in
+    writing-ends (numbersAt-length f t) (l .inv .1) done
+    ∙ ap (λ (b : List ℕ). putAt headSize b (s .args .out .now)) (sym (numbers-laid f t (run .query)))
 
 pub put-pairs-spec : {M : Type 1} → statement M
 put-pairs-spec =
@@ -105,15 +96,13 @@ put-pairs-spec =
     Inv-loop
     μ-loop
     loop-holds
-    take-requires
-    enum-known-answer
-    same-length
-    returns
+    mul-p
+    element-copy-out-p
     mul-put-pair
     add-put-pair
     put-pair-requires
-    add-n
+    add-i
     loop-less
     loop-again
-    same-length-2
-    returns-2)
+    same-length
+    returns)

@@ -1,62 +1,89 @@
 -- `whole` meets its contract. Assumes nothing.
 use mathlib.Core.Path.{_≡_, sym, ap, _∙_}
+use Prim.Native.Nat.{_≤_}
 use native.Mathlib.Omega.{arith}
 use lib.ListN.{length}
+use mir.Syntax.{w32}
+use mir.Facts.{toZ-ofZ, toZ-pos}
+use borrow.Author.Needs.{needs, sfits-of}
 use Rattle.rules.specs.declared.Query.{Query}
 use Rattle.rules.specs.Query.{list}
-use Rattle.printing.specs.Put.{putAt}
-use Rattle.whole_query.specs.Numbers.{queryOf, queryNumbers, lentQueryCode, lentQueryNumbers}
-use Rattle.whole_query.proofs.Small.{refused, found, has-room}
-use borrow.Author.Needs.{needs}
+use Rattle.listing.specs.ListShown.{counted, count-few}
+use Rattle.whole_query.specs.Numbers.{queryRoom, queryNumbers, lentQueryAnswer, lentQueryNumbers}
+use Rattle.whole_query.proofs.Ends.{Asking, outcome-is, code-refusal, has-room, refused, found}
 use Rattle.whole_query.proofs.whole.Statement.{statement}
 use Rattle.whole_query.proofs.whole.Tie as tie
 
-ask-requires : tie.Need-ask-requires
-ask-requires c κs = search needs
+query-in-requires : tie.Need-query-in-requires
+query-in-requires c κs = search needs
+
+run-requires : tie.Need-run-requires
+run-requires c κs = search needs
+
+asked-code-requires : tie.Need-asked-code-requires
+asked-code-requires c κs = search needs
+
+-- what is known where the code is
+asked : (c : tie.After-asked-code) →
+    (let s = c .before .before .before .before .before .args in
+    Asking queryRoom (s .query .now) (s .f .now) (s .t .now) (length (s .out .now)) (c .before .before .query-in .result)
+    (c .before .run .result) (c .asked-code .result))
+asked c =
+    record { asks = c .before .before .query-in .ensures; ran = c .before .run .ensures; checked = c .asked-code .ensures }
+
+minus-requires : tie.Need-minus-requires
+minus-requires c κs = omega (arith, code-refusal (asked (c .before)))
 
 returns : tie.Need-returns
-unfolding lentQueryCode lentQueryNumbers
+unfolding lentQueryAnswer lentQueryNumbers
 returns c =
-    let s = c .before .before .before .before .args in
-    let a = c .before .ask in
-    let answer = queryNumbers (queryOf (s .query .now)) (s .f .now) (s .t .now) in
-    let out = s .out .now in (
-      record { code = a .ensures .code; small = a .ensures .small; few = omega arith; count = λ z. absurd (c .if1 .taken z) },
-      rw (← a .ensures .code) (refused (a .result .code) answer out (c .if1 .taken)),
-    )
+    let at = c .before .before in
+    let s = at .before .before .before .before .before .args in
+    let f = s .f .now in
+    let t = s .t .now in
+    let end =
+    refused (asked at) (λ (q : Query). length (list q f t)) (λ (q : Query). queryNumbers q f t) (s .out .now)
+    (c .before .if1 .taken) in
+    (toZ-ofZ {w = w32} {z = c .minus .result} (sfits-of (c .minus .ok)) ∙ c .minus .ensures ∙ end .0, end .1)
 
-put-list-requires : tie.Need-put-list-requires
-put-list-requires c κs =
-    let s = c .before .before .before .before .before .before .args in
-    let a = c .before .before .before .ask in
-    (has-room 387 (s .query .now) (s .f .now) (s .t .now) (length (s .out .now)) (sym (a .ensures .code) ∙ c .before .before .if1 .left), a .ensures .session)
+put-numbers-requires : tie.Need-put-numbers-requires
+put-numbers-requires c κs =
+    let at = asked (c .before .before) in (has-room at (c .before .if1 .left), outcome-is at)
 
-cast-t13 : tie.Need-cast-t13
-cast-t13 c = search needs
+cast-result : tie.Need-cast-result
+cast-result c =
+    let at = c .before .before .before .before .before .before in
+    let s = at .before .before .before .before .before .args in
+    record { sfits = omega (arith, count-few (s .f .now) (s .t .now) (at .before .run .result) (outcome-is (asked at))) }
 
 same-length : tie.Need-same-length
 same-length c = search needs
 
 returns-2 : tie.Need-returns-2
-unfolding lentQueryCode lentQueryNumbers
+unfolding lentQueryAnswer lentQueryNumbers
 returns-2 c =
-    let s = c .before .before .before .before .before .before .before .before .before .args in
-    let a = c .before .before .before .before .before .before .ask in
-    let put = c .before .before .put-list in
+    let put = c .before .before .before .put-numbers in
+    let if = c .before .before .before .before .before in
+    let s = if .before .before .before .before .before .before .args in
     let f = s .f .now in
     let t = s .t .now in
-    let out = s .out .now in
-    let answer = queryNumbers (queryOf (s .query .now)) f t in
-    let written : put .last .0 ≡ putAt 0 answer out = put .ensures .1 ∙ ap (λ (x : Query). putAt 0 (queryNumbers x f t) out) (a .ensures .query) in (
-      record {
-        code = a .ensures .code;
-        small = a .ensures .small;
-        few = put .ensures .0 .0;
-        count = λ z. put .ensures .0 .1 ∙ ap (λ (x : Query). length (list x f t)) (a .ensures .query);
-      },
-      rw (← a .ensures .code) (found (a .result .code) answer out (put .last .0) (c .before .before .before .before .before .if1 .left) written),
-    )
+    let run = if .before .before .run .result in
+    let ran = outcome-is (asked (if .before)) in
+    let end =
+    found (asked (if .before)) (λ (q : Query). length (list q f t)) (λ (q : Query). queryNumbers q f t) (s .out .now)
+    (if .if1 .left) (run .count) (put .last .0) (counted f t run ran) (put .ensures) in
+    (toZ-pos w32 {n = run .count} (omega (arith, count-few f t run ran)) ∙ end .0, end .1)
 
 pub whole-spec : {M : Type 1} → statement M
 whole-spec =
-    tie.close (tie.spec ask-requires returns put-list-requires cast-t13 same-length returns-2)
+    tie.close
+    (tie.spec
+    query-in-requires
+    run-requires
+    asked-code-requires
+    minus-requires
+    returns
+    put-numbers-requires
+    cast-result
+    same-length
+    returns-2)

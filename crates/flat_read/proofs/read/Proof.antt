@@ -1,0 +1,108 @@
+-- `read` meets its contract. Assumes nothing.
+use mathlib.Core.Path.{_≡_, sym, ap, subst, _∙_}
+use mathlib.Core.Logic.{⊎-elim}
+use Prim.Native.Nat.{_≤_}
+use native.Mathlib.Omega.{arith}
+use lib.ListN.{length}
+use mir.Syntax.{w32}
+use mir.Facts.{toZ-ofZ}
+use borrow.Author.Tests.{lt-ltb, le-ltb}
+use Rattle.rules.specs.declared.Answer.{Answer}
+use Rattle.rules.specs.declared.Step.{Step}
+use Rattle.rules.specs.Numbers.{said, signed}
+use Rattle.rules.specs.Query.{wasRead}
+use Rattle.rules.specs.Calls.{readCall}
+use Rattle.checks.proofs.Answers.{not-read}
+use Rattle.record_layout.specs.Flat.{flatSize, unflatten}
+use Rattle.answers.specs.Refusals.{Numbered, read-refusal}
+use Rattle.flat_calls.specs.Calls.{leftIn, readStep, readNumber, readLeaves}
+use Rattle.flat_calls.specs.Unchanged.{accepted-left}
+use Rattle.flat_read.specs.Unchanged.{read-left}
+use borrow.Author.Needs.{needs, sfits-of}
+use Rattle.flat_read.proofs.read.Statement.{statement}
+use Rattle.flat_read.proofs.read.Tie as tie
+
+-- where the read was called from, and what it answers
+abbrev start : tie.After-read → tie.Start
+start c = c .before .before .before .before .before
+
+abbrev called : tie.After-read → Step
+called c = readCall (start c .args .f .now) (start c .args .t .now) (unflatten (start c .args .lent .now))
+
+stepped : (c : tie.After-read) → c .read .result ≡ called c
+stepped c =
+    let s = start c .args in
+    c .read .ensures ∙ ap (readCall (s .f .now) (s .t .now)) (c .before .unpack .ensures .0)
+
+-- what stands in the lent slice: the record of a read block, or what stood there
+written : (c : tie.At-match-came) → c .match .lent ≡ leftIn (start (c .before) .args .lent .now) (called (c .before))
+written c =
+    let s = start (c .before) .args in
+    let l = s .lent .now in
+    let r = c .before .read .result in
+    let e = stepped (c .before) in
+    ⊎-elim
+    (λ w.
+    let accepted = ap (λ (a : Answer). said a .accepted) (w .1 .given .1) in
+    w .7 ∙ w .4 .ensures ∙ sym (accepted-left l r accepted) ∙ ap (leftIn l) e)
+    (λ w.
+    let same = ap (λ (x : Step). x .answer) e in
+    let other = not-read (s .f .now) (s .t .now) (unflatten l) (r .answer) same (w .0 .keys2) in
+    let quiet = sym (ap (λ (x : Step). wasRead (x .answer)) e) ∙ other in
+    let at = c .before .before in
+    let long : flatSize ≤ length l = omega (arith, at .before .before .if1 .left) in
+    w .1 ∙ sym (read-left l (at .unpack .ensures .1) long (s .f .now) (s .t .now) quiet))
+    (c .match .came)
+
+short-requires : tie.Need-short-requires
+short-requires c κs = search needs
+
+returns : tie.Need-returns
+unfolding readNumber readLeaves readStep leftIn
+returns c =
+    let short = lt-ltb _ _ (c .before .if1 .taken) in
+    (simp short (toZ-ofZ {w = w32} {z = c .short .result} (sfits-of (c .short .ok)) ∙ c .short .ensures), simp short)
+
+unpack-requires : tie.Need-unpack-requires
+unpack-requires c κs = search needs
+
+read-requires : tie.Need-read-requires
+read-requires c κs = search needs
+
+enum-told : tie.Need-enum-told
+enum-told c = search needs
+
+pack-requires : tie.Need-pack-requires
+pack-requires c κs = search needs
+
+told-requires : tie.Need-told-requires
+told-requires c κs =
+    subst Numbered (sym (stepped (c .before))) (read-refusal _ _ _)
+
+same-length : tie.Need-same-length
+same-length c =
+    ⊎-elim (λ w. ap length (w .7) ∙ w .4 .kept .1 .0) (λ w. ap length (w .1)) (c .before .match .came)
+
+returns-2 : tie.Need-returns-2
+unfolding readNumber readLeaves readStep
+returns-2 c =
+    let number = toZ-ofZ {w = w32} {z = c .told .result} (sfits-of (c .told .ok)) in
+    let e = stepped (c .before .before) in
+    let long = le-ltb _ _ (c .before .before .before .before .before .if1 .left) in (
+      simp long (number ∙ c .told .ensures ∙ ap (λ (r : Step). signed (said (r .answer))) e),
+      simp long (written (c .before)),
+    )
+
+pub read-spec : {M : Type 1} → statement M
+read-spec =
+    tie.close
+    (tie.spec
+    short-requires
+    returns
+    unpack-requires
+    read-requires
+    enum-told
+    pack-requires
+    told-requires
+    same-length
+    returns-2)

@@ -1,0 +1,47 @@
+-- A pair whose line can be written: the two tables have its rows, and 64 bits hold its squared distance. Definitions,
+-- and that the line says what document 01's does. Assumes nothing.
+use mathlib.Core.Path.{_≡_, refl}
+use mathlib.Core.List.{List}
+use Prim.Native.Nat.{ℕ, _+_, _*_, _-_, _≤_, _<_, _^_}
+use lib.IntN.{ℤ}
+use lib.ListN.{length}
+use Rattle.rules.specs.declared.Pair.{Pair}
+use Rattle.rules.specs.declared.Query.{Query}
+use Rattle.rules.specs.Tables.{row, squaredDistance}
+use Rattle.rules.specs.Session.{placeCount}
+use Rattle.rules.specs.Query.{inputLength, list, pairLine, pairLines}
+use Rattle.printing.specs.declared.Line.{Line}
+use Rattle.printing.specs.Lines.{lineBytes, lineLength, lastLength}
+
+-- the lines of a query's list
+abbrev pub listLines : Query → List ℤ → List ℤ → List ℕ
+listLines q f t = pairLines f t 1 (list q f t)
+
+-- the bytes of the longest listing: the query's line, those of 64 pairs, the last
+abbrev pub listingRoom : ℕ
+listingRoom = inputLength + lineLength * placeCount + lastLength
+
+abbrev pub RowOf : List ℤ → ℕ → Type 0
+RowOf t i = (1 ≤ i) × (4 * i ≤ length t)
+
+pub record Shown (f t : List ℤ) (p : Pair) : Type 0 where
+  pub field : RowOf f (p .field)
+  pub trim : RowOf t (p .trim)
+  pub small : squaredDistance (row f (p .field - 1) .shade) (row t (p .trim - 1) .shade) < 2 ^ 64
+
+-- what a pair's line says
+unfoldable pub lineOf : List ℤ → List ℤ → ℕ → Pair → Line
+lineOf f t rank p =
+    let x = row f (p .field - 1) in
+    let y = row t (p .trim - 1) in
+    record {
+      rank = rank;
+      sum = p .sum;
+      field = x .pattern;
+      trim = y .pattern;
+      distance = squaredDistance (x .shade) (y .shade);
+    }
+
+pub line-bytes : (f t : List ℤ) (rank : ℕ) (p : Pair) → lineBytes (lineOf f t rank p) ≡ pairLine f t rank p
+unfolding lineBytes lineOf pairLine
+line-bytes f t rank p = refl

@@ -1,0 +1,78 @@
+-- `run` meets its contract. Assumes nothing.
+use mathlib.Core.Path.{_≡_, ap, _∙_}
+use mathlib.Core.List.{List}
+use lib.IntN.{ℤ}
+use lib.ListN.{length}
+use borrow.Author.Needs.{needs}
+use Rattle.rules.specs.declared.Pair.{Pair}
+use Rattle.rules.specs.declared.Query.{Query}
+use Rattle.rules.specs.declared.Session.{Session}
+use Rattle.rules.specs.declared.Step.{Step}
+use Rattle.rules.specs.Numbers.{said, refusal}
+use Rattle.rules.specs.Session.{places}
+use Rattle.rules.specs.Calls.{openCall}
+use Rattle.rules.specs.Query.{settledSession, list}
+use Rattle.run_query.specs.declared.ReadOut.{ReadOut}
+use Rattle.run_query.specs.declared.TakenOut.{TakenOut}
+use Rattle.run_query.specs.declared.Outcome.{Outcome}
+use Rattle.run_query.specs.Until.{readOn, settled-on, list-taken}
+use Rattle.run_query.specs.Outcomes.{refusedBy, readOut, takenOut, queryOutcome, opening-code}
+use Rattle.run_query.proofs.run.Statement.{statement}
+use Rattle.run_query.proofs.run.Tie as tie
+
+module _ (q : Query) (f t : List ℤ)
+    (s : Step) (es : s ≡ openCall q f t) (r : ReadOut) (er : r ≡ readOut f t (s .session)) where
+  read-is : r ≡ record { code = refusedBy f t (settledSession q f t); session = settledSession q f t }
+  unfolding readOut
+  read-is =
+      er
+      ∙ ap (λ (x : Session). record { code = refusedBy f t x; session = x })
+      (ap (λ (x : Step). readOn f t (x .session)) es ∙ settled-on q f t)
+
+  taken-is : (x : TakenOut) → x ≡ takenOut f t (r .session) →
+      x ≡ record { pairs = places (list q f t); count = length (list q f t) }
+  unfolding takenOut
+  taken-is x ex =
+      ex
+      ∙ ap (λ (y : ReadOut). takenOut f t (y .session)) read-is
+      ∙ ap (λ (l : List Pair). record { pairs = places l; count = length l }) (list-taken q f t)
+
+start-requires : tie.Need-start-requires
+start-requires c κs = search needs
+
+read-on-requires : tie.Need-read-on-requires
+read-on-requires c κs = search needs
+
+take-on-requires : tie.Need-take-on-requires
+take-on-requires c κs = search needs
+
+refusal-requires : tie.Need-refusal-requires
+refusal-requires c κs = search needs
+
+returns : tie.Need-returns
+unfolding queryOutcome
+returns c =
+    let at = c .before .before .before .before in
+    let s = at .before .before .before .args in
+    let start = at .before .before .start in
+    let take = c .before .before .take-on in
+    let f = s .f .now in
+    let t = s .t .now in
+    let read = read-is (s .q) f t (start .result) (start .ensures) (at .read-on .result) (at .read-on .ensures) in
+    let taken =
+    taken-is (s .q) f t (start .result) (start .ensures) (at .read-on .result) (at .read-on .ensures) (take .result)
+    (take .ensures) in
+    let code =
+    c .refusal .ensures ∙ ap (λ (x : Step). refusal (said (x .answer))) (start .ensures) ∙ opening-code (s .q) f t in
+    λ i. record {
+      query = s .q;
+      opening = code i;
+      reading = read i .code;
+      session = read i .session;
+      pairs = taken i .pairs;
+      count = taken i .count;
+    }
+
+pub run-spec : {M : Type 1} → statement M
+run-spec =
+    tie.close (tie.spec start-requires read-on-requires take-on-requires refusal-requires returns)

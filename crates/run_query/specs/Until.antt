@@ -1,0 +1,161 @@
+-- Reading on and taking on, call by call, as the code's loops have them. Assumes nothing.
+use mathlib.Core.Path.{_≡_, refl, sym, ap, _∙_}
+use mathlib.Core.Bool.{Bool, true, false}
+use mathlib.Core.List.{List, [], _∷_, _++_}
+use Prim.Native.Nat.{ℕ, zero, suc, _+_, _-_, _≤_, _<_}
+use native.Mathlib.Omega.{arith}
+use lib.Dec.{ltb}
+use lib.IntN.{ℤ}
+use lib.ListN.{length}
+use borrow.Author.Tests.{ltb-true}
+use Rattle.lists.specs.Bools.{clash, and-left}
+use Rattle.rules.specs.declared.Pair.{Pair}
+use Rattle.rules.specs.declared.Query.{Query}
+use Rattle.rules.specs.declared.Session.{Session}
+use Rattle.rules.specs.declared.Step.{Step}
+use Rattle.rules.specs.declared.Answer.{Answer}
+use Rattle.rules.specs.declared.Answer.the-variants.{Given}
+use Rattle.rules.specs.Session.{placeCount, secured}
+use Rattle.rules.specs.Take.{firstHeld, givesPair, movedOut}
+use Rattle.rules.specs.Calls.{openCall, readCall, takeCall}
+use Rattle.rules.specs.Query.{wasRead, given, wasGiven, readUntilSettled, takeUntilFinished, settledSession, list}
+use Rattle.session_laws.specs.Record.{call-fits, record-fits}
+use Rattle.session_laws.specs.Read.{unreadRows, read-raises}
+use Rattle.session_laws.specs.Until.{read-cases, reads-end, take-cases, wanted, takes-end, list-bound}
+
+-- a choice by a test that is known
+module _ {A : Type 0} (x y : A) where
+  chosen : (b : Bool) → b ≡ true → _≡_ {A = A} (elim b [ true ↦ x | false ↦ y ]) x
+  chosen true h = refl
+  chosen false h = clash h refl
+
+  other : (b : Bool) → b ≡ false → _≡_ {A = A} (elim b [ true ↦ x | false ↦ y ]) y
+  other true h = clash refl h
+  other false h = refl
+
+-- ---- Reading
+
+-- the record when it is settled, of a record that is not
+unfoldable pub readOn : List ℤ → List ℤ → Session → Session
+readOn f t s = readUntilSettled (suc (unreadRows s)) f t s
+
+module _ (f t : List ℤ) (s : Session) where
+  pub read-fewer : wasRead (readCall f t s .answer) ≡ true → unreadRows (readCall f t s .session) < unreadRows s
+  read-fewer h =
+      let r = read-cases f t s h in
+      rw (r .after) (read-raises f t s (record-fits s (call-fits f t s (r .accepted))) (r .unsettled))
+
+  pub read-more : wasRead (readCall f t s .answer) ≡ true → readOn f t (readCall f t s .session) ≡ readOn f t s
+  unfolding readOn readUntilSettled
+  read-more h =
+      let n = read-fewer h in
+      let r = readCall f t s .session in
+      reads-end (suc (unreadRows r)) (unreadRows s) f t r (omega arith) n
+      ∙ sym (chosen (readUntilSettled (unreadRows s) f t r) s (wasRead (readCall f t s .answer)) h)
+
+  pub read-ends : wasRead (readCall f t s .answer) ≡ false → s ≡ readOn f t s
+  unfolding readOn readUntilSettled
+  read-ends h =
+      let r = readCall f t s in
+      sym (other (readUntilSettled (unreadRows s) f t (r .session)) s (wasRead (r .answer)) h)
+
+-- from the opening on
+pub settled-on : (q : Query) (f t : List ℤ) → readOn f t (openCall q f t .session) ≡ settledSession q f t
+unfolding readOn settledSession
+settled-on q f t =
+    let s = openCall q f t .session in
+    reads-end (suc (unreadRows s)) (s .rows .field .0 + s .rows .trim .0 + 1) f t s (omega arith) (omega arith)
+
+-- ---- Taking
+
+pub take-more : (n : ℕ) (f t : List ℤ) (s : Session) (p : Pair) → takeCall f t s .answer ≡ Given p →
+    takeUntilFinished (suc n) f t s ≡ p ∷ takeUntilFinished n f t (takeCall f t s .session)
+unfolding takeUntilFinished
+take-more n f t s p h =
+    let a = takeCall f t s .answer in
+    let rest = takeUntilFinished n f t (takeCall f t s .session) in
+    chosen (given a ++ rest) [] (wasGiven a) (ap (λ (a : Answer). wasGiven a) h)
+    ∙ ap (λ (a : Answer). given a ++ rest) h
+
+pub take-ends : (n : ℕ) (f t : List ℤ) (s : Session) → wasGiven (takeCall f t s .answer) ≡ false →
+    takeUntilFinished n f t s ≡ []
+unfolding takeUntilFinished
+take-ends zero f t s h = refl
+take-ends (suc n) f t s h =
+    let a = takeCall f t s .answer in
+    other (given a ++ takeUntilFinished n f t (takeCall f t s .session)) [] (wasGiven a) h
+
+-- at most 64 pairs come out of any record
+fewer-wanted : (f t : List ℤ) (s : Session) → wasGiven (takeCall f t s .answer) ≡ true →
+    (wanted s ≤ placeCount) × (wanted (takeCall f t s .session) < wanted s)
+unfolding movedOut givesPair
+fewer-wanted f t s h =
+    let r = take-cases f t s h in
+    let fits = record-fits s (call-fits f t s (r .accepted)) in
+    let some = ltb-true 0 (s .held) (and-left (ltb 0 (s .held)) (secured f t s (firstHeld s)) (r .gives)) in
+    (omega (arith, fits .query .k .1), rw (r .after) (omega (arith, fits .room)))
+
+-- as many takes as pairs are wanted
+just-wanted : (n : ℕ) (f t : List ℤ) (s : Session) → wanted s ≤ n →
+    takeUntilFinished n f t s ≡ takeUntilFinished (suc n) f t s
+just-wanted zero f t s h = go (wasGiven (takeCall f t s .answer)) refl
+  where
+    go : (b : Bool) → wasGiven (takeCall f t s .answer) ≡ b → takeUntilFinished 0 f t s ≡ takeUntilFinished 1 f t s
+    go true e = absurd (let l = fewer-wanted f t s e .1 in omega arith)
+    go false e = take-ends 0 f t s e ∙ sym (take-ends 1 f t s e)
+just-wanted (suc n) f t s h = go (wasGiven (takeCall f t s .answer)) refl (just-wanted n f t (takeCall f t s .session))
+  where
+    next : Session
+    next = takeCall f t s .session
+
+    go : (b : Bool) → wasGiven (takeCall f t s .answer) ≡ b →
+        (wanted next ≤ n → takeUntilFinished n f t next ≡ takeUntilFinished (suc n) f t next) →
+        takeUntilFinished (suc n) f t s ≡ takeUntilFinished (suc (suc n)) f t s
+    go true e ih =
+        let l = fewer-wanted f t s e .1 in
+        let gave = ap (λ (x : Step). x .answer) (take-cases f t s e .after) in
+        take-more n f t s (firstHeld s) gave
+        ∙ ap (λ (r : List Pair). firstHeld s ∷ r) (ih (omega arith))
+        ∙ sym (take-more (suc n) f t s (firstHeld s) gave)
+    go false e ih = take-ends (suc n) f t s e ∙ sym (take-ends (suc (suc n)) f t s e)
+
+-- so 64 takes bring out the list
+pub list-taken : (q : Query) (f t : List ℤ) → takeUntilFinished placeCount f t (settledSession q f t) ≡ list q f t
+list-taken q f t = go (wasGiven (takeCall f t (settledSession q f t) .answer)) refl
+  where
+    s : Session
+    s = settledSession q f t
+
+    go : (b : Bool) → wasGiven (takeCall f t s .answer) ≡ b → takeUntilFinished placeCount f t s ≡ list q f t
+    go true e =
+        let w = fewer-wanted f t s e .0 in
+        just-wanted placeCount f t s w
+        ∙ takes-end 65 (q .k + 65) f t s (omega arith) (omega arith)
+        ∙ list-bound (q .k + 65) q f t (omega arith)
+    go false e =
+        take-ends placeCount f t s e ∙ sym (take-ends (q .k + 1) f t s e) ∙ list-bound (q .k + 1) q f t (omega arith)
+
+-- so the list has at most 64 pairs
+takes-few : (n : ℕ) (f t : List ℤ) (s : Session) → length (takeUntilFinished n f t s) ≤ n
+unfolding takeUntilFinished
+takes-few zero f t s = omega arith
+takes-few (suc n) f t s = go (wasGiven (takeCall f t s .answer)) refl (takes-few n f t (takeCall f t s .session))
+  where
+    rest : List Pair
+    rest = takeUntilFinished n f t (takeCall f t s .session)
+
+    go : (b : Bool) → wasGiven (takeCall f t s .answer) ≡ b → length rest ≤ n →
+        length (takeUntilFinished (suc n) f t s) ≤ suc n
+    go true e ih =
+        let gave = ap (λ (x : Step). x .answer) (take-cases f t s e .after) in
+        let k : length (takeUntilFinished (suc n) f t s) ≡ suc (length rest) =
+        ap length (take-more n f t s (firstHeld s) gave) in
+        omega arith
+    go false e ih =
+        let k : length (takeUntilFinished (suc n) f t s) ≡ 0 = ap length (take-ends (suc n) f t s e) in omega arith
+
+pub list-few : (q : Query) (f t : List ℤ) → length (list q f t) ≤ placeCount
+list-few q f t =
+    let s = settledSession q f t in
+    let k : length (takeUntilFinished placeCount f t s) ≡ length (list q f t) = ap length (list-taken q f t) in
+    omega (arith, takes-few placeCount f t s, k)

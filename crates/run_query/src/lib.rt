@@ -1,0 +1,110 @@
+// One whole query over two lent tables, run once: opened, read until settled, taken until finished.
+use rules::Answer;
+use rules::Pair;
+use rules::Query;
+use rules::Session;
+ghost use mathlib.Core.Path.{_≡_};
+ghost use Rattle.rules.specs.Numbers.{said, refusal};
+ghost use Rattle.run_query.specs.Outcomes.{readOut, takenOut, queryOutcome};
+
+// The refusal's number that goes with an answer; 0 where none does.
+pub fn refusal(a: Answer) -> u32
+    ensures { λ r. ⌜ r ≡ refusal (said a) ⌝ }
+{
+    match a {
+        Answer::Refused(n) => n,
+        _ => 0,
+    }
+}
+
+// A record of which no read reads a block more, and what the read that did not is refused by; 0 where it is settled.
+struct ReadOut {
+    code: u32,
+    session: Session,
+}
+
+// Reads until settled.
+fn read_on(f: &[i32], t: &[i32], s: Session) -> ReadOut
+    ensures { λ r. ⌜ r ≡ readOut (now (f .entry)) (now (t .entry)) s ⌝ }
+{
+    let mut at = s;
+    loop {
+        let r = reading::read(f, t, at);
+        let answer = r.answer;
+        let Answer::Read = answer else {
+            return ReadOut {
+                code: refusal(answer),
+                session: at,
+            };
+        };
+        let next = r.session;
+        at = next;
+    }
+}
+
+// Pairs, from the front, in a record's 64 places, and how many they are.
+struct TakenOut {
+    pairs: [Pair; rules::PLACES],
+    count: usize,
+}
+
+// Takes until finished.
+fn take_on(f: &[i32], t: &[i32], s: Session) -> TakenOut
+    ensures { λ r. ⌜ r ≡ takenOut (now (f .entry)) (now (t .entry)) s ⌝ }
+{
+    let none = Pair {
+        sum: 0,
+        field: 0,
+        trim: 0,
+    };
+    let mut pairs = [none; rules::PLACES];
+    let mut left = s;
+    let mut n: usize = 0;
+    while n < rules::PLACES {
+        let r = taking::take(f, t, left);
+        let answer = r.answer;
+        let Answer::Given(p) = answer else {
+            return TakenOut { pairs, count: n };
+        };
+        pairs[n] = p;
+        let next = r.session;
+        left = next;
+        n += 1;
+    }
+    TakenOut { pairs, count: n }
+}
+
+// All that a whole query comes to.
+pub struct Outcome {
+    pub query: Query,
+    // What the opening is refused by, and what the last read is; 0 where neither is.
+    pub opening: u32,
+    pub reading: u32,
+    // The record when its reading ended.
+    pub session: Session,
+    // The list, from the front, and how many pairs it has.
+    pub pairs: [Pair; rules::PLACES],
+    pub count: usize,
+}
+
+// Opens, reads until settled and takes until finished. A refused opening's record is zeros: reading it ends with 5, and
+// no pair comes out.
+pub fn run(q: Query, f: &[i32], t: &[i32]) -> Outcome
+    ensures { λ r. ⌜ r ≡ queryOutcome q (now (f .entry)) (now (t .entry)) ⌝ }
+{
+    let opened = opening::start(q, f, t);
+    let answer = opened.answer;
+    let s = opened.session;
+    let read = read_on(f, t, s);
+    let settled = read.session;
+    let taken = take_on(f, t, settled);
+    let pairs = taken.pairs;
+    Outcome {
+        query: q,
+        opening: refusal(answer),
+        reading: read.code,
+        session: settled,
+        pairs,
+        count: taken.count,
+    }
+}
