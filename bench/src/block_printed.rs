@@ -1,4 +1,5 @@
-//! Source 001's block-based algorithm (BA) as printed, its blocks joined by a plane sweep: its "No-Index" form.
+//! The block-based algorithm (BA) of Qi, Bouros and Mamoulis, Top-k Spatial Distance Joins (2020), as printed, its blocks
+//! joined by a plane sweep: its "No-Index" form.
 use crate::held::Held;
 use crate::outcome::Outcome;
 use crate::printed::{read_until_secured, start};

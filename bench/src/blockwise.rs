@@ -1,4 +1,4 @@
-//! Document 01's blockwise join in plain Rust, as one would write it: the same answers, depths and counts.
+//! The rules' blockwise join in plain Rust, as one would write it: the same answers, depths and counts.
 use crate::checks::{call_fits, rows_legal};
 use crate::held::Held;
 use crate::outcome::Outcome;
@@ -8,7 +8,7 @@ use furzeladle::{Pair, Query};
 /// Which checks the join makes.
 #[derive(Clone, Copy, PartialEq)]
 pub enum Checks {
-    /// Those of document 01: the record, the sizes and every row read, on every call.
+    /// Those of the rules: the record, the sizes and every row read, on every call.
     EveryCall,
     /// Each row once, when it is read; nothing else.
     EachRowOnce,

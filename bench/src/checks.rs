@@ -1,4 +1,4 @@
-//! Document 01's checks of a call, for the blockwise baseline.
+//! The rules' checks of a call, for the blockwise baseline.
 use crate::blockwise::Join;
 use crate::held::ahead;
 use furzeladle::{Pair, Query};

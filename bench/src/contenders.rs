@@ -30,6 +30,6 @@ pub const CONTENDERS: [Contender; COUNT] = [
     contender("each row once", blockwise::rows_checked_once),
     contender("all pairs, sorted", join_first::all_pairs_sorted),
     contender("plane sweep", join_first::plane_sweep),
-    contender("001's SFA, scan", score_first::scan),
-    contender("001's BA, sweep", block_printed::swept),
+    contender("source's SFA, scan", score_first::scan),
+    contender("source's BA, sweep", block_printed::swept),
 ];

@@ -41,7 +41,7 @@ impl Held {
         self.places[self.count..].iter().all(|p| *p == ZERO)
     }
 
-    /// The lowest held sum of a full list: 001's bound. Minus one while any pair would go in.
+    /// The lowest held sum of a full list: the source's bound. Minus one while any pair would go in.
     pub fn bound(&self) -> i32 {
         match self.pairs().last() {
             Some(last) if self.is_full() => last.sum as i32,

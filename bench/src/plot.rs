@@ -240,7 +240,7 @@ fn row_series(measured: &[Measured]) -> Vec<Series> {
     };
     vec![
         series("join first: all rows", "#777777", SOLID, deepest(ALL_PAIRS)),
-        series("001's rule", "#00806a", BROAD, deepest(BLOCK_PRINTED)),
+        series("source's rule", "#00806a", BROAD, deepest(BLOCK_PRINTED)),
         series("library", "#0060a8", SOLID, deepest(LIBRARY)),
         series(
             "least sure reading",

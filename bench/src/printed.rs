@@ -1,4 +1,5 @@
-//! Source 001's reading rule and threshold as printed (lines 3 to 5, 7, 12 and 13 of its algorithms 1 and 3).
+//! The reading rule and threshold of Qi, Bouros and Mamoulis, Top-k Spatial Distance Joins (2020), as printed (lines 3 to 5,
+//! 7, 12 and 13 of its algorithms 1 and 3).
 //!
 //! "While more exist in R and S" is taken as "in R or S", and a table that is read out is not chosen again: ending with
 //! the first one would lose pairs.

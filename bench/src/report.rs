@@ -98,7 +98,7 @@ pub fn counts(measured: &[Measured]) {
         "Rows read",
         "Deeper table",
         "Least sure reading",
-        "001's rule reads",
+        "source's rule reads",
         "Block pairs joined",
         "Pair tests",
         "% of all",

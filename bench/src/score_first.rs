@@ -1,4 +1,5 @@
-//! Source 001's score-first algorithm (SFA), row by row, with a scan of the rows read: its "No-Index" form.
+//! The score-first algorithm (SFA) of Qi, Bouros and Mamoulis, Top-k Spatial Distance Joins (2020), row by row, with a scan
+//! of the rows read: its "No-Index" form.
 use crate::held::Held;
 use crate::outcome::Outcome;
 use crate::printed::{read_until_secured, start};

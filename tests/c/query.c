@@ -1,4 +1,4 @@
-/* furzeladle_query from C: document 01's worked query, the refusals that a whole query can give, and what is left alone. */
+/* furzeladle_query from C: the rules' worked query, the refusals that a whole query can give, and what is left alone. */
 #include "furzeladle.h"
 
 #include <stdio.h>

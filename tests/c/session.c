@@ -1,4 +1,4 @@
-/* Document 01's worked query through the C functions, and calls that must be refused. Exit status 0: all as it must be. */
+/* The rules' worked query through the C functions, and calls that must be refused. Exit status 0: all as it must be. */
 #include <stdio.h>
 #include <string.h>
 

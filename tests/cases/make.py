@@ -1,6 +1,6 @@
 #!/usr/bin/env python3
 """Writes the stored cases of the pairing program: a folder each, with FIELD.TAB, TRIM.TAB (absent: not there), stdin and
-the stdout that the program must give. The expected bytes come from the model below, written from document 01 alone; it
+the stdout that the program must give. The expected bytes come from the model below, written from the rules alone; it
 shares nothing with the program.
 
 usage: tests/cases/make.py            writes the folders beside itself
@@ -13,7 +13,7 @@ import sys
 HERE = os.path.dirname(os.path.abspath(__file__))
 
 
-# ---- The model: document 01's strict file, session and listing
+# ---- The model: the rules' strict file, session and listing
 
 class Refused(Exception):
     def __init__(self, number):

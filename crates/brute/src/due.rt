@@ -1,4 +1,4 @@
-// What document 01 asks of a session, found from the double loop: which answers are due, and which record.
+// What the rules ask of a session, found from the double loop: which answers are due, and which record.
 use crate::plain;
 use crate::plain::Sums;
 use rules::Answer;

@@ -1,4 +1,4 @@
-// The ceiling, and whether a held pair is secured: the threshold of document 01's sessions.
+// The ceiling, and whether a held pair is secured: the threshold of the rules' sessions.
 use rules::Pair;
 use rules::Session;
 ghost use mathlib.Core.Path.{_≡_};

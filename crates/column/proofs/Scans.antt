@@ -1,4 +1,4 @@
--- A column that is scanned to its end holds what document 01 says. Assumes nothing.
+-- A column that is scanned to its end holds what the rules say. Assumes nothing.
 use mathlib.Core.Path.{_≡_, refl, sym, ap, _∙_}
 use mathlib.Core.Bool.{Bool, true, false, cond, _&&_, not, and-false, or-true, or-false}
 use mathlib.Core.List.{List, [], _∷_}

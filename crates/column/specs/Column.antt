@@ -1,4 +1,4 @@
--- What a column holds, as document 01 says. Assumes nothing.
+-- What a column holds, as the rules say. Assumes nothing.
 use mathlib.Core.Path.{_≡_}
 use mathlib.Core.Bool.{Bool, true, cond}
 use mathlib.Core.List.{List}

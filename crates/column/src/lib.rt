@@ -1,4 +1,4 @@
-// One column of a strict file, document 01's "A number is right-justified": whether it is formed so, and its number.
+// One column of a strict file, the rules' "A number is right-justified": whether it is formed so, and its number.
 ghost use mathlib.Core.Path.{_≡_};
 ghost use mathlib.Core.Bool.{true};
 ghost use Prim.Native.Nat.{_+_, _≤_, _<_};

@@ -99,7 +99,7 @@ abbrev pub lastRecord : Session → List Line → Session
 lastRecord s [] = s
 lastRecord s (l ∷ lines) = lastRecord (l .gave .session) lines
 
--- What document 01 gives: found "by its rules from the same opening and calls, each step going on from the record that
+-- What the rules give: found "by its rules from the same opening and calls, each step going on from the record that
 -- those rules gave last"
 abbrev pub byRules : Session → List Line → List Step
 byRules s [] = []
@@ -117,7 +117,7 @@ over f t l =
       gave = l .gave;
     }
 
--- the answers that document 01 gives over those
+-- the answers that the rules give over those
 abbrev pub answersOver : Query → List ℤ → List ℤ → List Line → List Answer
 answersOver q f t lines = map (λ g. g .answer) (byRules (openCall q f t .session) (map (over f t) lines))
 

@@ -1,4 +1,4 @@
--- Demand 3 at document 01's worked query: five reads, a take, a call that is lent other slices and refused, three
+-- Demand 3 at the rules' worked query: five reads, a take, a call that is lent other slices and refused, three
 -- reads, a take, and a take that says finished. What each part says there, with its numbers. Assumes nothing.
 use Prim.Native.Nat.{ℕ, _≤_}
 use mathlib.Core.Path.{_≡_, refl, sym, ap, _∙_}
@@ -32,7 +32,7 @@ use Rattle.demand.specs.Transcript.{lent, follows}
 abbrev pub numbers : ℤ → ℤ → ℤ → ℤ → List ℤ → List ℤ
 numbers n s a b rest = n ∷ s ∷ a ∷ b ∷ rest
 
--- document 01's two tables, but for the fifth rows
+-- the rules' two tables, but for the fifth rows
 abbrev fieldsTo : List ℤ → List ℤ
 fieldsTo rest =
     numbers (pos 101) (pos 90) (pos 0) (pos 0)

@@ -1,1 +1,1 @@
-// Demand 3: its statement, its proof over document 01's rules, and what its parts come to. No code.
+// Demand 3: its statement, its proof over the rules, and what its parts come to. No code.

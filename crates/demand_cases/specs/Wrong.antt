@@ -28,7 +28,7 @@ chosenBy rule f t s =
     cond (eqb (s .depth .field .0) 0) true
     (cond (eqb (s .depth .trim .0) 0) false (cond (trimReadOut s) true (cond (fieldReadOut s) false (rule f t s))))
 
--- source 001 as printed: the table whose last score is higher
+-- Qi, Bouros and Mamoulis (2020) as printed: the table whose last score is higher
 abbrev byLastScore : List ℤ → List ℤ → Session → Bool
 byLastScore f t s = leb (lastScore t (s .depth .trim .0)) (lastScore f (s .depth .field .0))
 
@@ -36,7 +36,7 @@ byLastScore f t s = leb (lastScore t (s .depth .trim .0)) (lastScore f (s .depth
 abbrev equalDropsField : List ℤ → List ℤ → Session → Bool
 equalDropsField f t s = leb (scoreDrop f (s .depth .field .0)) (scoreDrop t (s .depth .trim .0))
 
--- document 01's own rule in this form
+-- the rule itself in this form
 abbrev byDrops : List ℤ → List ℤ → Session → Bool
 byDrops f t s =
     let x = scoreDrop f (s .depth .field .0) in
@@ -66,7 +66,7 @@ sure-low : Sure 1 0 highFields lowTrims (fieldRows 2) (trimRows 2)
 unfolding run isSure ceilingAt qualifyingSums atLeast
 sure-low = sure-is-test highFields lowTrims refl refl (fieldRows 2) (trimRows 2) 1 0 (lit≤ tt) .1 refl
 
--- the row limit, here 2, is broken by the last-score rule and kept by document 01's
+-- the row limit, here 2, is broken by the last-score rule and kept by the rule itself
 pub last-score-breaks-limit : Sure 1 0 highFields lowTrims (fieldRows 2) (trimRows 2)
     × (max 2 2 + 1 - 1 < rowsBy byLastScore (topOne 1) highFields lowTrims)
     × (rowsBy byDrops (topOne 1) highFields lowTrims ≡ 2)

@@ -1,4 +1,4 @@
--- What is read of the header: the checks of it are document 01's, and its count is the file's. Assumes nothing.
+-- What is read of the header: the checks of it are the rules', and its count is the file's. Assumes nothing.
 use mathlib.Core.Path.{_≡_, refl, ap, _∙_}
 use mathlib.Core.Bool.{Bool, true, false, _&&_}
 use mathlib.Core.List.{List}

@@ -1,4 +1,4 @@
--- What is read of a row: the checks of it are document 01's checks of the file's table. Assumes nothing.
+-- What is read of a row: the checks of it are the rules' checks of the file's table. Assumes nothing.
 use mathlib.Core.Path.{_≡_, refl, sym, ap, _∙_}
 use mathlib.Core.Bool.{Bool, true, false, _&&_, _||_}
 use mathlib.Core.List.{List, [], _∷_}

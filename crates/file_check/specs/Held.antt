@@ -1,4 +1,4 @@
--- What is read of the header and of a row, and the checks of what was read, by document 01's "The strict file".
+-- What is read of the header and of a row, and the checks of what was read, by the rules' "The strict file".
 -- Definitions only. Assumes nothing.
 use Prim.Native.Nat.{ℕ, _+_}
 use mathlib.Core.Bool.{Bool, true, false, cond, _&&_, _||_}

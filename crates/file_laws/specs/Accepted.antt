@@ -23,7 +23,7 @@ unfit-rows code row n h = let z : _≡_ {A = ℕ} 0 1 = cc in absurd (omega arit
 
 -- ---- The header
 
--- the header's checks, in document 01's order
+-- the header's checks, in the rules' order
 abbrev pub headChecks : List ℕ → ℤ → List ℕ
 headChecks bytes kind =
     unless (leb headerBytes (length bytes)) cutFile

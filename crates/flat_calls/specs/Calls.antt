@@ -1,4 +1,4 @@
--- What the session's calls answer and leave in the slices that they are lent: document 01's calls over a record laid
+-- What the session's calls answer and leave in the slices that they are lent: the rules' calls over a record laid
 -- out flat. Definitions only. Assumes nothing.
 use Prim.Native.Nat.{ℕ, _+_, _-_}
 use mathlib.Core.Bool.{Bool, true, cond, _||_}

@@ -1,5 +1,5 @@
 -- A refused call changes no lent number, nor does one that gives back the record that it was lent; and show's three
--- numbers name the rows that document 01's show returns. Assumes nothing.
+-- numbers name the rows that the rules' show returns. Assumes nothing.
 use mathlib.Core.Path.{_≡_, refl, ap, _∙_}
 use mathlib.Core.Bool.{Bool, true, false, cond}
 use mathlib.Core.List.{List, [], _∷_}

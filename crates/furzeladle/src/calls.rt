@@ -1,4 +1,4 @@
-// The join session for callers in C and Rust: document 01's calls over a record laid out flat in a lent slice.
+// The join session for callers in C and Rust: the rules' calls over a record laid out flat in a lent slice.
 ghost use mathlib.Core.Path.{_≡_};
 ghost use Rattle.flat_calls.specs.Calls.{openNumber, openLeaves, readNumber, readLeaves};
 ghost use Rattle.flat_calls.specs.Calls.{takeNumber, takeLeaves, takeWrites, showNumber, showWrites};

@@ -1,4 +1,4 @@
--- Document 01's two tables as plain ones: the definitions run, and the laws hold of something. Assumes nothing.
+-- The rules' two tables as plain ones: the definitions run, and the laws hold of something. Assumes nothing.
 use Prim.Native.Nat.{ℕ, _+_, _*_, _-_}
 use mathlib.Core.Path.{_≡_, refl}
 use mathlib.Core.Bool.{Bool, true, false}

@@ -28,15 +28,15 @@ rowAt S l i = getD l i (S .blank)
 unfoldable pub weightAt : {A : Type 0} → Side A → List A → ℕ → ℕ
 weightAt S l i = S .weight (rowAt S l i)
 
--- document 01's HF and HT: the weight of the first row
+-- the rules' HF and HT: the weight of the first row
 abbrev pub first : {A : Type 0} → Side A → List A → ℕ
 first S l = weightAt S l 0
 
--- document 01's LF and LT: the weight of the last of n rows read
+-- the rules' LF and LT: the weight of the last of n rows read
 abbrev pub last : {A : Type 0} → Side A → List A → ℕ → ℕ
 last S l n = weightAt S l (n - 1)
 
--- document 01's drop: HF - LF, or HT - LT
+-- the rules' drop: HF - LF, or HT - LT
 abbrev pub dropAt : {A : Type 0} → Side A → List A → ℕ → ℕ
 dropAt S l n = first S l - last S l n
 
@@ -48,7 +48,7 @@ pub record Begins {A : Type 0} (S : Side A) (n : ℕ) (l l′ : List A) : Type 0
   pub ends : length l ≤ n → l′ ≡ l
 
 module _ {A B : Type 0} (S : Side A) (U : Side B) where
-  -- document 01's ceiling at depths p and q: the higher of HF + LT, if trim is not ended, and LF + HT, if field is not
+  -- the rules' ceiling at depths p and q: the higher of HF + LT, if trim is not ended, and LF + HT, if field is not
   unfoldable pub ceiling : List A → ℕ → List B → ℕ → ℕ
   ceiling F p T q =
       max (cond (U .ended T q) 0 (first S F + last U T q)) (cond (S .ended F p) 0 (last S F p + first U T))
@@ -73,7 +73,7 @@ module _ {A B : Type 0} (S : Side A) (U : Side B) (qual : A → B → Bool) wher
   abbrev pub region : ℕ → List A → ℕ → List B → ℕ → ℕ
   region c F p T q = atLeast c (sumsOf (take p F) (take q T))
 
-  -- document 01's sure reading: all legal tables that begin with these rows have the same k highest sums
+  -- the rules' sure reading: all legal tables that begin with these rows have the same k highest sums
   pub record Sure (k : ℕ) (F : List A) (p : ℕ) (T : List B) (q : ℕ) : Type 0 where
     pub same : (F₁ F₂ : List A) (T₁ T₂ : List B) → Begins S p F F₁ → Begins S p F F₂ → Begins U q T T₁
         → Begins U q T T₂ → best k (sumsOf F₁ T₁) ≡ best k (sumsOf F₂ T₂)

@@ -1,5 +1,5 @@
 -- A pair whose line can be written: the two tables have its rows, and 64 bits hold its squared distance. Definitions,
--- and that the line says what document 01's does. Assumes nothing.
+-- and that the line says what the rules' does. Assumes nothing.
 use mathlib.Core.Path.{_≡_, refl}
 use mathlib.Core.List.{List}
 use Prim.Native.Nat.{ℕ, _+_, _*_, _-_, _≤_, _<_, _^_}

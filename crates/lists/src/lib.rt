@@ -1,1 +1,1 @@
-// Lists: the few words on lists that document 01's rules are written in, and their laws. No code.
+// Lists: the few words on lists that the rules are written in, and their laws. No code.

@@ -1,4 +1,4 @@
--- What the program's steps answer, one by one, by document 01's "One whole query"; that they come to the whole.
+-- What the program's steps answer, one by one, by the rules' "One whole query"; that they come to the whole.
 -- Assumes nothing.
 use mathlib.Core.Path.{_≡_, refl, sym, ap, _∙_}
 use mathlib.Core.Bool.{Bool, true, false, cond}

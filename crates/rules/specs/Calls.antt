@@ -1,4 +1,4 @@
--- Document 01, "Numbers for the shed": the grounds of each refusal, the order of checks, and with them the calls:
+-- docs/RULES.md, "Refusals": the grounds of each refusal, the order of checks, and with them the calls:
 -- opening, read, take, show. Definitions only. Assumes nothing.
 use Prim.Native.Nat.{ℕ, zero, suc, _+_, _*_, _-_, _%_}
 use mathlib.Core.Bool.{Bool, false, cond, _&&_, _||_}
@@ -75,7 +75,7 @@ markFits s =
 abbrev pub isZeros : Pair → Bool
 isZeros p = eqb (p .sum) 0 && (eqb (p .field) 0 && eqb (p .trim) 0)
 
--- 5: its grounds, in document 01's order, as tests that must all pass
+-- 5: its grounds, in the rules' order, as tests that must all pass
 abbrev pub recordGrounds : Session → List Bool
 recordGrounds s =
     eqb (queryCode (s .query)) 0

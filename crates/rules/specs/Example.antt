@@ -1,4 +1,4 @@
--- Document 01's worked query, and P1 to P12 as a single tabled fact. Assumes nothing.
+-- The rules' worked query, and P1 to P12 as a single tabled fact. Assumes nothing.
 use Prim.Native.Nat.{ℕ, zero, suc}
 use Prim.Native.Char.{code}
 use Prim.Native.String.{String, len, charAt}
@@ -109,7 +109,7 @@ pub record Entry : Type 0 where
 abbrev pub entry : List ℤ → List ℤ → Entry
 entry x y = record { found = x; said = y }
 
--- P1 to P12, in document 01's order: what the rules find, and what document 01 says
+-- P1 to P12, in the rules' order: what the rules find, and what is wanted
 pub table : List Entry
 table =
     entry (test (qualifies 5 (shade (pos 0) (pos 0)) (shade (pos 3) (pos 4)))) (test true)

@@ -1,4 +1,4 @@
--- Document 01, "The strict file". Definitions only. Assumes nothing.
+-- docs/RULES.md, "The strict file". Definitions only. Assumes nothing.
 use Prim.Native.Nat.{ℕ, zero, suc, _+_, _*_, _-_}
 use mathlib.Core.Bool.{Bool, true, false, cond, _&&_, not}
 use mathlib.Core.List.{List, [], _∷_, _++_}

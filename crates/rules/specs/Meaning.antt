@@ -1,4 +1,4 @@
--- What single rules mean where a slip would not show in document 01's worked query: one law a rule. Assumes nothing.
+-- What single rules mean where a slip would not show in the rules' worked query: one law a rule. Assumes nothing.
 use mathlib.Core.Path.{_≡_, refl}
 use mathlib.Core.Bool.{Bool, true, false, _&&_}
 use mathlib.Core.List.{List}

@@ -1,4 +1,4 @@
--- Document 01, "Numbers for the shed": the table of refusals. 0 is no refusal. Definitions only. Assumes nothing.
+-- docs/RULES.md, "Refusals": the table of refusals. 0 is no refusal. Definitions only. Assumes nothing.
 use Prim.Native.Nat.{ℕ, _≤_}
 use mathlib.Core.Bool.{Bool, true, false, cond}
 use mathlib.Core.List.{List, [], _∷_}

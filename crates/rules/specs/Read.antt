@@ -1,4 +1,4 @@
--- Document 01, "Read". Definitions only. Assumes nothing.
+-- docs/RULES.md, "Read". Definitions only. Assumes nothing.
 use Prim.Native.Nat.{ℕ, zero, suc, _+_, _*_, _-_, _/_, min}
 use mathlib.Core.Bool.{Bool, true, false, cond, _&&_}
 use mathlib.Core.List.{List, [], _∷_, _++_}

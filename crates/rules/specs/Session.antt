@@ -1,4 +1,4 @@
--- Document 01, "The session", up to "Settled". Definitions only. Assumes nothing.
+-- docs/RULES.md, "The session". Definitions only. Assumes nothing.
 use Prim.Native.Nat.{ℕ, _+_, _-_, max}
 use mathlib.Core.Bool.{Bool, true, false, cond, _&&_, _||_, not}
 use mathlib.Core.List.{List, [], _++_}

@@ -1,4 +1,4 @@
--- Rules run on small numbers, where a slip would not show in document 01's worked query. Assumes nothing.
+-- Rules run on small numbers, where a slip would not show in the rules' worked query. Assumes nothing.
 use Prim.Native.Nat.{ℕ}
 use Prim.Native.String.{String}
 use mathlib.Core.Path.{_≡_, refl}

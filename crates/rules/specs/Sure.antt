@@ -1,4 +1,4 @@
--- Document 01, "A sure reading". Definitions only. Assumes nothing.
+-- docs/RULES.md, "Sure readings". Definitions only. Assumes nothing.
 use Prim.Native.Nat.{ℕ, _*_, _≤_}
 use mathlib.Core.Path.{_≡_}
 use mathlib.Core.Bool.{true}

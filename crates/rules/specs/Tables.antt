@@ -1,4 +1,4 @@
--- Document 01, "The two tables". Definitions only. Assumes nothing.
+-- docs/RULES.md, "Tables". Definitions only. Assumes nothing.
 use Prim.Native.Nat.{ℕ, _+_, _*_, _-_, _/_, _%_}
 use mathlib.Core.Bool.{Bool, _&&_, _||_}
 use mathlib.Core.List.{List, map}

@@ -1,4 +1,4 @@
--- Document 01, "Take" and "Show". Definitions only. Assumes nothing.
+-- docs/RULES.md, "Take and show". Definitions only. Assumes nothing.
 use Prim.Native.Nat.{ℕ, _+_, _*_, _-_, _/_}
 use mathlib.Core.Bool.{Bool, cond, _&&_, _||_}
 use mathlib.Core.List.{List, [], _∷_, _++_}

@@ -1,7 +1,7 @@
-// The values that document 01 speaks of: query, pair, record, answers. No code.
-// What they mean stands in specs/, in document 01's order.
+// The values that the rules speak of: query, pair, record, answers. No code.
+// What they mean stands in specs/, in the rules' order.
 
-// The numbers of document 01's table of refusals; 0 is no refusal.
+// The numbers of the table of refusals; 0 is no refusal.
 pub const LIST_LENGTH: u32 = 1;
 
 pub const BLOCK_SIZE: u32 = 2;
@@ -49,10 +49,11 @@ pub struct Shade {
     pub b: i32,
 }
 
-// A count of field rows: the field table's row count, or its depth (d_R in source 001).
+// A count of field rows: the field table's row count, or its depth (d_R in Qi, Bouros and Mamoulis, Top-k Spatial
+// Distance Joins, 2020).
 pub struct FieldRows(pub u32);
 
-// A count of trim rows: the trim table's row count, or its depth (d_S in source 001).
+// A count of trim rows: the trim table's row count, or its depth (d_S there).
 pub struct TrimRows(pub u32);
 
 // One count of each table.
@@ -95,7 +96,7 @@ pub struct Session {
 
 // What a call of the session answers.
 pub enum Answer {
-    // The number of document 01's table.
+    // The number of the rules' table.
     Refused(u32),
     // Opening: accepted.
     Opened,

@@ -107,7 +107,7 @@ module _ (f t : List ℤ) where
           ap (λ (x : List Pair). l ++ x) (ih (omega arith) (omega arith))
       go false e ih = refl
 
--- ---- So the bounds of document 01's whole query never end it: any larger ones give the same record and the same list
+-- ---- So the bounds of the rules' whole query never end it: any larger ones give the same record and the same list
 
 module _ (q : Query) (f t : List ℤ) where
   pub settled-session-bound : (m : ℕ)

@@ -1,1 +1,1 @@
-// Laws of document 01's rules that hold of every record, not only of those that the calls make. No code.
+// Laws of the rules that hold of every record, not only of those that the calls make. No code.

@@ -1,4 +1,4 @@
-// The rows of a table and their checks, document 01's 6 and 7: what the session and file reading share.
+// The rows of a table and their checks, the rules' 6 and 7: what the session and file reading share.
 use rules::Shade;
 ghost use mathlib.Core.Path.{_≡_};
 ghost use mathlib.Core.List.{[], _∷_};

@@ -1,4 +1,4 @@
--- Document 01's ceiling is the join's, what is secured is as high as any pair that is not out, and an unsettled session
+-- The rules' ceiling is the join's, what is secured is as high as any pair that is not out, and an unsettled session
 -- lacks k sums at its ceiling. Assumes legal tables.
 use mathlib.Core.Path.{_≡_, refl, sym, ap, ap₂, subst, subst₂, _∙_}
 use mathlib.Core.Bool.{Bool, true, false, cond, _&&_, not}

@@ -1,4 +1,4 @@
--- Document 01's tables as plain tables of the join, lists of rows: legal tables and their rows correspond one to one,
+-- The rules' tables as plain tables of the join, lists of rows: legal tables and their rows correspond one to one,
 -- and keep the laws of the join. Assumes nothing.
 use mathlib.Core.Path.{_≡_, refl, sym, ap, subst, subst₂, _∙_}
 use mathlib.Core.Bool.{Bool, true}

@@ -1,4 +1,4 @@
--- Document 01's sure readings are the join's, and a test on the rows read says which they are: fact 3 of document 01's
+-- The rules' sure readings are the join's, and a test on the rows read says which they are: step 3 of docs/WHY-IT-HOLDS.md
 -- tables. Assumes legal tables.
 use mathlib.Core.Path.{_≡_, sym, ap, ap₂, _∙_, refl}
 use mathlib.Core.Bool.{Bool, cond, _&&_, _||_, true, false}

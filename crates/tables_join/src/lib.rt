@@ -1,1 +1,1 @@
-// Document 01's tables, pairs and session as an instance of the join. No code.
+// The rules' tables, pairs and session as an instance of the join. No code.

@@ -1,4 +1,4 @@
--- Take's loop, in which the first held pair moves out: what it knows before a turn, and that it ends with document 01's
+-- Take's loop, in which the first held pair moves out: what it knows before a turn, and that it ends with the rules'
 -- record. Assumes nothing.
 use mathlib.Core.Path.{_≡_, refl, ap, _∙_}
 use mathlib.Core.List.{List}

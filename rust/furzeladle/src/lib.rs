@@ -1,7 +1,7 @@
 //! Safe Rust over libfurzeladle.a, whose functions are proved: the strict file, the join session and the whole query.
 //!
 //! A table is `&[i32]`, four numbers to a row: pattern number, score, a, b. Rows are numbered from 1. Nothing here
-//! panics or trusts its input: what does not fit is refused by document 01's number.
+//! panics or trusts its input: what does not fit is refused by the rules' number.
 //!
 //! The boundary asks for pointers that are not null and for written slices that overlap nothing: references are both.
 use std::fmt;
@@ -60,7 +60,7 @@ mod exported {
     }
 }
 
-/// Why a call was refused: document 01's number, and the row for those of a file's 6, 7 and 9 (else 0).
+/// Why a call was refused: the rules' number, and the row for those of a file's 6, 7 and 9 (else 0).
 #[derive(Clone, Copy, Debug, PartialEq, Eq, Hash)]
 pub struct Refusal {
     pub number: u32,

@@ -1,4 +1,4 @@
-//! Document 01's session, step by step, from its words alone: plain Rust that shares nothing with the library.
+//! The rules' session, step by step, from their words alone: plain Rust that shares nothing with the library.
 use furzeladle::{Pair, Query};
 
 pub const PLACES: usize = 64;

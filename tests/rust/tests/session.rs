@@ -1,4 +1,4 @@
-//! The session beside the model of document 01 and the plain double loop, over seeded tables and random calls.
+//! The session beside the model of the rules and the plain double loop, over seeded tables and random calls.
 use furzeladle::{Pair, Progress, Query, Refusal, Session, Table, Taken, RECORD_SIZE};
 use furzeladle_tests::cases::{query, table, Dice, Spread};
 use furzeladle_tests::judge::{self, Fault, Tables};

@@ -1,4 +1,4 @@
--- `column_at` meets its contract: a column scanned to its end holds what document 01 says. Assumes nothing.
+-- `column_at` meets its contract: a column scanned to its end holds what the rules say. Assumes nothing.
 use mathlib.Core.Path.{sym, ap, _∙_}
 use Prim.Native.Nat.{_+_}
 use Rattle.column.specs.Column.{columnHeld}

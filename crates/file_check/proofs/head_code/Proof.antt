@@ -1,4 +1,4 @@
--- `head_code` meets its contract: the checks in document 01's order. Assumes nothing.
+-- `head_code` meets its contract: the checks in the rules' order. Assumes nothing.
 use mir.Facts.{toZ-ofZ}
 use Rattle.file_check.specs.Held.{heldHeadCode}
 use borrow.Author.Needs.{needs}

@@ -1,4 +1,4 @@
--- `start` meets its contract: document 01's opening. Assumes nothing.
+-- `start` meets its contract: the rules' opening. Assumes nothing.
 use mathlib.Core.Path.{_≡_, refl, sym, _∙_}
 use native.Mathlib.Omega.{arith}
 use borrow.Author.Tests.{eq-eqb, ne-eqb}

@@ -1,4 +1,4 @@
--- `read` meets its contract: document 01's read. Assumes nothing.
+-- `read` meets its contract: the rules' read. Assumes nothing.
 use mathlib.Core.Path.{_≡_, sym, ap, _∙_}
 use mathlib.Core.Logic.{⊎-elim}
 use mathlib.Core.Bool.{true, false}

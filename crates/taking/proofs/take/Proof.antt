@@ -1,4 +1,4 @@
--- `take` meets its contract: document 01's take. Assumes nothing.
+-- `take` meets its contract: the rules' take. Assumes nothing.
 use mathlib.Core.Path.{_≡_, sym, ap, _∙_}
 use mathlib.Core.Bool.{true}
 use mathlib.Core.Logic.{⊎-elim}
