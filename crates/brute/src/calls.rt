@@ -1,5 +1,5 @@
 // Calls of the session, and the list of those that must be refused and change nothing: with harmed records, harmed
-// tables, queries out of range. Each of these answers its number, or 0 if it was not refused by it or did change a thing.
+// tables, queries out of range. Each of these answers its number, or 0 if it was not refused by it or changed a thing.
 use crate::dice;
 use crate::due;
 use crate::due::Case;
@@ -131,9 +131,10 @@ fn harmed_depth(s: Session) -> Session {
 // The first held pair; without one a pair that no record holds.
 fn held_twice(s: Session) -> Pair {
     if 0 < s.held {
-        return s.pairs[0];
+        s.pairs[0]
+    } else {
+        pair(20000, 0, 0)
     }
-    pair(20000, 0, 0)
 }
 
 fn harmed_record(l: Lent, s: Session, kind: u32, is_read: bool) -> u32 {

@@ -78,14 +78,17 @@ fn all_read(c: Case, d: Counts) -> bool {
 fn secured(c: Case, m: &Sums, d: Counts) -> u32 {
     let p = d.field.0;
     let q = d.trim.0;
-    let mut ceiling = 0;
-    if p < c.rows.field.0 {
-        ceiling = plain::sum_at(m, p, 1);
-    }
-    if q < c.rows.trim.0 {
-        ceiling = plain::higher(ceiling, plain::sum_at(m, 1, q));
-    }
-    plain::reaching(m, d, ceiling)
+    let field = if p < c.rows.field.0 {
+        plain::sum_at(m, p, 1)
+    } else {
+        0
+    };
+    let trim = if q < c.rows.trim.0 {
+        plain::sum_at(m, 1, q)
+    } else {
+        0
+    };
+    plain::reaching(m, d, plain::higher(field, trim))
 }
 
 // Whether the reading is sure of k.
@@ -132,10 +135,8 @@ pub fn answer(c: Case, m: &Sums, d: Counts, out: u32, is_read: bool) -> u32 {
     if (out < c.query.k) & (out < secured(c, m, d)) {
         return GIVEN;
     }
-    if (out == c.query.k) | all_read(c, d) {
-        return FINISHED;
-    }
-    NOT_YET
+    let ends = (out == c.query.k) | all_read(c, d);
+    if ends { FINISHED } else { NOT_YET }
 }
 
 // Whether the field table is read next.
@@ -157,9 +158,10 @@ fn field_next(c: Case, m: &Sums, d: Counts) -> bool {
 // So many rows of the table that is read, and of the other.
 fn reading(of_field: bool, own: u32, other: u32) -> Counts {
     if of_field {
-        return counts(own, other);
+        counts(own, other)
+    } else {
+        counts(other, own)
     }
-    counts(other, own)
 }
 
 // Whether a block begins after row c.
@@ -193,20 +195,20 @@ fn joined(q: Query, m: &Sums, of_field: bool, a: u32, e: u32, d: u32) -> u32 {
 // The record with one block more read.
 fn read_on(c: Case, m: &Sums, s: Session) -> Session {
     let mut r = s;
-    let block = c.query.block;
     let p = s.depth.field.0;
     let q = s.depth.trim.0;
-    if field_next(c, m, s.depth) {
-        let e = plain::lower(wrapping_add_u32(p, block), c.rows.field.0);
-        r.depth.field.0 = e;
-        r.last = 1;
-        r.joined = wrapping_add_u64(s.joined, joined(c.query, m, true, p, e, q) as u64);
-        return r;
-    }
-    let e = plain::lower(wrapping_add_u32(q, block), c.rows.trim.0);
-    r.depth.trim.0 = e;
-    r.last = 2;
-    r.joined = wrapping_add_u64(s.joined, joined(c.query, m, false, q, e, p) as u64);
+    let of_field = field_next(c, m, s.depth);
+    let a = if of_field { p } else { q };
+    let rows = if of_field {
+        c.rows.field.0
+    } else {
+        c.rows.trim.0
+    };
+    let e = plain::lower(wrapping_add_u32(a, c.query.block), rows);
+    let n = joined(c.query, m, of_field, a, e, if of_field { q } else { p });
+    r.depth = if of_field { counts(e, q) } else { counts(p, e) };
+    r.last = if of_field { 1 } else { 2 };
+    r.joined = wrapping_add_u64(s.joined, n as u64);
     r
 }
 

@@ -15,8 +15,8 @@ use rules::Step;
 use std::num::wrapping_add_u32;
 use std::num::wrapping_sub_u32;
 
-// What is wrong with the record r that a call with s gave back which answered so; after a read as many rows are shown as
-// were read.
+// What is wrong with the record r that a call with s gave back which answered so, these pairs being out. After a read
+// as many rows are shown as were read.
 pub fn record_fault(
     c: Case,
     m: &Sums,
@@ -24,9 +24,9 @@ pub fn record_fault(
     s: Session,
     r: Session,
     said: u32,
-    n: [Pair; 64],
+    given: [Pair; 64],
 ) -> u32 {
-    let fault = judge::differs(due::record(c, m, s, said, n), r);
+    let fault = judge::differs(due::record(c, m, s, said, given), r);
     let field = wrapping_sub_u32(r.depth.field.0, s.depth.field.0);
     let rows = wrapping_add_u32(field, wrapping_sub_u32(r.depth.trim.0, s.depth.trim.0));
     let shows = calls::shown(l, r) == 4 * (rows % 13);

@@ -71,7 +71,7 @@ fn right() -> Seen {
     s
 }
 
-// Whether the comparer finds this fault.
+// Says whether the comparer finds this fault.
 fn finds(name: &[u8], s: Seen, fault: u32) {
     let m = sums();
     line(name, judge::fault(case(&m), &m, s) == fault);
@@ -92,7 +92,10 @@ fn wrong_pairs() {
     listed(b"another sum than its own", 0, pair(17, 1, 1), judge::SUM);
     listed(b"a pair twice", 1, pair(16, 1, 1), judge::TWICE);
     listed(b"the best pair left out", 0, pair(13, 2, 2), judge::ORDER);
-    listed(b"sums out of order", 1, pair(14, 1, 2), judge::ORDER);
+    let mut swapped = right();
+    swapped.given[1] = pair(14, 1, 2);
+    swapped.given[2] = pair(15, 2, 1);
+    finds(b"sums out of order", swapped, judge::ORDER);
     listed(b"a pair too many", 3, pair(13, 2, 2), judge::ORDER);
 }
 
@@ -141,7 +144,7 @@ fn reads(n: u32) -> Session {
 fn third_record(kind: u32) -> Session {
     let mut r = reads(3);
     match kind {
-        0 => r.joined = r.joined,
+        0 => return r,
         1 => r.out = 1,
         2 => return reads(2),
         3 => r.joined = 9,
