@@ -13,20 +13,16 @@ ghost use Rattle.rules.specs.Calls.{queryCode, countsFit, isZeros, recordFits, 
 ghost use Rattle.checks.specs.Grounds.{Shallow, pairWithin, markOf, numbersFit, placeKey};
 ghost use Rattle.checks.specs.Codes.{DepthsFit, lentOf, callOf};
 
+const MOST_ROWS: usize = 65535;
+
 // What a query is refused by, 1 to 3 in this order; 0 where it is not.
 pub fn query_code(q: Query) -> u32
     ensures { λ r. ⌜ r ≡ queryCode q ⌝ }
 {
-    if !((1 <= q.k) & (q.k <= 64)) {
-        return 1;
-    }
-    if !((1 <= q.block) & (q.block <= 1024)) {
-        return 2;
-    }
-    if !(q.radius <= 40000) {
-        return 3;
-    }
-    0
+    let length = tables::unless((1 <= q.k) & (q.k <= 64), rules::LIST_LENGTH);
+    let block = tables::unless((1 <= q.block) & (q.block <= 1024), rules::BLOCK_SIZE);
+    let radius = tables::unless(q.radius <= 40000, rules::RADIUS_RANGE);
+    tables::first(length, tables::first(block, radius))
 }
 
 // A table's row count and depth: at most 65,535 rows, of which the depth is a number of whole blocks, or all.
@@ -34,7 +30,7 @@ fn counts_fit(block: u32, rows: u32, depth: u32) -> bool
     requires { ⌜ 0 < block ⌝ }
     ensures { λ r. ⌜ r ≡ countsFit block rows depth ⌝ }
 {
-    (rows <= 65535) & ((depth <= rows) & ((depth % block == 0) | (depth == rows)))
+    (rows <= rules::MOST_ROWS) & ((depth <= rows) & ((depth % block == 0) | (depth == rows)))
 }
 
 // A held pair's rows, of the two depths, and its sum.
@@ -43,7 +39,7 @@ fn pair_fits(depth: Counts, p: Pair) -> bool
 {
     let field = depth.field.0;
     let trim = depth.trim.0;
-    ((1 <= p.field) & (p.field <= field)) & (((1 <= p.trim) & (p.trim <= trim)) & (p.sum <= 19998))
+    ((1 <= p.field) & (p.field <= field)) & (((1 <= p.trim) & (p.trim <= trim)) & (p.sum <= rules::MOST_SUM))
 }
 
 fn is_zeros(p: Pair) -> bool
@@ -161,34 +157,25 @@ pub fn fits(s: Session) -> bool
 pub fn size_fits(t: &[i32]) -> bool
     ensures { λ r. ⌜ r ≡ sizeFits (now (t .entry)) ⌝ }
 {
-    (t.len() % 4 == 0) & (t.len() / 4 <= 65535)
+    (t.len() % 4 == 0) & (t.len() / 4 <= MOST_ROWS)
 }
 
 // 4 where a slice is not of the row count at opening.
 fn same_size_code(rows: u32, t: &[i32]) -> u32
     ensures { λ r. ⌜ r ≡ sameSizeCode rows (now (t .entry)) ⌝ }
 {
-    if !size_fits(t) {
-        return 4;
-    }
-    if t.len() / 4 == rows as usize {
-        return 0;
-    }
-    4
+    let same = t.len() / 4 == rows as usize;
+    tables::unless(size_fits(t) & same, rules::TABLE_SIZE)
 }
 
 // 5, unless the record passed it, then 4 of either table.
 pub fn lent_code(fits: bool, rows: Counts, f: &[i32], t: &[i32]) -> u32
     ensures { λ r. ⌜ r ≡ lentOf fits rows (now (f .entry)) (now (t .entry)) ⌝ }
 {
-    if !fits {
-        return 5;
-    }
+    let record = tables::unless(fits, rules::BAD_RECORD);
     let field = same_size_code(rows.field.0, f);
-    if field != 0 {
-        return field;
-    }
-    same_size_code(rows.trim.0, t)
+    let trim = same_size_code(rows.trim.0, t);
+    tables::first(record, tables::first(field, trim))
 }
 
 // 5, 4, then 6 and 7 over the rows up to the depths, field first. The record itself is not handed in: it would be
