@@ -39,7 +39,8 @@ fn pair_fits(depth: Counts, p: Pair) -> bool
 {
     let field = depth.field.0;
     let trim = depth.trim.0;
-    ((1 <= p.field) & (p.field <= field)) & (((1 <= p.trim) & (p.trim <= trim)) & (p.sum <= rules::MOST_SUM))
+    ((1 <= p.field) & (p.field <= field))
+        & (((1 <= p.trim) & (p.trim <= trim)) & (p.sum <= rules::MOST_SUM))
 }
 
 fn is_zeros(p: Pair) -> bool

@@ -14,11 +14,12 @@ use Rattle.rules.specs.declared.Query.{Query}
 use Rattle.rules.specs.declared.Session.{Session}
 use Rattle.rules.specs.declared.Step.{Step}
 use Rattle.rules.specs.declared.Answer.{Answer}
-use Rattle.rules.specs.declared.Answer.the-variants.{Refused, Opened, Read, Settled, Given, NotYet, Finished}
+use Rattle.rules.specs.declared.Answer.the-variants.{Opened, Given, Finished}
 use Rattle.rules.specs.Tables.{rowCount, legal, row, qualifies, pairSum}
 use Rattle.rules.specs.Sure.{Sure}
 use Rattle.rules.specs.Numbers.{said}
 use Rattle.rules.specs.Calls.{openCall, readCall, takeCall}
+use Rattle.rules.specs.Query.{given}
 
 -- ---- A sequence of calls, as a transcript
 
@@ -71,20 +72,10 @@ pub record Qualifying (q : Query) (f t : List ℤ) (i j : ℕ) : Type 0 where
 abbrev pub sumOf : List ℤ → List ℤ → ℕ → ℕ → ℕ
 sumOf f t i j = pairSum (row f (i - 1)) (row t (j - 1))
 
--- the pair that an answer brings out, before others
-abbrev pub broughtBy : Answer → List Pair → List Pair
-broughtBy (Refused n) l = l
-broughtBy Opened l = l
-broughtBy Read l = l
-broughtBy Settled l = l
-broughtBy (Given p) l = p ∷ l
-broughtBy NotYet l = l
-broughtBy Finished l = l
-
 -- the pairs that the takes of a transcript answered
 abbrev pub outs : List Line → List Pair
 outs [] = []
-outs (l ∷ lines) = broughtBy (l .gave .answer) (outs lines)
+outs (l ∷ lines) = given (l .gave .answer) ++ outs lines
 
 -- "A pair, named by its two rows, is out once a take of the sequence has answered it"
 abbrev pub IsIn : List Pair → ℕ → ℕ → Type 0

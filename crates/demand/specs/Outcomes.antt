@@ -21,12 +21,13 @@ use Rattle.rules.specs.Read.{fieldNext, readTable, readBlock}
 use Rattle.rules.specs.Take.{firstHeld, givesPair, movedOut, finished}
 use Rattle.rules.specs.Numbers.{said}
 use Rattle.rules.specs.Calls.{callCode, newBlockCode, step, readCall, takeCall}
+use Rattle.rules.specs.Query.{given}
 use Rattle.session_laws.specs.Calls.{call-accepted, call-record, new-block-accepted, read-settled, read-goes}
 use Rattle.session_laws.specs.Calls.{take-gives, take-finishes, take-waits}
 use Rattle.session_laws.specs.Read.{read-field, read-trim, read-grows}
 use Rattle.session_laws.specs.Alike.{SameRows, same-less, same-secured, same-settled, same-next, same-read}
 use Rattle.tables_join.specs.Reached.{Reached, first-inside, empty-none}
-use Rattle.demand.specs.Demand.{Call, reading, taking, promised, broughtBy}
+use Rattle.demand.specs.Demand.{Call, reading, taking, promised}
 use Rattle.demand.specs.Steps.{Happened, refused, settling, going, giving, finishing, waiting}
 use Rattle.demand.specs.Steps.{readsOf, Changed, kept, deeper, fewer}
 
@@ -96,9 +97,9 @@ happened f t f₁ t₁ s c g e same =
 module _ (f t : List ℤ) (s : Session) (c : Call) (g : Step) where
   -- what became of the record
 
-  record-kept : (a : Answer) → g ≡ step a s → broughtBy a [] ≡ [] → readsOf a ≡ 0 → Changed f t s g
+  record-kept : (a : Answer) → g ≡ step a s → given a ≡ [] → readsOf a ≡ 0 → Changed f t s g
   record-kept a e b r =
-      kept (ap (λ g. g .session) e) (ap (λ g. broughtBy (g .answer) []) e ∙ b) (ap (λ g. readsOf (g .answer)) e ∙ r)
+      kept (ap (λ g. g .session) e) (ap (λ g. given (g .answer)) e ∙ b) (ap (λ g. readsOf (g .answer)) e ∙ r)
 
   pub changed : Happened f t s c g → Changed f t s g
   changed (refused n e) = record-kept (Refused n) e refl refl

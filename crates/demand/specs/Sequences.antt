@@ -22,7 +22,8 @@ use Rattle.session_laws.specs.Take.{gives-some}
 use Rattle.session_laws.specs.Alike.{same-less}
 use Rattle.tables_join.specs.Reached.{Reached, open-reached, read-reached, take-reached}
 use Rattle.tables_join.specs.Choice.{read-limit}
-use Rattle.demand.specs.Demand.{Line, Sequence, promised, isAccepted, Follows, broughtBy, outs, lastRecord}
+use Rattle.rules.specs.Query.{given}
+use Rattle.demand.specs.Demand.{Line, Sequence, promised, isAccepted, Follows, outs, lastRecord}
 use Rattle.demand.specs.Demand.{byRules, over}
 use Rattle.demand.specs.Steps.{Happened, Changed, kept, deeper, fewer}
 use Rattle.demand.specs.Openings.{opening-query, opening-is}
@@ -49,28 +50,19 @@ module _ (f t : List ℤ) where
       let rest = follows-rules (l .gave .session) lines (h .2) in
       ap₂ (λ a b. a ∷ b) (h .0) (rest ∙ ap (λ g. byRules (g .session) lines) (h .0))
 
-pub brought-front : (a : Answer) (l : List Pair) → broughtBy a l ≡ broughtBy a [] ++ l
-brought-front (Refused n) l = refl
-brought-front Opened l = refl
-brought-front Read l = refl
-brought-front Settled l = refl
-brought-front (Given p) l = refl
-brought-front NotYet l = refl
-brought-front Finished l = refl
-
 module _ (q : Query) (f t : List ℤ) (g : legal f ≡ true) (h : legal t ≡ true) (size : 1 ≤ q .block) where
   -- One call
 
   module _ {out : List Pair} {s : Session} (a : Reached q f t out s) where
-    line-reached : (x : Step) → Changed f t s x → Reached q f t (out ++ broughtBy (x .answer) []) (x .session)
+    line-reached : (x : Step) → Changed f t s x → Reached q f t (out ++ given (x .answer)) (x .session)
     line-reached x (kept e b r) =
         subst₂ (Reached q f t) (sym (append-nil out) ∙ ap (λ o. out ++ o) (sym b)) (sym e) a
     line-reached x (deeper d e) =
-        subst (λ x. Reached q f t (out ++ broughtBy (x .answer) []) (x .session)) (sym e)
+        subst (λ x. Reached q f t (out ++ given (x .answer)) (x .session)) (sym e)
         (subst (λ o. Reached q f t o (readBlock f t s)) (sym (append-nil out))
         (read-reached (fieldNext f t s) a g h size))
     line-reached x (fewer d e) =
-        subst (λ x. Reached q f t (out ++ broughtBy (x .answer) []) (x .session)) (sym e)
+        subst (λ x. Reached q f t (out ++ given (x .answer)) (x .session)) (sym e)
         (take-reached a (gives-some f t s d))
 
     module _ (l : Line) (lines : List Line) (w : Follows f t s (l ∷ lines)) where
@@ -80,7 +72,7 @@ module _ (q : Query) (f t : List ℤ) (g : legal f ≡ true) (h : legal t ≡ tr
       pub line-changed : Changed f t s (l .gave)
       line-changed = changed f t s (l .call) (l .gave) line-happened
 
-      pub next-reached : Reached q f t (out ++ broughtBy (l .gave .answer) []) (l .gave .session)
+      pub next-reached : Reached q f t (out ++ given (l .gave .answer)) (l .gave .session)
       next-reached = line-reached (l .gave) line-changed
 
   -- All calls
@@ -89,9 +81,9 @@ module _ (q : Query) (f t : List ℤ) (g : legal f ≡ true) (h : legal t ≡ tr
       → Reached q f t (out ++ outs lines) (lastRecord s lines)
   lines-reached [] {out} {s} a w = subst (λ out. Reached q f t out s) (sym (append-nil out)) a
   lines-reached (l ∷ lines) {out} a w =
-      let one : List Pair = broughtBy (l .gave .answer) [] in
+      let one : List Pair = given (l .gave .answer) in
       let more : (out ++ one) ++ outs lines ≡ out ++ outs (l ∷ lines) =
-      append-assoc out one (outs lines) ∙ ap (λ o. out ++ o) (sym (brought-front (l .gave .answer) (outs lines))) in
+      append-assoc out one (outs lines) in
       subst (λ o. Reached q f t o (lastRecord (l .gave .session) lines)) more
       (lines-reached lines (next-reached a l lines w) (w .2))
 
@@ -186,16 +178,16 @@ module _ {q : Query} {f t : List ℤ} {opening : Step} {lines : List Line} (w : 
 
   -- before a call: the record that it was given, and what it did
   module _ (before after : List Line) (l : Line) (e : lines ≡ before ++ l ∷ after) where
-    abbrev given : Session
-    given = lastRecord (opening .session) before
+    abbrev handed : Session
+    handed = lastRecord (opening .session) before
 
-    pub calls-before : Follows f t (opening .session) before × Follows f t given (l ∷ after)
+    pub calls-before : Follows f t (opening .session) before × Follows f t handed (l ∷ after)
     calls-before =
         follows-before f t before (l ∷ after) (opening .session) (subst (Follows f t (opening .session)) e (w .calls))
 
-    pub reached-before : Reached q f t (outs before) given
+    pub reached-before : Reached q f t (outs before) handed
     reached-before = lines-reached q f t (w .field-legal) (w .trim-legal) some-block before reached (calls-before .0)
 
-    pub happened-then : Happened f t given (l .call) (l .gave)
+    pub happened-then : Happened f t handed (l .call) (l .gave)
     happened-then =
-        let c = calls-before .1 in happened f t (l .field) (l .trim) given (l .call) (l .gave) (c .0) (c .1)
+        let c = calls-before .1 in happened f t (l .field) (l .trim) handed (l .call) (l .gave) (c .0) (c .1)

@@ -12,7 +12,8 @@ use Rattle.rules.specs.Session.{settled}
 use Rattle.rules.specs.Read.{readBlock}
 use Rattle.rules.specs.Take.{firstHeld, givesPair, movedOut, finished}
 use Rattle.rules.specs.Calls.{callCode, newBlockCode, step}
-use Rattle.demand.specs.Demand.{Call, reading, taking, broughtBy}
+use Rattle.rules.specs.Query.{given}
+use Rattle.demand.specs.Demand.{Call, reading, taking}
 
 -- the call c, given record s, gave g: refused it gave s back; else it was lent tables f and t, and did one of five
 pub data Happened (f t : List ℤ) (s : Session) (c : Call) (g : Step) : Type 0 where
@@ -39,6 +40,6 @@ readsOf Finished = 0
 
 -- the same as far as the record goes: it stayed as it was, or a block was read, or a pair came out
 pub data Changed (f t : List ℤ) (s : Session) (g : Step) : Type 0 where
-  kept : g .session ≡ s → broughtBy (g .answer) [] ≡ [] → readsOf (g .answer) ≡ 0 → Changed f t s g
+  kept : g .session ≡ s → given (g .answer) ≡ [] → readsOf (g .answer) ≡ 0 → Changed f t s g
   deeper : settled f t s ≡ false → g ≡ step Read (readBlock f t s) → Changed f t s g
   fewer : givesPair f t s ≡ true → g ≡ step (Given (firstHeld s)) (movedOut s) → Changed f t s g

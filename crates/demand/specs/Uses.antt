@@ -23,19 +23,19 @@ use Rattle.rules.specs.declared.Answer.{Answer}
 use Rattle.rules.specs.declared.Answer.the-variants.{Refused, Opened, Read, Settled, Given, NotYet, Finished}
 use Rattle.rules.specs.Tables.{legal, qualifying}
 use Rattle.rules.specs.Calls.{openCall}
+use Rattle.rules.specs.Query.{given}
 use Rattle.rules.specs.Sure.{whole, qualifyingSums}
 use Rattle.tables_join.specs.Pairs.{QualifyingPair, pair-rank, qualifying-distinct}
 use Rattle.tables_join.specs.WholeList.{all-qualify}
-use Rattle.demand.specs.Demand.{Line, Qualifying, promised, broughtBy, outs, Out, lastRecord, byRules}
+use Rattle.demand.specs.Demand.{Line, Qualifying, promised, outs, Out, lastRecord, byRules}
 use Rattle.demand.specs.Demand.{over, Alike, Brought, Demand3}
-use Rattle.demand.specs.Sequences.{brought-front}
 use Rattle.demand.specs.Transcript.{lending, same-rules}
 use Rattle.demand.specs.Named.{fits-qualifying, mem-in, in-mem}
 
 -- Transcripts in parts
 
 -- an answer brings out one pair or none
-one-or-none : (a : Answer) → (broughtBy a [] ≡ []) ⊎ ((p : Pair) × (a ≡ Given p))
+one-or-none : (a : Answer) → (given a ≡ []) ⊎ ((p : Pair) × (a ≡ Given p))
 one-or-none (Refused n) = inl refl
 one-or-none Opened = inl refl
 one-or-none Read = inl refl
@@ -44,16 +44,11 @@ one-or-none (Given p) = inr (p, refl)
 one-or-none NotYet = inl refl
 one-or-none Finished = inl refl
 
-outs-more : (l : Line) (lines : List Line) → outs (l ∷ lines) ≡ broughtBy (l .gave .answer) [] ++ outs lines
-outs-more l lines = brought-front (l .gave .answer) (outs lines)
-
-outs-end : (lines : List Line) (l : Line) → outs (lines ++ l ∷ []) ≡ outs lines ++ broughtBy (l .gave .answer) []
-outs-end [] l = refl
+outs-end : (lines : List Line) (l : Line) → outs (lines ++ l ∷ []) ≡ outs lines ++ given (l .gave .answer)
+outs-end [] l = append-nil (given (l .gave .answer))
 outs-end (x ∷ lines) l =
-    ap (broughtBy (x .gave .answer)) (outs-end lines l)
-    ∙ brought-front (x .gave .answer) (outs lines ++ broughtBy (l .gave .answer) [])
-    ∙ sym (append-assoc (broughtBy (x .gave .answer) []) (outs lines) (broughtBy (l .gave .answer) []))
-    ∙ ap (λ o. o ++ broughtBy (l .gave .answer) []) (sym (outs-more x lines))
+    ap (λ o. given (x .gave .answer) ++ o) (outs-end lines l)
+    ∙ sym (append-assoc (given (x .gave .answer)) (outs lines) (given (l .gave .answer)))
 
 answers-gave : (lines : List Line)
     → map (λ l. l .gave .answer) lines ≡ map (λ g. g .answer) (map (λ l. l .gave) lines)
@@ -112,10 +107,10 @@ module _ {q : Query} {f t : List ℤ} {opening : Step} {lines : List Line} (d : 
       go (one-or-none (l .gave .answer))
       (rest-fits (before ++ l ∷ []) rest after (e ∙ sym (append-assoc before (l ∷ []) (rest ++ after))) p)
     where
-      go : (broughtBy (l .gave .answer) [] ≡ []) ⊎ ((x : Pair) × (l .gave .answer ≡ Given x))
+      go : (given (l .gave .answer) ≡ []) ⊎ ((x : Pair) × (l .gave .answer ≡ Given x))
           → (List·Memᴰ p (outs rest) → QualifyingPair (q .radius) f t p) → QualifyingPair (q .radius) f t p
-      go (inl z) later = later (subst (List·Memᴰ p) (outs-more l rest ∙ ap (λ o. o ++ outs rest) z) m)
-      go (inr x) later = at (subst (λ a. List·Memᴰ p (broughtBy a (outs rest))) (x .1) m)
+      go (inl z) later = later (subst (List·Memᴰ p) (ap (λ o. o ++ outs rest) z) m)
+      go (inr x) later = at (subst (λ a. List·Memᴰ p (given a ++ outs rest)) (x .1) m)
         where
           at : List·Memᴰ p (x .0 ∷ outs rest) → QualifyingPair (q .radius) f t p
           at (List·Memᴰ·head i) =
@@ -135,15 +130,15 @@ module _ {q : Query} {f t : List ℤ} {opening : Step} {lines : List Line} (d : 
       go (one-or-none (l .gave .answer))
       (rest-comes (before ++ l ∷ []) rest after (e ∙ sym (append-assoc before (l ∷ []) (rest ++ after))))
     where
-      go : (broughtBy (l .gave .answer) [] ≡ []) ⊎ ((x : Pair) × (l .gave .answer ≡ Given x))
+      go : (given (l .gave .answer) ≡ []) ⊎ ((x : Pair) × (l .gave .answer ≡ Given x))
           → Come q f t (outs (before ++ l ∷ [])) (outs rest) → Come q f t (outs before) (outs (l ∷ rest))
       go (inl z) c =
           subst₂ (Come q f t) (outs-end before l ∙ ap (λ o. outs before ++ o) z ∙ append-nil (outs before))
-          (sym (outs-more l rest ∙ ap (λ o. o ++ outs rest) z)) c
+          (sym (ap (λ o. o ++ outs rest) z)) c
       go (inr x) c =
           let brought = d .brought before (rest ++ after) l (x .0) e (x .1) in
-          let out = outs-end before l ∙ ap (λ a. outs before ++ broughtBy a []) (x .1) in
-          subst (Come q f t (outs before)) (sym (ap (λ a. broughtBy a (outs rest)) (x .1)))
+          let out = outs-end before l ∙ ap (λ a. outs before ++ given a) (x .1) in
+          subst (Come q f t (outs before)) (sym (ap (λ a. given a ++ outs rest) (x .1)))
           (come-one q f t before (x .0) (outs rest) brought (out-fits before (l ∷ rest ++ after) e)
           (subst (λ o. Come q f t o (outs rest)) out c))
 
