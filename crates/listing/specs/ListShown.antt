@@ -1,65 +1,42 @@
 -- Each pair of the list is shown: it was held, so that its rows were read and are refused by neither 6 nor 7.
 -- Assumes nothing.
 use mathlib.Core.Path.{_≡_, refl, sym, ap, subst, _∙_}
-use mathlib.Core.Bool.{Bool, true, false, cond, _&&_}
-use mathlib.Core.List.{List, [], _∷_, _++_}
+use mathlib.Core.Bool.{Bool, true, false, cond}
+use mathlib.Core.List.{List, [], _∷_}
 use Prim.Native.Nat.{ℕ, zero, suc, _+_, _*_, _-_, _≤_, _<_, _^_}
 use native.Mathlib.Nat.{not-suc-le-zero, mul-le-mul}
 use native.Mathlib.Omega.{arith}
-use lib.Dec.{leb, ltb, eqb}
+use lib.Dec.{leb, eqb}
 use lib.IntN.{ℤ, pos, negsuc}
 use lib.Signed.{mag}
-use lib.ListN.{length, getD, take, drop, length-append, length-replicate, List·getD-append}
-use borrow.Author.Tests.{leb-true, ltb-true, ltb-false, eqb-true}
-use Rattle.lists.specs.Lists.{every}
-use Rattle.lists.specs.Bools.{and-left, and-right}
+use lib.ListN.{length, getD, length-append, length-replicate, List·getD-append}
+use borrow.Author.Tests.{leb-true}
+use Rattle.lists.specs.Bools.{and-left}
 use Rattle.rules.specs.declared.Pair.{Pair}
 use Rattle.rules.specs.declared.Query.{Query}
 use Rattle.rules.specs.declared.Shade.{Shade}
 use Rattle.rules.specs.declared.Session.{Session}
 use Rattle.rules.specs.declared.Step.{Step}
 use Rattle.rules.specs.declared.Answer.the-variants.{Refused, Opened}
-use Rattle.rules.specs.Numbers.{unless, rowLimit, rowOrder}
-use Rattle.rules.specs.Checks.{first-out, unless-out}
-use Rattle.rules.specs.Tables.{Block, num, row, rowCount, within, inRange, rowInRange, rowInOrder, gap, squaredDistance}
-use Rattle.rules.specs.Session.{noPair, placeCount, places, opened, zeros, secured}
-use Rattle.rules.specs.Read.{blockAt, skipped, bestHeld, holding, meet, meetBlocks, readTo, readTable, readBlock}
+use Rattle.rules.specs.Tables.{Block, num, row, rowCount, within, rowInRange, gap, squaredDistance}
+use Rattle.rules.specs.Session.{noPair, placeCount, places, opened, zeros}
+use Rattle.rules.specs.Read.{blockAt, skipped, bestHeld, holding, meet, meetBlocks, readTo, readTable}
 use Rattle.rules.specs.Tables.{qualifying}
-use Rattle.rules.specs.Take.{firstHeld, givesPair, movedOut}
-use Rattle.rules.specs.Calls.{step, between, mostSum, pairFits, rowCode, rowsCode, lentCode, callCode}
+use Rattle.rules.specs.Take.{firstHeld, movedOut}
+use Rattle.rules.specs.Calls.{step}
 use Rattle.rules.specs.Calls.{openCode, openCall, readCall, takeCall}
 use Rattle.rules.specs.Query.{wasRead, wasGiven, readUntilSettled, takeUntilFinished, settledSession, list}
-use Rattle.session_laws.specs.Sizes.{call-lent}
-use Rattle.session_laws.specs.Until.{read-cases, Takes, take-cases}
+use Rattle.session_laws.specs.Tables.{range-out, RowFits}
+use Rattle.session_laws.specs.Record.{first-fits}
+use Rattle.session_laws.specs.Calls.{call-out, Takes, was-read-out, was-given-out}
+use Rattle.session_laws.specs.Take.{gives-some}
 use Rattle.distance.proofs.Gap.{gap-mag}
 use Rattle.run_query.specs.declared.Outcome.{Outcome}
 use Rattle.run_query.specs.Until.{take-more, take-ends, list-few}
 use Rattle.run_query.specs.Outcomes.{queryOutcome, OutcomeOf}
 use Rattle.listing.specs.Shown.{Shown}
 
--- ---- Rows that are not refused
-
-rows-in-range : (t : List ℤ) (n : ℕ) → rowsCode t 0 n ≡ 0 → (i : ℕ) → i < n → rowInRange t i ≡ true
-unfolding rowsCode rowCode
-rows-in-range t zero h i k = absurd (not-suc-le-zero k)
-rows-in-range t (suc n) h i k = go (ltb i n) refl (λ l. rows-in-range t n (passes 0) i l)
-  where
-    passes : (j : ℕ) → getD (rowsCode t 0 n ∷ rowCode t (0 + n) ∷ []) j 0 ≡ 0
-    passes = first-out (rowsCode t 0 n ∷ rowCode t (0 + n) ∷ []) h
-
-    last : rowInRange t (0 + n) ≡ true
-    last =
-        unless-out (rowInRange t (0 + n)) rowLimit (omega arith)
-        (first-out (unless (rowInRange t (0 + n)) rowLimit ∷ unless (rowInOrder t (0 + n)) rowOrder ∷ []) (passes 1) 0)
-
-    go : (b : Bool) → ltb i n ≡ b → (i < n → rowInRange t i ≡ true) → rowInRange t i ≡ true
-    go true e before = before (ltb-true i n e)
-    go false e before =
-        let l : n ≤ i = ltb-false i n e in
-        let s : 0 + n ≡ i = omega arith in
-        subst (λ (m : ℕ). rowInRange t m ≡ true) s last
-
--- ---- Their shades
+-- ---- Shades of rows that are not refused
 
 narrow : (x : ℤ) → within (negsuc 12799) (pos 12700) x ≡ true → mag x ≤ 12799
 unfolding within
@@ -70,15 +47,11 @@ narrow (negsuc a) h = leb-true a 12799 (and-left (leb a 12799) true h)
 abbrev Narrow : Shade → Type 0
 Narrow x = (mag (x .a) ≤ 12799) × (mag (x .b) ≤ 12799)
 
-shade-narrow : (t : List ℤ) (i : ℕ) → rowInRange t i ≡ true → Narrow (row t i .shade)
-unfolding rowInRange inRange row
+shade-narrow : (t : List ℤ) (i : ℕ) → RowFits t i → Narrow (row t i .shade)
+unfolding rowInRange row
 shade-narrow t i h =
-    let p = within (pos 1) (pos 999999) (num t i 0) in
-    let s = within (pos 0) (pos 9999) (num t i 1) in
-    let a = within (negsuc 12799) (pos 12700) (num t i 2) in
-    let b = within (negsuc 12799) (pos 12700) (num t i 3) in
-    let shades = and-right s (a && b) (and-right p (s && (a && b)) h) in
-    (narrow (num t i 2) (and-left a b shades), narrow (num t i 3) (and-right a b shades))
+    let r = range-out (num t i 0) (num t i 1) (num t i 2) (num t i 3) (h .range) in
+    (narrow (num t i 2) (r .a), narrow (num t i 3) (r .b))
 
 square : (n : ℕ) → n ≤ 25600 → n * n ≤ 655360000
 square n h = mul-le-mul h h
@@ -94,45 +67,20 @@ shades-near x y h k =
 
 -- ---- The first held pair, of a record that has places
 
-first-passes : (test : Pair → Bool) (m : ℕ) (l : List Pair) → 0 < length l → 0 < m → every test (take m l) ≡ true →
-    test (getD l 0 noPair) ≡ true
-unfolding every
-first-passes test zero l h k e = absurd (not-suc-le-zero k)
-first-passes test (suc m) [] h k e = absurd (not-suc-le-zero h)
-first-passes test (suc m) (p ∷ l) h k e = and-left (test p) (every test (take m l)) e
-
-is-between : (low high n : ℕ) → between low high n ≡ true → (low ≤ n) × (n ≤ high)
-is-between low high n h =
-    (leb-true low n (and-left (leb low n) (leb n high) h), leb-true n high (and-right (leb low n) (leb n high) h))
-
-rows-reached : (s : Session) (p : Pair) → pairFits s p ≡ true →
-    ((1 ≤ p .field) × (p .field ≤ s .depth .field .0)) × ((1 ≤ p .trim) × (p .trim ≤ s .depth .trim .0))
-unfolding pairFits
-rows-reached s p h =
-    let a = between 1 (s .depth .field .0) (p .field) in
-    let b = between 1 (s .depth .trim .0) (p .trim) in
-    let c = leb (p .sum) mostSum in (
-      is-between 1 (s .depth .field .0) (p .field) (and-left a (b && c) h),
-      is-between 1 (s .depth .trim .0) (p .trim) (and-left b c (and-right a (b && c) h)),
-    )
-
 given-shown : (f t : List ℤ) (s : Session) → 0 < length (s .pairs) → Takes f t s → Shown f t (firstHeld s)
-unfolding callCode givesPair
 given-shown f t s placed r =
     let p = firstHeld s in
-    let d = s .depth .field .0 in
-    let e = s .depth .trim .0 in
-    let known = call-lent f t s (r .accepted) in
+    let seen = call-out f t s (r .accepted) in
+    let known = seen .lent in
     let fits = known .fits in
-    let some = ltb-true 0 (s .held) (and-left (ltb 0 (s .held)) (secured f t s p) (r .gives)) in
-    let at = rows-reached s p (first-passes (pairFits s) (s .held) (s .pairs) placed some (fits .pairs)) in
-    let passes =
-    first-out (lentCode f t s ∷ rowsCode f 0 d ∷ rowsCode t 0 e ∷ []) (eqb-true (callCode f t s) 0 (r .accepted)) in
-    let x = shade-narrow f (p .field - 1) (rows-in-range f d (passes 1) (p .field - 1) (omega (arith, at .0))) in
-    let y = shade-narrow t (p .trim - 1) (rows-in-range t e (passes 2) (p .trim - 1) (omega (arith, at .1))) in
+    let at = first-fits s fits placed (gives-some f t s (r .gives)) in
+    let in-f = at .field-row in
+    let in-t = at .trim-row in
+    let x = shade-narrow f (p .field - 1) (seen .field-rows (p .field - 1) (omega arith)) in
+    let y = shade-narrow t (p .trim - 1) (seen .trim-rows (p .trim - 1) (omega arith)) in
     record {
-      field = (at .0 .0, omega (arith, at .0 .1, fits .field .within, known .field .count, known .field .size .whole));
-      trim = (at .1 .0, omega (arith, at .1 .1, fits .trim .within, known .trim .count, known .trim .size .whole));
+      field = (in-f .0, omega (arith, fits .field .within, known .field .count, known .field .size .whole));
+      trim = (in-t .0, omega (arith, fits .trim .within, known .trim .count, known .trim .size .whole));
       small = shades-near (row f (p .field - 1) .shade) (row t (p .trim - 1) .shade) x y;
     }
 
@@ -176,7 +124,8 @@ reads-placed (suc n) f t s h =
         (0 < length (next .pairs) → 0 < length (readUntilSettled n f t next .pairs)) →
         (let r : Session = elim b [ true ↦ readUntilSettled n f t next | false ↦ s ] in 0 < length (r .pairs))
     go true e ih =
-        ih (rw (read-cases f t s e .after) (blocks-placed _ s _ _ _ _ h))
+        let read = was-read-out f t s e .after in
+        ih (subst (λ (x : Step). 0 < length (x .session .pairs)) (sym read) (blocks-placed _ s _ _ _ _ h))
     go false e ih = h
 
 settled-placed : (q : Query) (f t : List ℤ) → 0 < length (settledSession q f t .pairs)
@@ -219,7 +168,7 @@ takes-shown (suc n) f t s placed =
         (0 < length (takeCall f t s .session .pairs) → AllShown f t rest) →
         AllShown f t (takeUntilFinished (suc n) f t s)
     go true e ih =
-        let r = take-cases f t s e in
+        let r = was-given-out f t s e in
         let gave = ap (λ (x : Step). x .answer) (r .after) in
         let next : 0 < length (takeCall f t s .session .pairs) = rw (r .after) (moved-placed s) in
         subst (AllShown f t) (sym (take-more n f t s (firstHeld s) gave))

@@ -2,26 +2,24 @@
 use mathlib.Core.Path.{_≡_, refl, sym, ap, _∙_}
 use mathlib.Core.Bool.{Bool, true, false}
 use mathlib.Core.List.{List, [], _∷_, _++_}
-use Prim.Native.Nat.{ℕ, zero, suc, _+_, _-_, _≤_, _<_}
+use Prim.Native.Nat.{ℕ, zero, suc, _+_, _≤_}
 use native.Mathlib.Omega.{arith}
-use lib.Dec.{ltb}
 use lib.IntN.{ℤ}
 use lib.ListN.{length}
-use borrow.Author.Tests.{ltb-true}
-use Rattle.lists.specs.Bools.{clash, and-left}
+use Rattle.lists.specs.Bools.{clash}
 use Rattle.rules.specs.declared.Pair.{Pair}
 use Rattle.rules.specs.declared.Query.{Query}
 use Rattle.rules.specs.declared.Session.{Session}
 use Rattle.rules.specs.declared.Step.{Step}
 use Rattle.rules.specs.declared.Answer.{Answer}
 use Rattle.rules.specs.declared.Answer.the-variants.{Given}
-use Rattle.rules.specs.Session.{placeCount, secured}
-use Rattle.rules.specs.Take.{firstHeld, givesPair, movedOut}
+use Rattle.rules.specs.Session.{placeCount}
+use Rattle.rules.specs.Take.{firstHeld}
 use Rattle.rules.specs.Calls.{openCall, readCall, takeCall}
 use Rattle.rules.specs.Query.{wasRead, given, wasGiven, readUntilSettled, takeUntilFinished, settledSession, list}
-use Rattle.session_laws.specs.Record.{call-fits, record-fits}
-use Rattle.session_laws.specs.Read.{unreadRows, read-raises}
-use Rattle.session_laws.specs.Until.{read-cases, reads-end, take-cases, wanted, takes-end, list-bound}
+use Rattle.session_laws.specs.Calls.{was-given-out}
+use Rattle.session_laws.specs.Read.{unreadRows}
+use Rattle.session_laws.specs.Until.{fewer-unread, reads-end, wanted, fewer-wanted, takes-end, list-bound}
 
 -- a choice by a test that is known
 module _ {A : Type 0} (x y : A) where
@@ -40,17 +38,12 @@ unfoldable pub readOn : List ℤ → List ℤ → Session → Session
 readOn f t s = readUntilSettled (suc (unreadRows s)) f t s
 
 module _ (f t : List ℤ) (s : Session) where
-  pub read-fewer : wasRead (readCall f t s .answer) ≡ true → unreadRows (readCall f t s .session) < unreadRows s
-  read-fewer h =
-      let r = read-cases f t s h in
-      rw (r .after) (read-raises f t s (record-fits s (call-fits f t s (r .accepted))) (r .unsettled))
-
   pub read-more : wasRead (readCall f t s .answer) ≡ true → readOn f t (readCall f t s .session) ≡ readOn f t s
   unfolding readOn readUntilSettled
   read-more h =
-      let n = read-fewer h in
+      let n = fewer-unread f t s h in
       let r = readCall f t s .session in
-      reads-end (suc (unreadRows r)) (unreadRows s) f t r (omega arith) n
+      reads-end f t (suc (unreadRows r)) (unreadRows s) r (omega arith) n
       ∙ sym (chosen (readUntilSettled (unreadRows s) f t r) s (wasRead (readCall f t s .answer)) h)
 
   pub read-ends : wasRead (readCall f t s .answer) ≡ false → s ≡ readOn f t s
@@ -64,7 +57,7 @@ pub settled-on : (q : Query) (f t : List ℤ) → readOn f t (openCall q f t .se
 unfolding readOn settledSession
 settled-on q f t =
     let s = openCall q f t .session in
-    reads-end (suc (unreadRows s)) (s .rows .field .0 + s .rows .trim .0 + 1) f t s (omega arith) (omega arith)
+    reads-end f t (suc (unreadRows s)) (s .rows .field .0 + s .rows .trim .0 + 1) s (omega arith) (omega arith)
 
 -- ---- Taking
 
@@ -85,16 +78,6 @@ take-ends (suc n) f t s h =
     let a = takeCall f t s .answer in
     other (given a ++ takeUntilFinished n f t (takeCall f t s .session)) [] (wasGiven a) h
 
--- at most 64 pairs come out of any record
-fewer-wanted : (f t : List ℤ) (s : Session) → wasGiven (takeCall f t s .answer) ≡ true →
-    (wanted s ≤ placeCount) × (wanted (takeCall f t s .session) < wanted s)
-unfolding movedOut givesPair
-fewer-wanted f t s h =
-    let r = take-cases f t s h in
-    let fits = record-fits s (call-fits f t s (r .accepted)) in
-    let some = ltb-true 0 (s .held) (and-left (ltb 0 (s .held)) (secured f t s (firstHeld s)) (r .gives)) in
-    (omega (arith, fits .query .k .1), rw (r .after) (omega (arith, fits .room)))
-
 -- as many takes as pairs are wanted
 just-wanted : (n : ℕ) (f t : List ℤ) (s : Session) → wanted s ≤ n →
     takeUntilFinished n f t s ≡ takeUntilFinished (suc n) f t s
@@ -113,7 +96,7 @@ just-wanted (suc n) f t s h = go (wasGiven (takeCall f t s .answer)) refl (just-
         takeUntilFinished (suc n) f t s ≡ takeUntilFinished (suc (suc n)) f t s
     go true e ih =
         let l = fewer-wanted f t s e .1 in
-        let gave = ap (λ (x : Step). x .answer) (take-cases f t s e .after) in
+        let gave = ap (λ (x : Step). x .answer) (was-given-out f t s e .after) in
         take-more n f t s (firstHeld s) gave
         ∙ ap (λ (r : List Pair). firstHeld s ∷ r) (ih (omega arith))
         ∙ sym (take-more (suc n) f t s (firstHeld s) gave)
@@ -130,10 +113,10 @@ list-taken q f t = go (wasGiven (takeCall f t (settledSession q f t) .answer)) r
     go true e =
         let w = fewer-wanted f t s e .0 in
         just-wanted placeCount f t s w
-        ∙ takes-end 65 (q .k + 65) f t s (omega arith) (omega arith)
-        ∙ list-bound (q .k + 65) q f t (omega arith)
+        ∙ takes-end f t 65 (q .k + 65) s (omega arith) (omega arith)
+        ∙ list-bound q f t (q .k + 65) (omega arith)
     go false e =
-        take-ends placeCount f t s e ∙ sym (take-ends (q .k + 1) f t s e) ∙ list-bound (q .k + 1) q f t (omega arith)
+        take-ends placeCount f t s e ∙ sym (take-ends (q .k + 1) f t s e) ∙ list-bound q f t (q .k + 1) (omega arith)
 
 -- so the list has at most 64 pairs
 takes-few : (n : ℕ) (f t : List ℤ) (s : Session) → length (takeUntilFinished n f t s) ≤ n
@@ -147,7 +130,7 @@ takes-few (suc n) f t s = go (wasGiven (takeCall f t s .answer)) refl (takes-few
     go : (b : Bool) → wasGiven (takeCall f t s .answer) ≡ b → length rest ≤ n →
         length (takeUntilFinished (suc n) f t s) ≤ suc n
     go true e ih =
-        let gave = ap (λ (x : Step). x .answer) (take-cases f t s e .after) in
+        let gave = ap (λ (x : Step). x .answer) (was-given-out f t s e .after) in
         let k : length (takeUntilFinished (suc n) f t s) ≡ suc (length rest) =
         ap length (take-more n f t s (firstHeld s) gave) in
         omega arith

@@ -9,9 +9,10 @@ use Rattle.rules.specs.Numbers.{said, refusal}
 use Rattle.rules.specs.Calls.{readCall}
 use Rattle.rules.specs.Query.{wasRead}
 use Rattle.session_laws.specs.Read.{unreadRows}
+use Rattle.session_laws.specs.Until.{fewer-unread}
 use Rattle.checks.proofs.Answers.{not-read}
 use Rattle.run_query.specs.declared.ReadOut.{ReadOut}
-use Rattle.run_query.specs.Until.{readOn, read-fewer, read-more, read-ends}
+use Rattle.run_query.specs.Until.{readOn, read-more, read-ends}
 use Rattle.run_query.specs.Outcomes.{refusedBy, readOut}
 use Rattle.run_query.proofs.read_on.Statement.{statement}
 use Rattle.run_query.proofs.read_on.Tie as tie
@@ -58,7 +59,7 @@ loop-less c =
     let s = at .before .args in
     let read = c .before .before .before .read in
     let answered = ap (λ (x : Step). x .answer) (sym (read .ensures)) ∙ c .before .enum-told .given .1 in
-    rw (read .ensures) (read-fewer (s .f .now) (s .t .now) (at .loop .at) (ap (λ (a : Answer). wasRead a) answered))
+    rw (read .ensures) (fewer-unread (s .f .now) (s .t .now) (at .loop .at) (ap (λ (a : Answer). wasRead a) answered))
 
 loop-again : tie.Need-loop-again Inv-loop μ-loop
 loop-again c =
