@@ -116,7 +116,7 @@ abbrev pub IsUnfit : Loaded → Type 0
 IsUnfit x = OneOf (1 ∷ []) (tagOf Loads.the-type x)
 
 has-code : (x : Loaded) → IsUnfit x → Told mostRows x → refusal (saidOf x) ≡ 0 → ⊥
-has-code (Rows n) h k = let z : _≡_ {A = ℕ} 0 1 = h in absurd (omega arith)
+has-code (Rows n) h k e = let z : _≡_ {A = ℕ} 0 1 = h in absurd (omega arith)
 has-code (Unfit code row) h k e = omega (arith, k .2)
 
 unfit-line : (bytes : List ℕ) (kind : ℤ) (x : Loaded) (b : List ℕ) → x ≡ programFile bytes kind → IsUnfit x →
