@@ -54,7 +54,8 @@ pub fn line_of(f: &[i32], t: &[i32], rank: u32, p: Pair) -> Line
 // The list's lines, from a place on.
 fn put_pairs(out: &mut [u8], at: usize, f: &[i32], t: &[i32], run: Outcome)
     requires { ⌜ (at + lineLength * placeCount ≤ length (now out)) × OutcomeOf (now f) (now t) run ⌝ }
-    ensures { λ _. ⌜ now (out .exit) ≡ putAt at (listLines (run .query) (now (f .entry)) (now (t .entry))) (now (out .entry)) ⌝ }
+    ensures { λ _. ⌜ now (out .exit)
+        ≡ putAt at (listLines (run .query) (now (f .entry)) (now (t .entry))) (now (out .entry)) ⌝ }
 {
     let mut i: usize = 0;
     while i < run.count {
@@ -69,7 +70,8 @@ fn put_pairs(out: &mut [u8], at: usize, f: &[i32], t: &[i32], run: Outcome)
 pub fn put_listing(out: &mut [u8], f: &[i32], t: &[i32], run: Outcome) -> usize
     requires { ⌜ (listingRoom ≤ length (now out)) × OutcomeOf (now f) (now t) run ⌝ }
     ensures { λ r. ⌜ (r ≤ listingRoom) × (r ≡ length (listing (run .query) (now (f .entry)) (now (t .entry)))) ⌝ }
-    ensures { λ _. ⌜ now (out .exit) ≡ putAt 0 (listing (run .query) (now (f .entry)) (now (t .entry))) (now (out .entry)) ⌝ }
+    ensures { λ _. ⌜ now (out .exit)
+        ≡ putAt 0 (listing (run .query) (now (f .entry)) (now (t .entry))) (now (out .entry)) ⌝ }
 {
     let settled = run.session;
     let end = printing::QUERY_LENGTH + printing::LINE_LENGTH * run.count;

@@ -37,9 +37,11 @@ left-length true w n = decimal-length w n
 left-length false w n = length-replicate w blank
 
 one-more : (w : ℕ) → replicate w blank ++ (blank ∷ []) ≡ replicate (suc w) blank
-one-more w = replicate-append-replicate w 1 blank ∙ ap (λ (k : ℕ). replicate k blank) {x = w + 1} {y = suc w} (omega arith)
+one-more w =
+    replicate-append-replicate w 1 blank ∙ ap (λ (k : ℕ). replicate k blank) {x = w + 1} {y = suc w} (omega arith)
 
-pub left-last : (more : Bool) (w n : ℕ) → left more (suc w) n ≡ left (more && not (ltb n 10)) w (n / 10) ++ (lastColumn more n ∷ [])
+pub left-last : (more : Bool) (w n : ℕ) →
+    left more (suc w) n ≡ left (more && not (ltb n 10)) w (n / 10) ++ (lastColumn more n ∷ [])
 unfolding left lastColumn decimal
 left-last true w n = go (ltb n 10)
   where
@@ -75,7 +77,8 @@ lineBytes x =
 
 -- a number of w columns, then other bytes
 pub then : (w at n : ℕ) (b l : List ℕ) → putAt at (decimal w n ++ b) l ≡ putAt (at + w) b (putAt at (decimal w n) l)
-then w at n b l = put-on at (decimal w n) b l ∙ ap (λ (m : ℕ). putAt (at + m) b (putAt at (decimal w n) l)) (decimal-length w n)
+then w at n b l =
+    put-on at (decimal w n) b l ∙ ap (λ (m : ℕ). putAt (at + m) b (putAt at (decimal w n) l)) (decimal-length w n)
 
 -- ---- How long the lines are
 

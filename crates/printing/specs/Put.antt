@@ -1,4 +1,5 @@
--- Bytes written over others from a place on: what of them fits, the rest as it was. Definition and laws. Assumes nothing.
+-- Bytes written over others from a place on: what of them fits, the rest as it was. Definition and laws.
+-- Assumes nothing.
 use mathlib.Core.Path.{_≡_, refl, sym, ap, _∙_}
 use mathlib.Core.List.{List, [], _∷_, _++_}
 use Prim.Native.Nat.{ℕ, zero, suc, _+_, _≤_}
@@ -48,7 +49,8 @@ put-one zero v (x ∷ y ∷ l) = refl
 put-one (suc n) v (x ∷ l) = ap (λ (k : List ℕ). x ∷ k) (put-one n v l)
 
 -- bytes before a byte that is written first
-pub put-before : (n : ℕ) (a : List ℕ) (v : ℕ) (l : List ℕ) → putAt n a (set l (n + length a) v) ≡ putAt n (a ++ (v ∷ [])) l
+pub put-before : (n : ℕ) (a : List ℕ) (v : ℕ) (l : List ℕ) →
+    putAt n a (set l (n + length a) v) ≡ putAt n (a ++ (v ∷ [])) l
 unfolding putAt
 put-before n a v [] = refl
 put-before zero [] v (x ∷ []) = refl

@@ -33,7 +33,8 @@ use Rattle.program.specs.Program.{program-code, program-rows, program-to
 
 -- ---- A file
 
-module _ (bytes : List ℕ) (kind : ℤ) (lent : List ℤ) (h : leb (length bytes) mostFileBytes ≡ true) (long : tableRoom ≤ length lent) where
+module _ (bytes : List ℕ) (kind : ℤ) (lent : List ℤ)
+    (h : leb (length bytes) mostFileBytes ≡ true) (long : tableRoom ≤ length lent) where
   checked : programFile bytes kind ≡ checkFile bytes kind
   unfolding programFile
   checked = simp h
@@ -43,7 +44,8 @@ module _ (bytes : List ℕ) (kind : ℤ) (lent : List ℤ) (h : leb (length byte
   unfolding loadAnswer andSlice
   load-small = go (checkFile bytes kind) refl ∙ sym checked
     where
-      go : (x : Loaded) → checkFile bytes kind ≡ x → andSlice (length lent) (checkFile bytes kind) ≡ checkFile bytes kind
+      go : (x : Loaded) → checkFile bytes kind ≡ x →
+          andSlice (length lent) (checkFile bytes kind) ≡ checkFile bytes kind
       go (Unfit code row) e = ap (andSlice (length lent)) e ∙ sym e
       go (Rows n) e =
           let few = program-rows bytes kind n (checked ∙ e) .1 in
@@ -66,13 +68,15 @@ table-there bytes kind out x n ex e long = let few = program-rows bytes kind n (
 
 -- ---- The input
 
-module _ (input : List ℕ) (k b r : Column) (ek : k ≡ columnHeld false (columns input 0 6)) (eb : b ≡ columnHeld false (columns input 6 6)) (er : r ≡ columnHeld false (columns input 12 6)) (size : eqb (length input) inputLength ≡ true) where
+module _ (input : List ℕ) (k b r : Column) (ek : k ≡ columnHeld false (columns input 0 6))
+    (eb : b ≡ columnHeld false (columns input 6 6)) (er : r ≡ columnHeld false (columns input 12 6))
+    (size : eqb (length input) inputLength ≡ true) where
   fits-is : (k .fits && (b .fits && (r .fits && endsLine input 18))) ≡ inputFits input
   unfolding columnHeld
   fits-is = simp (ek, eb, er)
 
-  number-is : (c : Column) (o : ℕ) → c ≡ columnHeld false (columns input o 6) → columnFits false (columns input o 6) ≡ true →
-      natOf (c .number) ≡ natOf (columnNumber false (columns input o 6))
+  number-is : (c : Column) (o : ℕ) → c ≡ columnHeld false (columns input o 6) →
+      columnFits false (columns input o 6) ≡ true → natOf (c .number) ≡ natOf (columnNumber false (columns input o 6))
   number-is c o e h =
       ap (λ (x : Column). natOf (x .number)) e ∙ ap (λ (z : ℤ). natOf z) (number-held false (columns input o 6) h)
 
@@ -82,8 +86,8 @@ module _ (input : List ℕ) (k b r : Column) (ek : k ≡ columnHeld false (colum
   input-bad h = simp (size, sym fits-is ∙ h)
 
   pub input-good : (k .fits && (b .fits && (r .fits && endsLine input 18))) ≡ true →
-      _≡_ {A = Input} (record { code = 0; query = record { k = natOf (k .number); block = natOf (b .number); radius = natOf (r .number) } })
-      (inputHeld input)
+      (let query = record { k = natOf (k .number); block = natOf (b .number); radius = natOf (r .number) } in
+      _≡_ {A = Input} (record { code = 0; query = query }) (inputHeld input))
   unfolding inputHeld inputCode inputQuery
   input-good h =
       let fits : inputFits input ≡ true = sym fits-is ∙ h in

@@ -106,7 +106,8 @@ fn read_input(input: &[u8]) -> Input
 // The listing, or the refusal of the opening.
 fn put_answer(out: &mut [u8], q: Query, f: &[i32], t: &[i32]) -> usize
     requires { ⌜ listingRoom ≤ length (now out) ⌝ }
-    ensures { λ r. ⌜ Written (answerBytes q (now (f .entry)) (now (t .entry))) (now (out .entry)) (now (out .exit)) r ⌝ }
+    ensures { λ r. ⌜ Written (answerBytes q (now (f .entry)) (now (t .entry)))
+        (now (out .entry)) (now (out .exit)) r ⌝ }
 {
     let run = run_query::run(q, f, t);
     if run.opening != 0 {
@@ -118,7 +119,8 @@ fn put_answer(out: &mut [u8], q: Query, f: &[i32], t: &[i32]) -> usize
 // The same of the query that the input asks for.
 fn put_asked(out: &mut [u8], input: &[u8], f: &[i32], t: &[i32]) -> usize
     requires { ⌜ listingRoom ≤ length (now out) ⌝ }
-    ensures { λ r. ⌜ Written (inputBytes (now (input .entry)) (now (f .entry)) (now (t .entry))) (now (out .entry)) (now (out .exit)) r ⌝ }
+    ensures { λ r. ⌜ Written (inputBytes (now (input .entry)) (now (f .entry)) (now (t .entry)))
+        (now (out .entry)) (now (out .exit)) r ⌝ }
 {
     let asked = read_input(input);
     if asked.code != 0 {
@@ -130,7 +132,8 @@ fn put_asked(out: &mut [u8], input: &[u8], f: &[i32], t: &[i32]) -> usize
 // What the program prints, at the front of `out`: how many bytes it is.
 fn put_whole(out: &mut [u8], field: &[u8], trim: &[u8], input: &[u8]) -> usize
     requires { ⌜ listingRoom ≤ length (now out) ⌝ }
-    ensures { λ r. ⌜ Written (wholeQuery (now (field .entry)) (now (trim .entry)) (now (input .entry))) (now (out .entry)) (now (out .exit)) r ⌝ }
+    ensures { λ r. ⌜ Written (wholeQuery (now (field .entry)) (now (trim .entry)) (now (input .entry)))
+        (now (out .entry)) (now (out .exit)) r ⌝ }
 {
     let mut f = [0i32; TABLE_ROOM];
     let a = load_table(field, 1, &mut f);
@@ -150,8 +153,10 @@ fn put_whole(out: &mut [u8], field: &[u8], trim: &[u8], input: &[u8]) -> usize
 // What the program prints, at the front of a place for the longest listing: how many bytes it is. The rest of the place
 // stays as it was.
 pub fn whole_query(field: &[u8], trim: &[u8], input: &[u8], out: &mut [u8; OUT_ROOM]) -> usize
-    ensures { λ r. ⌜ (r ≤ listingRoom) × (r ≡ length (wholeQuery (now (field .entry)) (now (trim .entry)) (now (input .entry)))) ⌝ }
-    ensures { λ r. ⌜ now (out .exit) ≡ wholeQuery (now (field .entry)) (now (trim .entry)) (now (input .entry)) ++ drop r (now (out .entry)) ⌝ }
+    ensures { λ r. ⌜ (r ≤ listingRoom)
+        × (r ≡ length (wholeQuery (now (field .entry)) (now (trim .entry)) (now (input .entry)))) ⌝ }
+    ensures { λ r. ⌜ now (out .exit)
+        ≡ wholeQuery (now (field .entry)) (now (trim .entry)) (now (input .entry)) ++ drop r (now (out .entry)) ⌝ }
 {
     put_whole(out, field, trim, input)
 }

@@ -66,8 +66,8 @@ module _ {least : ℕ} {l : List ℕ} {f t : List ℤ} {room : ℕ} {q : Query} 
   -- there is room where 11 is not answered
   pub has-room : code ≡ 0 → least ≤ room
   has-room z =
-      leb-true least room
-      (unless-out (leb least room) shortSlice (omega arith) (first-out (checks least l room r) (sym (h .checked) ∙ z) 3))
+      let passes = first-out (checks least l room r) (sym (h .checked) ∙ z) in
+      leb-true least room (unless-out (leb least room) shortSlice (omega arith) (passes 3))
 
   -- of a query's answer: how many there are, and what is written
   module _ (count : Query → ℕ) (answer : Query → List ℕ) (out : List ℕ) where

@@ -63,4 +63,5 @@ module _ (f t : List ℤ) where
   numbers-put r out a b e ea eb =
       let pairs = listNumbers (r .query) f t in
       let front = ea ∙ ap (λ (x : Outcome). putAt 0 (headNumbers (x .session)) out) e in
-      eb ∙ ap (putAt headSize pairs) front ∙ sym (put-on 0 (headNumbers (queryOutcome (r .query) f t .session)) pairs out)
+      let s = queryOutcome (r .query) f t .session in
+      eb ∙ ap (putAt headSize pairs) front ∙ sym (put-on 0 (headNumbers s) pairs out)

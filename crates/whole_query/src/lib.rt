@@ -53,7 +53,8 @@ fn put_pair(out: &mut [u64], at: usize, f: &[i32], t: &[i32], p: Pair)
 // The list's numbers, behind those in front.
 fn put_pairs(out: &mut [u64], f: &[i32], t: &[i32], run: Outcome)
     requires { ⌜ (queryRoom ≤ length (now out)) × OutcomeOf (now f) (now t) run ⌝ }
-    ensures { λ _. ⌜ now (out .exit) ≡ putAt headSize (listNumbers (run .query) (now (f .entry)) (now (t .entry))) (now (out .entry)) ⌝ }
+    ensures { λ _. ⌜ now (out .exit)
+        ≡ putAt headSize (listNumbers (run .query) (now (f .entry)) (now (t .entry))) (now (out .entry)) ⌝ }
 {
     let mut i: usize = 0;
     while i < run.count {
@@ -66,7 +67,8 @@ fn put_pairs(out: &mut [u64], f: &[i32], t: &[i32], run: Outcome)
 // The numbers of a query that was run, from the front of `out`.
 fn put_numbers(out: &mut [u64], f: &[i32], t: &[i32], run: Outcome)
     requires { ⌜ (queryRoom ≤ length (now out)) × OutcomeOf (now f) (now t) run ⌝ }
-    ensures { λ _. ⌜ now (out .exit) ≡ putAt 0 (queryNumbers (run .query) (now (f .entry)) (now (t .entry))) (now (out .entry)) ⌝ }
+    ensures { λ _. ⌜ now (out .exit)
+        ≡ putAt 0 (queryNumbers (run .query) (now (f .entry)) (now (t .entry))) (now (out .entry)) ⌝ }
 {
     let settled = run.session;
     put_three(
@@ -93,7 +95,8 @@ fn asked_code(there: bool, opening: u32, reading: u32, room: bool) -> u32
 // `out` changes.
 pub fn whole(query: &[u32], f: &[i32], t: &[i32], out: &mut [u64]) -> i32
     ensures { λ r. ⌜ r ≡ lentQueryAnswer (now (query .entry)) (now (f .entry)) (now (t .entry)) (now (out .entry)) ⌝ }
-    ensures { λ _. ⌜ now (out .exit) ≡ lentQueryNumbers (now (query .entry)) (now (f .entry)) (now (t .entry)) (now (out .entry)) ⌝ }
+    ensures { λ _. ⌜ now (out .exit)
+        ≡ lentQueryNumbers (now (query .entry)) (now (f .entry)) (now (t .entry)) (now (out .entry)) ⌝ }
 {
     let q = record_layout::query_in(query);
     let run = run_query::run(q, f, t);
@@ -106,10 +109,11 @@ pub fn whole(query: &[u32], f: &[i32], t: &[i32], out: &mut [u64]) -> i32
     run.count as i32
 }
 
-// The same query, its listing written as bytes: how many bytes, or minus the refusal's number. Refused, no byte changes.
+// The same query, its listing written as bytes: how many, or minus the refusal's number. Refused, no byte changes.
 pub fn listed(query: &[u32], f: &[i32], t: &[i32], out: &mut [u8]) -> i32
     ensures { λ r. ⌜ r ≡ lentListingAnswer (now (query .entry)) (now (f .entry)) (now (t .entry)) (now (out .entry)) ⌝ }
-    ensures { λ _. ⌜ now (out .exit) ≡ lentListingBytes (now (query .entry)) (now (f .entry)) (now (t .entry)) (now (out .entry)) ⌝ }
+    ensures { λ _. ⌜ now (out .exit)
+        ≡ lentListingBytes (now (query .entry)) (now (f .entry)) (now (t .entry)) (now (out .entry)) ⌝ }
 {
     let q = record_layout::query_in(query);
     let run = run_query::run(q, f, t);

@@ -37,7 +37,8 @@ put-last-requires c κs =
 
 add-result : tie.Need-add-result
 add-result c =
-    let query = c .before .before .before .before .before .before .before .before .before .before in
+    let pairs = c .before .before .before .before .before .before in
+    let query = pairs .before .before .before .before in
     let s = query .before .before .before .before .before in
     let few = count-few (s .args .f .now) (s .args .t .now) (s .args .run) (s .pre .1) in
     record { fits = omega arith }

@@ -41,10 +41,11 @@ loop-again : tie.Need-loop-again Inv-loop μ-loop
 loop-again c =
     let l = c .before .before .loop in
     let some : l .w ≡ suc (l .w - 1) = omega arith in
-    let at = c .before .before .before .before .args .at in (
+    let at = c .before .before .before .before .args .at in
+    let last = c .last-column in (
       search needs,
       simp length-set (search needs),
-      one-column at (l .w) (l .w - 1) (l .rest) (l .more) (c .last-column .result) (l .out) some (c .last-column .ensures) ∙ l .inv .2,
+      one-column at (l .w) (l .w - 1) (l .rest) (l .more) (last .result) (l .out) some (last .ensures) ∙ l .inv .2,
     )
 
 same-length : tie.Need-same-length Inv-loop μ-loop

@@ -26,10 +26,10 @@ returns c =
     let if = c .before .before .before .before in
     let run = if .before .before .run in
     let s = if .before .before .before .before .args in
+    let f = s .f .now in
+    let t = s .t .now in
     let code = ap (λ (x : Outcome). x .opening) (run .ensures) in
-    written-as
-    (refused-as (run .result .opening) (openCode (s .q) (s .f .now) (s .t .now)) (listing (s .q) (s .f .now) (s .t .now))
-    code (if .if1 .taken))
+    written-as (refused-as (run .result .opening) (openCode (s .q) f t) (listing (s .q) f t) code (if .if1 .taken))
     (c .before .before .refuse .ensures)
 
 put-listing-requires : tie.Need-put-listing-requires

@@ -38,11 +38,11 @@ returns c =
     let match = c .before .before .before .before .before .before in
     let load = match .before .before in
     let s = load .before .before .before .before .before .before .args in
+    let x = load .load-table in
     let code = c .before .before .before .refusal .ensures in
     written-as
     (ap refusalLine code
-    ∙ field-unfit (s .field .now) (s .trim .now) (s .input .now) (load .load-table .result) (load .load-table .ensures .0)
-    (match .match .keys2))
+    ∙ field-unfit (s .field .now) (s .trim .now) (s .input .now) (x .result) (x .ensures .0) (match .match .keys2))
     (c .before .before .refuse .ensures)
 
 slice-aggregate-load-table-2 : tie.Need-slice-aggregate-load-table-2
@@ -73,11 +73,13 @@ returns-2 c =
     let told = trim .before .before .before .a .given in
     let load = trim .before .before .before .before .before .before in
     let s = load .before .before .before .before .before .before .args in
+    let x = load .load-table in
+    let y = trim .load-table2 in
     let code = c .before .before .before .refusal2 .ensures in
     written-as
     (ap refusalLine code
-    ∙ trim-unfit (s .field .now) (s .trim .now) (s .input .now) (load .load-table .result) (load .load-table .ensures .0)
-    (told .0 .0) (told .1) (trim .load-table2 .result) (trim .load-table2 .ensures .0) (match .match2 .keys2))
+    ∙ trim-unfit (s .field .now) (s .trim .now) (s .input .now) (x .result) (x .ensures .0) (told .0 .0) (told .1)
+    (y .result) (y .ensures .0) (match .match2 .keys2))
     (c .before .before .refuse2 .ensures)
 
 cast-e : tie.Need-cast-e
@@ -93,34 +95,39 @@ mul-g : tie.Need-mul-g
 mul-g c = search needs
 
 -- the tables stand within their arrays
-field-there : (c : tie.After-load-table2) → let m = c .before .before .before .a .given .0 .0 in
-    4 * m ≤ length (c .before .before .before .before .before .before .load-table .last .1 .1 .0)
+field-there : (c : tie.After-load-table2) →
+    (let field = c .before .before .before .before .before .before in
+    4 * c .before .before .before .a .given .0 .0 ≤ length (field .load-table .last .1 .1 .0))
 field-there c =
-    let load = c .before .before .before .before .before .before in
+    let field = c .before .before .before .before .before .before in
+    let s = field .before .before .before .before .before .before .args in
+    let x = field .load-table in
     let told = c .before .before .before .a .given in
-    let size : length (load .load-table .last .1 .1 .0) ≡ tableRoom =
-    load .load-table .kept .1 .1 .0 ∙ simp length-replicate in
-    table-there (load .before .before .before .before .before .before .args .field .now) (pos 1) (load .load-table .last .1 .1 .0) (load .load-table .result) (told .0 .0)
-    (load .load-table .ensures .0) (told .1) size
+    let size : length (x .last .1 .1 .0) ≡ tableRoom = x .kept .1 .1 .0 ∙ simp length-replicate in
+    table-there (s .field .now) (pos 1) (x .last .1 .1 .0) (x .result) (told .0 .0) (x .ensures .0) (told .1) size
 
-trim-there : (c : tie.After-load-table2) → (n : ℕ) → c .load-table2 .result ≡ Rows n →
+trim-there : (c : tie.After-load-table2) (n : ℕ) → c .load-table2 .result ≡ Rows n →
     4 * n ≤ length (c .load-table2 .last .1 .1 .0)
 trim-there c n e =
-    let load = c .load-table2 in
-    let size : length (load .last .1 .1 .0) ≡ tableRoom = load .kept .1 .1 .0 ∙ simp length-replicate in
-    table-there (c .before .before .before .before .before .before .before .before .before .before .before .before .args .trim .now) (pos 2) (load .last .1 .1 .0) (load .result) n (load .ensures .0) e size
+    let field = c .before .before .before .before .before .before in
+    let s = field .before .before .before .before .before .before .args in
+    let y = c .load-table2 in
+    let size : length (y .last .1 .1 .0) ≡ tableRoom = y .kept .1 .1 .0 ∙ simp length-replicate in
+    table-there (s .trim .now) (pos 2) (y .last .1 .1 .0) (y .result) n (y .ensures .0) e size
 
 array-share-prefix-f : tie.Need-array-share-prefix-f
 array-share-prefix-f c = field-there (c .before .before .before .before .before)
 
 slice-aggregate-put-asked : tie.Need-slice-aggregate-put-asked
 slice-aggregate-put-asked c =
-    let at = c .before .before .before .before .before .before in
-    sym (length-take-le _ (at .before .before .before .before .before .before .load-table .last .1 .1 .0) (field-there at))
+    let trim = c .before .before .before .before .before .before in
+    let field = trim .before .before .before .before .before .before in
+    sym (length-take-le _ (field .load-table .last .1 .1 .0) (field-there trim))
 
 array-share-prefix-t : tie.Need-array-share-prefix-t
 array-share-prefix-t c =
-    let told = c .before .before .before .b .given in trim-there (c .before .before .before .before .before .before) (told .0 .0) (told .1)
+    let told = c .before .before .before in
+    trim-there (told .before .before .before) (told .b .given .0 .0) (told .b .given .1)
 
 slice-aggregate-put-asked-2 : tie.Need-slice-aggregate-put-asked-2
 slice-aggregate-put-asked-2 c =
@@ -146,8 +153,10 @@ returns-3 c =
     let y = trim .load-table2 in
     let f = take (4 * m .0 .0) (x .last .1 .1 .0) in
     let t = take (4 * n .0 .0) (y .last .1 .1 .0) in
-    let front = table-front (s .field .now) (pos 1) _ (x .last .1 .1 .0) (x .result) (m .0 .0) (x .ensures .0) (m .1) (x .ensures .1) in
-    let front2 = table-front (s .trim .now) (pos 2) _ (y .last .1 .1 .0) (y .result) (n .0 .0) (y .ensures .0) (n .1) (y .ensures .1) in
+    let a = x .last .1 .1 .0 in
+    let b = y .last .1 .1 .0 in
+    let front = table-front (s .field .now) (pos 1) _ a (x .result) (m .0 .0) (x .ensures .0) (m .1) (x .ensures .1) in
+    let front2 = table-front (s .trim .now) (pos 2) _ b (y .result) (n .0 .0) (y .ensures .0) (n .1) (y .ensures .1) in
     written-as
     (files-fit (s .field .now) (s .trim .now) (s .input .now) (x .result) (x .ensures .0) (m .0 .0) (m .1) (y .result)
     (y .ensures .0) (n .0 .0) f t (n .1) front front2)

@@ -65,8 +65,8 @@ returns-3 c =
     let y = toZ-ofZ {w = w32} {z = b .result .number}
     (record { sfits = c .before .before .before .struct-told2 .given .1 .0 .1 }) in
     let z = toZ-ofZ {w = w32} {z = r .result .number} (record { sfits = c .before .struct-told3 .given .1 .0 .1 }) in
-    simp (c .before .before .before .before .natural .ensures, c .before .before .natural2 .ensures, c .natural3 .ensures, x, y, z)
-    good
+    let first = c .before .before .before .before .natural .ensures in
+    simp (first, c .before .before .natural2 .ensures, c .natural3 .ensures, x, y, z) good
 
 pub read-input-spec : {M : Type 1} → statement M
 read-input-spec =

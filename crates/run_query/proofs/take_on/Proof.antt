@@ -31,7 +31,8 @@ returns c =
     let l = c .before .before .before .loop in
     let take = c .before .take in
     let none =
-    ap (λ (x : Step). wasGiven (x .answer)) (sym (take .ensures)) ∙ not-given (take .result .answer) (c .match .keys2) in
+    ap (λ (x : Step). wasGiven (x .answer)) (sym (take .ensures))
+    ∙ not-given (take .result .answer) (c .match .keys2) in
     taking-stops (l .inv) none
 
 mul-pairs : tie.Need-mul-pairs Inv-loop μ-loop
