@@ -15,6 +15,7 @@ use Rattle.lists.specs.Bools.{all-out}
 use Rattle.rules.proofs.Loaded as Loads
 use Rattle.rules.specs.declared.Loaded.{Loaded}
 use Rattle.rules.specs.declared.Loaded.the-variants.{Rows, Unfit}
+use Rattle.rules.specs.declared.Query.{Query}
 use Rattle.rules.specs.Tables.{mostRows, natOf}
 use Rattle.rules.specs.Numbers.{badColumn, saidOf, refusal}
 use Rattle.rules.specs.File.{columns, columnFits, columnNumber, endsLine, fileTable, checkFile, andSlice, loadedInto}
@@ -86,7 +87,7 @@ module _ (input : List ℕ) (k b r : Column) (ek : k ≡ columnHeld false (colum
   input-bad h = simp (size, sym fits-is ∙ h)
 
   pub input-good : (k .fits && (b .fits && (r .fits && endsLine input 18))) ≡ true →
-      (let query = record { k = natOf (k .number); block = natOf (b .number); radius = natOf (r .number) } in
+      (let query : Query = record { k = natOf (k .number); block = natOf (b .number); radius = natOf (r .number) } in
       _≡_ {A = Input} (record { code = 0; query = query }) (inputHeld input))
   unfolding inputHeld inputCode inputQuery
   input-good h =

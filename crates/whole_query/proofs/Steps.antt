@@ -14,7 +14,7 @@ use Rattle.printing.specs.Laid.{laid}
 use Rattle.run_query.specs.declared.Outcome.{Outcome}
 use Rattle.run_query.specs.Outcomes.{queryOutcome, OutcomeOf}
 use Rattle.listing.specs.Shown.{lineOf}
-use Rattle.whole_query.specs.Numbers.{headSize, pairSize, pairNumbers, listNumbers, headNumbers}
+use Rattle.whole_query.specs.Numbers.{headLength, pairLength, pairNumbers, listNumbers, headNumbers}
 use Rattle.whole_query.specs.Numbers.{queryNumbers}
 
 -- a number, then others
@@ -42,7 +42,7 @@ abbrev pub numbersAt : List ℤ → List ℤ → ℕ → Pair → List ℕ
 numbersAt f t n p = pairNumbers f t p
 
 module _ (f t : List ℤ) where
-  pub numbersAt-length : (n : ℕ) (p : Pair) → length (numbersAt f t n p) ≡ pairSize
+  pub numbersAt-length : (n : ℕ) (p : Pair) → length (numbersAt f t n p) ≡ pairLength
   unfolding pairNumbers
   numbersAt-length n p = refl
 
@@ -57,11 +57,11 @@ module _ (f t : List ℤ) where
 
   -- a, b: the numbers after those in front were written, then the pairs'
   pub numbers-put : (r : Outcome) (out a b : List ℕ) → OutcomeOf f t r →
-      a ≡ putAt 0 (headNumbers (r .session)) out → b ≡ putAt headSize (listNumbers (r .query) f t) a →
+      a ≡ putAt 0 (headNumbers (r .session)) out → b ≡ putAt headLength (listNumbers (r .query) f t) a →
       b ≡ putAt 0 (queryNumbers (r .query) f t) out
   unfolding queryNumbers queryOutcome
   numbers-put r out a b e ea eb =
       let pairs = listNumbers (r .query) f t in
       let front = ea ∙ ap (λ (x : Outcome). putAt 0 (headNumbers (x .session)) out) e in
       let s = queryOutcome (r .query) f t .session in
-      eb ∙ ap (putAt headSize pairs) front ∙ sym (put-on 0 (headNumbers s) pairs out)
+      eb ∙ ap (putAt headLength pairs) front ∙ sym (put-on 0 (headNumbers s) pairs out)

@@ -37,14 +37,14 @@ unfoldable pub queryNumbers : Query → List ℤ → List ℤ → List ℕ
 queryNumbers q f t = headNumbers (settledSession q f t) ++ listNumbers q f t
 
 -- how many numbers stand in front of the pairs, how many a pair is, and the longest answer
-abbrev pub headSize : ℕ
-headSize = 3
+abbrev pub headLength : ℕ
+headLength = 3
 
-abbrev pub pairSize : ℕ
-pairSize = 6
+abbrev pub pairLength : ℕ
+pairLength = 6
 
 abbrev pub queryRoom : ℕ
-queryRoom = headSize + pairSize * placeCount
+queryRoom = headLength + pairLength * placeCount
 
 -- ---- What a query is refused by
 

@@ -9,16 +9,16 @@ ghost use Rattle.rules.specs.Numbers.{shortSlice, first, unless};
 ghost use Rattle.printing.specs.Put.{putAt};
 ghost use Rattle.run_query.specs.Outcomes.{OutcomeOf};
 ghost use Rattle.listing.specs.Shown.{Shown};
-ghost use Rattle.whole_query.specs.Numbers.{headSize, pairSize, queryRoom, pairNumbers, listNumbers};
+ghost use Rattle.whole_query.specs.Numbers.{headLength, pairLength, queryRoom, pairNumbers, listNumbers};
 ghost use Rattle.whole_query.specs.Numbers.{queryNumbers, lentQueryAnswer, lentQueryNumbers};
 ghost use Rattle.whole_query.specs.Numbers.{lentListingAnswer, lentListingBytes};
 
 // The numbers in front of the pairs, those of a pair, and those of the longest answer.
-const HEAD_SIZE: usize = 3;
+const HEAD_LENGTH: usize = 3;
 
-const PAIR_SIZE: usize = 6;
+const PAIR_LENGTH: usize = 6;
 
-pub const ROOM: usize = HEAD_SIZE + PAIR_SIZE * rules::PLACES;
+pub const ROOM: usize = HEAD_LENGTH + PAIR_LENGTH * rules::PLACES;
 
 fn put_one(out: &mut [u64], at: usize, n: u64)
     requires { ⌜ at < length (now out) ⌝ }
@@ -41,7 +41,7 @@ fn put_three(out: &mut [u64], at: usize, x: u64, y: u64, z: u64)
 
 // A pair's numbers.
 fn put_pair(out: &mut [u64], at: usize, f: &[i32], t: &[i32], p: Pair)
-    requires { ⌜ (at + pairSize ≤ length (now out)) × Shown (now f) (now t) p ⌝ }
+    requires { ⌜ (at + pairLength ≤ length (now out)) × Shown (now f) (now t) p ⌝ }
     ensures { λ _. ⌜ now (out .exit) ≡ putAt at (pairNumbers (now (f .entry)) (now (t .entry)) p) (now (out .entry)) ⌝ }
 {
     let b = at + 3;
@@ -54,12 +54,12 @@ fn put_pair(out: &mut [u64], at: usize, f: &[i32], t: &[i32], p: Pair)
 fn put_pairs(out: &mut [u64], f: &[i32], t: &[i32], run: Outcome)
     requires { ⌜ (queryRoom ≤ length (now out)) × OutcomeOf (now f) (now t) run ⌝ }
     ensures { λ _. ⌜ now (out .exit)
-        ≡ putAt headSize (listNumbers (run .query) (now (f .entry)) (now (t .entry))) (now (out .entry)) ⌝ }
+        ≡ putAt headLength (listNumbers (run .query) (now (f .entry)) (now (t .entry))) (now (out .entry)) ⌝ }
 {
     let mut i: usize = 0;
     while i < run.count {
         let p = run.pairs[i];
-        put_pair(out, HEAD_SIZE + PAIR_SIZE * i, f, t, p);
+        put_pair(out, HEAD_LENGTH + PAIR_LENGTH * i, f, t, p);
         i += 1;
     }
 }

@@ -11,14 +11,14 @@ use Rattle.rules.specs.Query.{list}
 use Rattle.printing.specs.Put.{putAt}
 use Rattle.printing.specs.Laid.{Writing, writing-starts, writing-on, writing-ends}
 use Rattle.listing.specs.ListShown.{counted, count-few, pair-at}
-use Rattle.whole_query.specs.Numbers.{headSize, pairSize, pairNumbers}
+use Rattle.whole_query.specs.Numbers.{headLength, pairLength, pairNumbers}
 use Rattle.whole_query.proofs.Steps.{numbersAt, numbersAt-length, numbers-laid}
 use Rattle.whole_query.proofs.put_pairs.Statement.{statement}
 use Rattle.whole_query.proofs.put_pairs.Tie as tie
 
 abbrev Inv-loop : tie.InvT-loop
 Inv-loop out₀ f t run i₀ out i =
-    (run .count ≤ placeCount) × Writing (numbersAt f t) pairSize headSize (list (run .query) f t) out₀ i out
+    (run .count ≤ placeCount) × Writing (numbersAt f t) pairLength headLength (list (run .query) f t) out₀ i out
 
 abbrev μ-loop : tie.MeasureT-loop
 μ-loop out₀ f t run i₀ out i = run .count - i
@@ -30,7 +30,7 @@ loop-holds c =
     let t = s .t .now in
     let l = list (s .t4 .query) f t in (
       count-few f t (s .t4) (c .before .pre .1),
-      writing-starts (numbersAt f t) pairSize headSize l (s .out .now),
+      writing-starts (numbersAt f t) pairLength headLength l (s .out .now),
     )
 
 mul-p : tie.Need-mul-p Inv-loop μ-loop
@@ -71,7 +71,7 @@ loop-again c =
     let run = s .args .t4 in
     let p = pair-at f t run (s .pre .1) (l .i) (at .loop-test .taken) in
     let put-is =
-    put .ensures ∙ ap (λ (x : Pair). putAt (headSize + pairSize * l .i) (numbersAt f t (l .i) x) (l .out)) (p .same) in
+    put .ensures ∙ ap (λ (x : Pair). putAt (headLength + pairLength * l .i) (numbersAt f t (l .i) x) (l .out)) (p .same) in
     (l .inv .0, writing-on (numbersAt-length f t) (l .inv .1) (p .within) noPair (put .last .0) put-is)
 
 same-length : tie.Need-same-length Inv-loop μ-loop
@@ -87,7 +87,7 @@ returns c =
     let all = list (run .query) f t in
     let done : length all ≤ l .i = omega (arith, c .loop-test .left, counted f t run (s .pre .1)) in
     writing-ends (numbersAt-length f t) (l .inv .1) done
-    ∙ ap (λ (b : List ℕ). putAt headSize b (s .args .out .now)) (sym (numbers-laid f t (run .query)))
+    ∙ ap (λ (b : List ℕ). putAt headLength b (s .args .out .now)) (sym (numbers-laid f t (run .query)))
 
 pub put-pairs-spec : {M : Type 1} → statement M
 put-pairs-spec =
