@@ -6,7 +6,6 @@ use native.Mathlib.Omega.{arith}
 use lib.IntN.{ℤ}
 use lib.ListN.{length, length-append}
 use Rattle.rules.specs.declared.Pair.{Pair}
-use Rattle.rules.specs.declared.Session.{Session}
 use Rattle.rules.specs.Query.{inputLength, settledSession, list, pairLine, pairLines, queryLine, lastLine, listing}
 use Rattle.printing.specs.Put.{putAt, put-on}
 use Rattle.printing.specs.Lines.{lineLength, lastLength, line-length, query-length, last-length}

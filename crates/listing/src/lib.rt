@@ -5,7 +5,7 @@ use run_query::Outcome;
 ghost use mathlib.Core.Path.{_≡_};
 ghost use Prim.Native.Nat.{_+_, _*_, _-_, _≤_, _<_};
 ghost use lib.ListN.{length};
-ghost use Rattle.rules.specs.Tables.{row, squaredDistance};
+ghost use Rattle.rules.specs.Tables.{row};
 ghost use Rattle.rules.specs.Session.{placeCount};
 ghost use Rattle.rules.specs.Query.{listing};
 ghost use Rattle.printing.specs.Lines.{lineLength};

@@ -8,7 +8,7 @@ use denote.Enum.Declared.{tagOf}
 use types.Run.{OneOf}
 use lib.Dec.{leb, ltb, eqb}
 use lib.IntN.{ℤ, pos}
-use lib.ListN.{length, getD, take, drop}
+use lib.ListN.{length, take, drop}
 use lib.Seq.{take-at}
 use borrow.Author.Tests.{le-ltb}
 use Rattle.lists.specs.Bools.{all-out}
@@ -19,11 +19,12 @@ use Rattle.rules.specs.declared.Query.{Query}
 use Rattle.rules.specs.Tables.{mostRows, natOf}
 use Rattle.rules.specs.Numbers.{badColumn, saidOf, refusal}
 use Rattle.rules.specs.File.{columns, columnFits, columnNumber, endsLine, fileTable, checkFile, andSlice, loadedInto}
-use Rattle.rules.specs.File.{loadAnswer, loadNumbers}
+use Rattle.rules.specs.File.{loadAnswer}
 use Rattle.rules.specs.Query.{mostFileBytes, inputLength, inputFits, inputCode, programFileCode, inputQuery, tableOf}
 use Rattle.rules.specs.Query.{refusalLine, wholeQuery}
 use Rattle.column.specs.declared.Column.{Column}
 use Rattle.column.specs.Column.{columnHeld, number-held}
+use Rattle.file_laws.specs.Accepted.{accepted}
 use Rattle.file_laws.specs.Table.{table-length}
 use Rattle.file_laws.specs.Sizes.{Told}
 use Rattle.printing.specs.Put.{put-front}
@@ -60,7 +61,7 @@ unfolding loadedInto
 table-front bytes kind lent out x n ex e i =
     ap (take (4 * n)) (i ∙ ap (loadedInto bytes lent) e)
     ∙ take-at (fileTable bytes n) (drop (4 * n) lent) (4 * n) (table-length bytes n)
-    ∙ ap (fileTable bytes) (sym (program-rows bytes kind n (sym ex ∙ e) .0 .count))
+    ∙ ap (fileTable bytes) (sym (accepted bytes kind n (program-rows bytes kind n (sym ex ∙ e) .0) .count))
 
 -- its numbers are there
 pub table-there : (bytes : List ℕ) (kind : ℤ) (out : List ℤ) (x : Loaded) (n : ℕ) → x ≡ programFile bytes kind →

@@ -1,9 +1,9 @@
 -- What the program's steps answer, one by one, by the rules' "One whole query"; that they come to the whole.
 -- Assumes nothing.
-use mathlib.Core.Path.{_≡_, refl, sym, ap, _∙_}
+use mathlib.Core.Path.{_≡_, refl, ap, _∙_}
 use mathlib.Core.Bool.{Bool, true, false, cond}
 use mathlib.Core.List.{List, [], _∷_}
-use Prim.Native.Nat.{ℕ, _+_, _*_, _≤_}
+use Prim.Native.Nat.{ℕ, _*_, _≤_}
 use native.Mathlib.Omega.{arith}
 use lib.Dec.{leb, eqb}
 use lib.IntN.{ℤ, pos}
@@ -19,7 +19,7 @@ use Rattle.rules.specs.Calls.{openCode}
 use Rattle.rules.specs.File.{checkFile}
 use Rattle.rules.specs.Query.{listing, mostFileBytes, programFileCode, inputCode, inputQuery, tableOf}
 use Rattle.rules.specs.Query.{refusalLine, wholeQueryCode, wholeQuery}
-use Rattle.file_laws.specs.Accepted.{Accepted, accepted, unfit-rows}
+use Rattle.file_laws.specs.Accepted.{accepted, unfit-rows}
 use Rattle.file_laws.specs.Sizes.{Told, check-told}
 use Rattle.printing.specs.Put.{putAt}
 use Rattle.listing.specs.Shown.{listingRoom}
@@ -87,15 +87,14 @@ module _ (bytes : List ℕ) (kind : ℤ) where
       go false = refl
 
   -- an accepted file has at most 512 rows
-  pub program-rows : (n : ℕ) → programFile bytes kind ≡ Rows n → Accepted bytes kind n × (n ≤ tableRows)
+  pub program-rows : (n : ℕ) → programFile bytes kind ≡ Rows n → (checkFile bytes kind ≡ Rows n) × (n ≤ tableRows)
   unfolding programFile
   program-rows n h = go (leb (length bytes) mostFileBytes) refl h
     where
       go : (t : Bool) → leb (length bytes) mostFileBytes ≡ t →
-          cond t (checkFile bytes kind) (Unfit tableSize 0) ≡ Rows n → Accepted bytes kind n × (n ≤ tableRows)
+          cond t (checkFile bytes kind) (Unfit tableSize 0) ≡ Rows n → (checkFile bytes kind ≡ Rows n) × (n ≤ tableRows)
       go true e g =
-          let file = accepted bytes kind n g in
-          (file, omega (arith, file .size, leb-true (length bytes) mostFileBytes e))
+          (g, omega (arith, accepted bytes kind n g .size, leb-true (length bytes) mostFileBytes e))
       go false e g = unfit-rows tableSize 0 n g
 
   -- what is told of it

@@ -1,9 +1,6 @@
 -- `put_listing` meets its contract. Assumes nothing.
-use mathlib.Core.Path.{_≡_}
-use Prim.Native.Nat.{_≤_}
 use native.Mathlib.Omega.{arith}
 use borrow.Author.Needs.{needs}
-use Rattle.rules.specs.Session.{placeCount}
 use Rattle.listing.specs.ListShown.{count-few}
 use Rattle.listing.proofs.Lines.{listing-put}
 use Rattle.listing.proofs.put_listing.Statement.{statement}

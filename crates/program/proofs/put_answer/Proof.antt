@@ -1,6 +1,5 @@
 -- `put_answer` meets its contract. Assumes nothing.
-use mathlib.Core.Path.{_≡_, sym, ap, _∙_}
-use Rattle.rules.specs.declared.Query.{Query}
+use mathlib.Core.Path.{sym, ap, _∙_}
 use Rattle.rules.specs.Calls.{openCode}
 use Rattle.rules.specs.Query.{listing}
 use Rattle.run_query.specs.declared.Outcome.{Outcome}

@@ -6,7 +6,7 @@ use lib.IntN.{pos}
 use lib.Seq.{length-take-le}
 use Rattle.rules.specs.declared.Loaded.the-variants.{Rows}
 use Rattle.rules.specs.Query.{refusalLine}
-use Rattle.program.specs.Program.{tableRoom, inputBytes}
+use Rattle.program.specs.Program.{tableRoom}
 use Rattle.program.proofs.Steps.{table-front, table-there, field-unfit, trim-unfit, files-fit, written-as}
 use borrow.Author.Needs.{needs}
 use Rattle.program.proofs.put_whole.Statement.{statement}

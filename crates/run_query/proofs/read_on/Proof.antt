@@ -1,12 +1,10 @@
 -- `read_on` meets its contract: the rows that are not read yet become fewer. Assumes nothing.
 use mathlib.Core.Path.{_≡_, refl, sym, ap, _∙_}
-use mathlib.Core.Bool.{true}
 use borrow.Author.Needs.{needs}
 use Rattle.rules.specs.declared.Step.{Step}
 use Rattle.rules.specs.declared.Answer.{Answer}
 use Rattle.rules.specs.declared.Session.{Session}
 use Rattle.rules.specs.Numbers.{said, refusal}
-use Rattle.rules.specs.Calls.{readCall}
 use Rattle.rules.specs.Query.{wasRead}
 use Rattle.session_laws.specs.Read.{unreadRows}
 use Rattle.session_laws.specs.Until.{fewer-unread}

@@ -14,7 +14,6 @@ use Rattle.rules.specs.Calls.{openCall}
 use Rattle.rules.specs.Query.{settledSession, list}
 use Rattle.run_query.specs.declared.ReadOut.{ReadOut}
 use Rattle.run_query.specs.declared.TakenOut.{TakenOut}
-use Rattle.run_query.specs.declared.Outcome.{Outcome}
 use Rattle.run_query.specs.Until.{readOn, settled-on, list-taken}
 use Rattle.run_query.specs.Outcomes.{refusedBy, readOut, takenOut, queryOutcome, opening-code}
 use Rattle.run_query.proofs.run.Statement.{statement}

@@ -1,9 +1,9 @@
 -- `put_pairs` meets its contract. Assumes nothing.
-use mathlib.Core.Path.{_≡_, sym, ap, _∙_}
+use mathlib.Core.Path.{sym, ap, _∙_}
 use mathlib.Core.List.{List}
-use Prim.Native.Nat.{ℕ, _+_, _*_, _-_, _≤_, _<_}
+use Prim.Native.Nat.{ℕ, _+_, _*_, _-_, _≤_}
 use native.Mathlib.Omega.{arith}
-use lib.ListN.{length, getD}
+use lib.ListN.{length}
 use borrow.Author.Needs.{needs}
 use Rattle.rules.specs.declared.Pair.{Pair}
 use Rattle.rules.specs.Session.{noPair, placeCount}
@@ -11,7 +11,7 @@ use Rattle.rules.specs.Query.{list}
 use Rattle.printing.specs.Put.{putAt}
 use Rattle.printing.specs.Laid.{Writing, writing-starts, writing-on, writing-ends}
 use Rattle.listing.specs.ListShown.{counted, count-few, pair-at}
-use Rattle.whole_query.specs.Numbers.{headLength, pairLength, pairNumbers}
+use Rattle.whole_query.specs.Numbers.{headLength, pairLength}
 use Rattle.whole_query.proofs.Steps.{numbersAt, numbersAt-length, numbers-laid}
 use Rattle.whole_query.proofs.put_pairs.Statement.{statement}
 use Rattle.whole_query.proofs.put_pairs.Tie as tie
