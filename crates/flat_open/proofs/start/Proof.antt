@@ -68,7 +68,8 @@ enum-told c = search needs
 
 pack-requires : tie.Need-pack-requires
 pack-requires c κs =
-    let at = c .before .before .before .before .before .before in
+    let call = c .before .before .before .before in
+    let at = call .before .before in
     let s = at .before .before .before .args in
     right-long querySize flatSize (s .query .now) (s .lent .now) (at .if1 .left)
 

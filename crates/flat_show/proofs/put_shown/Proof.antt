@@ -84,7 +84,8 @@ returns-3 : tie.Need-returns-3
 unfolding shownNumbers
 returns-3 c =
     let at = c .before .before .before .before in
-    simp (eq-eqb _ _ (passed (at .before .before .before .before)), at .if3 .taken) (c .before .before .put-block2 .ensures)
+    let left = at .before .before .before .before in
+    simp (eq-eqb _ _ (passed left), at .if3 .taken) (c .before .before .put-block2 .ensures)
 
 put-three-requires-2 : tie.Need-put-three-requires-2
 put-three-requires-2 c κs = search needs
