@@ -1,6 +1,6 @@
 -- `take_on` meets its contract: the pairs in their places and those still to come are all. Assumes nothing.
 use mathlib.Core.Path.{sym, ap, _∙_}
-use Prim.Native.Nat.{_-_}
+use Prim.Native.Nat.{_-_, _<_}
 use native.Mathlib.Omega.{arith}
 use borrow.Author.Needs.{needs}
 use Rattle.rules.specs.declared.Step.{Step}
@@ -54,7 +54,8 @@ loop-again c =
     let at = c .before .before .before .before in
     let l = at .before .before .loop in
     let told = c .before .before .answer .given in
-    taking-on (l .inv) (at .before .loop-test .taken) (at .take .result) (told .0 .0) (at .take .ensures) (told .1)
+    let more : l .n < placeCount = omega (arith, at .before .loop-test .taken) in
+    taking-on (l .inv) more (at .take .result) (told .0 .0) (at .take .ensures) (told .1)
 
 returns-2 : tie.Need-returns-2 Inv-loop μ-loop
 returns-2 c =
