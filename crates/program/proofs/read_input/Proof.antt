@@ -4,7 +4,9 @@ use mir.Syntax.{w32}
 use mir.Facts.{toZ-ofZ}
 use borrow.Author.Tests.{eq-eqb, ne-eqb, not-true, not-false}
 use Rattle.rules.specs.File.{endsLine}
-use Rattle.rules.specs.Query.{inputCode}
+use native.Mathlib.Omega.{arith}
+use lib.ListN.{length}
+use Rattle.rules.specs.Query.{inputLength, inputCode}
 use Rattle.program.specs.Program.{inputHeld}
 use Rattle.program.proofs.Steps.{input-bad, input-good}
 use borrow.Author.Needs.{needs}
@@ -13,7 +15,9 @@ use Rattle.program.proofs.read_input.Tie as tie
 
 returns : tie.Need-returns
 unfolding inputHeld inputCode
-returns c = simp (ne-eqb _ _ (c .if1 .taken))
+returns c =
+    let size = length (c .before .before .args .input .now) in
+    simp (ne-eqb size inputLength (λ e. omega (arith, e, c .if1 .taken)))
 
 column-at-requires : tie.Need-column-at-requires
 column-at-requires c κs = search needs
