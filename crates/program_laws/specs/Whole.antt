@@ -1,9 +1,11 @@
 -- What the pairing program prints on accepted input: the best pairs of the two files' tables. Assumes nothing.
-use mathlib.Core.Path.{_≡_, refl, sym, ap, subst, _∙_}
+use mathlib.Core.Path.{_≡_, refl, sym, ap, _∙_}
 use mathlib.Core.Bool.{true}
 use mathlib.Core.List.{List, [], _∷_, map, List·Memᴰ}
 use Prim.Native.Nat.{ℕ, _+_, _-_, max}
+use lib.Dec.{leb}
 use lib.IntN.{ℤ, pos}
+use lib.ListN.{length}
 use Rattle.lists.specs.Lists.{best}
 use Rattle.lists.specs.Words.{Distinct}
 use Rattle.rules.specs.declared.FieldRows.{FieldRows}
@@ -13,17 +15,19 @@ use Rattle.rules.specs.declared.Loaded.the-variants.{Rows, Unfit}
 use Rattle.rules.specs.declared.Pair.{Pair}
 use Rattle.rules.specs.declared.Query.{Query}
 use Rattle.rules.specs.Tables.{legal}
+use Rattle.rules.specs.Numbers.{tableSize, unless, saidOf, refusal}
 use Rattle.rules.specs.Checks.{first-out}
 use Rattle.rules.specs.Calls.{queryCode, sizeCode, openCode}
-use Rattle.rules.specs.File.{fileTable, loadedCode}
+use Rattle.rules.specs.File.{fileTable, checkFile}
 use Rattle.rules.specs.Query.{list, listing, settledSession, programFileCode, inputCode, inputQuery, tableOf}
-use Rattle.rules.specs.Query.{refusalLine, wholeQueryCode, wholeQuery}
+use Rattle.rules.specs.Query.{mostFileBytes, refusalLine, wholeQueryCode, wholeQuery}
 use Rattle.rules.specs.Sure.{Sure, qualifyingSums}
+use Rattle.file_laws.specs.Accepted.{accepted}
+use Rattle.file_laws.specs.Sizes.{file-numbered}
 use Rattle.file_laws.specs.Legal.{accepted-legal}
 use Rattle.tables_join.specs.Pairs.{QualifyingPair}
 use Rattle.tables_join.specs.WholeList.{list-best, list-listed}
-use Rattle.program.specs.Program.{orRefusal, refusal-none, refusal-some, programFile, program-code, program-rows}
-use Rattle.program.specs.Program.{Numbered, program-numbered}
+use Rattle.program.specs.Program.{orRefusal, refusal-none, refusal-some}
 use Rattle.demand.specs.Sequences.{DepthsUpTo}
 use Rattle.program_laws.specs.Depths.{settled-within}
 
@@ -61,15 +65,20 @@ query-answered q f t g h k =
 
 -- a file that passes has a legal table
 file-legal : (bytes : List ℕ) (kind : ℤ) → programFileCode bytes kind ≡ 0 → legal (tableOf bytes) ≡ true
-file-legal bytes kind h = go (programFile bytes kind) refl
+unfolding programFileCode
+file-legal bytes kind h = go (checkFile bytes kind) refl
   where
-    go : (x : Loaded) → programFile bytes kind ≡ x → legal (tableOf bytes) ≡ true
+    size : ℕ
+    size = unless (leb (length bytes) mostFileBytes) tableSize
+
+    passed : refusal (saidOf (checkFile bytes kind)) ≡ 0
+    passed = first-out (size ∷ refusal (saidOf (checkFile bytes kind)) ∷ []) h 1
+
+    go : (x : Loaded) → checkFile bytes kind ≡ x → legal (tableOf bytes) ≡ true
     go (Rows n) e =
-        let small = program-rows bytes kind n e in
-        ap (λ (k : ℕ). legal (fileTable bytes k)) (small .count) ∙ accepted-legal bytes kind n (small .checked)
+        ap (λ (k : ℕ). legal (fileTable bytes k)) (accepted bytes kind n e .count) ∙ accepted-legal bytes kind n e
     go (Unfit code row) e =
-        let numbered : Numbered (Unfit code row) = subst (λ (x : Loaded). Numbered x) e (program-numbered bytes kind) in
-        absurd (numbered (ap (λ (x : Loaded). loadedCode x) (sym e) ∙ program-code bytes kind ∙ h))
+        absurd (file-numbered bytes kind code row e (ap (λ (x : Loaded). refusal (saidOf x)) (sym e) ∙ passed))
 
 -- accepted input
 pub whole-query : (field trim input : List ℕ) → wholeQueryCode field trim input ≡ 0 → Whole field trim input
