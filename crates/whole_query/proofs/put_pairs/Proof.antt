@@ -71,7 +71,8 @@ loop-again c =
     let run = s .args .t4 in
     let p = pair-at f t run (s .pre .1) (l .i) (at .loop-test .taken) in
     let put-is =
-    put .ensures ∙ ap (λ (x : Pair). putAt (headLength + pairLength * l .i) (numbersAt f t (l .i) x) (l .out)) (p .same) in
+    put .ensures
+    ∙ ap (λ (x : Pair). putAt (headLength + pairLength * l .i) (numbersAt f t (l .i) x) (l .out)) (p .same) in
     (l .inv .0, writing-on (numbersAt-length f t) (l .inv .1) (p .within) noPair (put .last .0) put-is)
 
 same-length : tie.Need-same-length Inv-loop μ-loop
