@@ -9,7 +9,7 @@ use lib.ListN.{length, take}
 use Rattle.lists.specs.Lists.{ins, sort}
 use Rattle.lists.specs.Words.{Ordered}
 use Rattle.rules.specs.declared.Pair.{Pair}
-use Rattle.rules.specs.Tables.{Block, row, qualifies, pairAt, qualifying, ahead, rowCount}
+use Rattle.rules.specs.Tables.{mostRows, Block, row, qualifies, pairAt, qualifying, ahead, rowCount}
 use Rattle.keys.specs.Held.{Keyed}
 
 -- a part of a table, a rows standing before it
@@ -19,7 +19,7 @@ at a rows = record { start = a; rows = rows }
 -- a part of n whole rows within a table's 65,535
 pub record Rows (a : ℕ) (rows : List ℤ) : Type 0 where
   pub whole : 4 * rowCount rows ≡ length rows
-  pub few : a + rowCount rows ≤ 65535
+  pub few : a + rowCount rows ≤ mostRows
 
 -- the pairs of x and y that qualify among the n pairs that a holds, of which at most `room` are kept: r of them, which
 -- a′ holds

@@ -9,7 +9,7 @@ use borrow.Author.Tests.{leb-true, leb-false, lt-leb, lt-ltb, eq-eqb, ne-eqb}
 use Rattle.rules.specs.declared.Counts.{Counts}
 use Rattle.rules.specs.declared.Pair.{Pair}
 use Rattle.rules.specs.Tables.{ahead}
-use Rattle.rules.specs.Calls.{between, isZeros}
+use Rattle.rules.specs.Calls.{between, mostSum, isZeros}
 use Rattle.lists.specs.Bools.{and-left, and-right}
 use Rattle.lists.specs.Bools.{clash}
 use Rattle.keys.specs.Held.{keyOf, Narrow}
@@ -22,7 +22,7 @@ Behind i before b = ((i ≡ 0) × (before ≡ 0)) ⊎ ((0 < i) × (before ≡ ke
 
 module _ (depth : Counts) (d : Shallow depth) (p : Pair) where
   -- a pair that fits has a key, and it is not 0
-  pub within-narrow : pairWithin depth p ≡ true → Narrow p × (p .sum ≤ 19998)
+  pub within-narrow : pairWithin depth p ≡ true → Narrow p × (p .sum ≤ mostSum)
   unfolding pairWithin
   within-narrow w =
       let x = between 1 (depth .field .0) (p .field) in
@@ -30,10 +30,10 @@ module _ (depth : Counts) (d : Shallow depth) (p : Pair) where
       let rest = and-right x _ w in
       let f = leb-true (p .field) (depth .field .0) (and-right (leb 1 (p .field)) _ (and-left x _ w)) in
       let t = leb-true (p .trim) (depth .trim .0) (and-right (leb 1 (p .trim)) _ (and-left y _ rest)) in
-      let s = leb-true (p .sum) 19998 (and-right y _ rest) in
+      let s = leb-true (p .sum) mostSum (and-right y _ rest) in
       (record { sum = omega arith; field = omega (arith, d .field); trim = omega (arith, d .trim) }, s)
 
-  key-some : p .sum ≤ 19998 → 0 < keyOf p
+  key-some : p .sum ≤ mostSum → 0 < keyOf p
   unfolding keyOf
   key-some h = omega arith
 

@@ -6,15 +6,15 @@ use lib.Dec.{leb, ltb, eqb}
 use Rattle.rules.specs.declared.Counts.{Counts}
 use Rattle.rules.specs.declared.Pair.{Pair}
 use Rattle.rules.specs.declared.Query.{Query}
-use Rattle.rules.specs.Tables.{ahead}
+use Rattle.rules.specs.Tables.{mostRows, ahead}
 use Rattle.rules.specs.Read.{blockCount}
-use Rattle.rules.specs.Calls.{between, queryCode, countsFit, isZeros}
+use Rattle.rules.specs.Calls.{mostSum, between, queryCode, countsFit, isZeros}
 use Rattle.keys.specs.Held.{keyOf}
 
 -- `pairFits` of the two depths
 unfoldable pub pairWithin : Counts → Pair → Bool
 pairWithin depth p =
-    between 1 (depth .field .0) (p .field) && (between 1 (depth .trim .0) (p .trim) && leb (p .sum) 19998)
+    between 1 (depth .field .0) (p .field) && (between 1 (depth .trim .0) (p .trim) && leb (p .sum) mostSum)
 
 -- `markFits` of the mark and the two depths
 unfoldable pub markOf : ℕ → Counts → Bool
@@ -38,8 +38,8 @@ placeFits i n depth before p = cond (leb n i) (isZeros p) (pairWithin depth p &&
 
 -- no row of a held pair can be beyond 65,535
 pub record Shallow (depth : Counts) : Type 0 where
-  pub field : depth .field .0 ≤ 65535
-  pub trim : depth .trim .0 ≤ 65535
+  pub field : depth .field .0 ≤ mostRows
+  pub trim : depth .trim .0 ≤ mostRows
 
 -- the same by keys, `before` being the key before: the pair's key, or 1 for zeros; 0 where the place does not fit
 unfoldable pub placeKey : ℕ → ℕ → Counts → ℕ → Pair → ℕ

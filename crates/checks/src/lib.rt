@@ -7,13 +7,14 @@ use rules::Session;
 ghost use mathlib.Core.Path.{_≡_};
 ghost use mathlib.Core.Bool.{true, cond};
 ghost use Prim.Native.Nat.{_+_, _*_, _-_, _≤_, _<_, _/_, _%_};
-ghost use Rattle.rules.specs.Tables.{sizeFits};
+ghost use Rattle.rules.specs.Tables.{mostRows, sizeFits};
 ghost use Rattle.rules.specs.Read.{blockCount};
 ghost use Rattle.rules.specs.Calls.{queryCode, countsFit, isZeros, recordFits, sameSizeCode};
 ghost use Rattle.checks.specs.Grounds.{Shallow, pairWithin, markOf, numbersFit, placeKey};
 ghost use Rattle.checks.specs.Codes.{DepthsFit, lentOf, callOf};
 
-const MOST_ROWS: usize = 65535;
+// The rows of the longest table, as a length.
+const MOST_ROWS: usize = rules::MOST_ROWS as usize;
 
 // What a query is refused by, 1 to 3 in this order; 0 where it is not.
 pub fn query_code(q: Query) -> u32
@@ -69,8 +70,8 @@ fn mark_fits(last: u32, depth: Counts) -> bool
 
 // How many blocks the first rows are, a short last one included.
 pub fn block_count(block: u32, depth: u32) -> u64
-    requires { ⌜ (0 < block) × (block ≤ 1024) × (depth ≤ 65535) ⌝ }
-    ensures { λ r. ⌜ (r ≡ blockCount block depth) × (r ≤ 65535) ⌝ }
+    requires { ⌜ (0 < block) × (block ≤ 1024) × (depth ≤ mostRows) ⌝ }
+    ensures { λ r. ⌜ (r ≡ blockCount block depth) × (r ≤ mostRows) ⌝ }
 {
     ((depth + block - 1) / block) as u64
 }

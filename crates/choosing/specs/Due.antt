@@ -14,7 +14,7 @@ use Rattle.lists.specs.Lists.{every}
 use Rattle.lists.specs.Sorts.{ranked-ordered}
 use Rattle.rules.specs.declared.Pair.{Pair}
 use Rattle.rules.specs.declared.Session.{Session}
-use Rattle.rules.specs.Tables.{ahead}
+use Rattle.rules.specs.Tables.{mostRows, ahead}
 use Rattle.rules.specs.Ranking.{ahead-strict}
 use Rattle.rules.specs.Session.{noPair, places, heldPairs, settled}
 use Rattle.rules.specs.Read.{fieldNext, oldDepth, newDepth}
@@ -36,9 +36,9 @@ otherDepth field s = cond field (s .depth .trim .0) (s .depth .field .0)
 pub record Due (field : Bool) (f t : List ℤ) (s : Session) : Type 0 where
   pub ready : Ready s
   pub left : oldDepth field s < ownRows field s
-  pub few : ownRows field s ≤ 65535
+  pub few : ownRows field s ≤ mostRows
   pub rows : 4 * ownRows field s ≤ length (cond field f t)
-  pub other-few : otherDepth field s ≤ 65535
+  pub other-few : otherDepth field s ≤ mostRows
   pub other-rows : 4 * otherDepth field s ≤ length (cond field t f)
   pub joined : s .joined ≤ 4294836225
 
@@ -90,7 +90,7 @@ module _ (f t : List ℤ) (s : Session) (l : Lent f t s) (n : length (s .pairs) 
         order = ranked-ordered ahead ahead-strict (heldPairs s) (fits .rank);
       }
 
-  blocks-few : (block depth : ℕ) → 1 ≤ block → depth ≤ 65535 → (depth + block - 1) / block ≤ 65535
+  blocks-few : (block depth : ℕ) → 1 ≤ block → depth ≤ mostRows → (depth + block - 1) / block ≤ mostRows
   blocks-few block depth b k =
       let less : (depth + block - 1) / block < 65536 = div-lt-iff-lt-mul b .1 (omega arith) in
       omega arith
@@ -138,7 +138,7 @@ module _ (f t : List ℤ) (s : Session) (l : Lent f t s) (n : length (s .pairs) 
 module _ (f t : List ℤ) (s : Session) (b : Bool) where
   -- it lies within its table
   pub new-inside : Due b f t s
-      → (oldDepth b s ≤ newDepth b s) × (newDepth b s ≤ 65535) × (4 * newDepth b s ≤ length (cond b f t))
+      → (oldDepth b s ≤ newDepth b s) × (newDepth b s ≤ mostRows) × (4 * newDepth b s ≤ length (cond b f t))
   new-inside d = omega (arith, d .left, d .few, d .rows)
 
   -- what 6 and 7 say of it is the rule's

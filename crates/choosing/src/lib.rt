@@ -6,6 +6,7 @@ ghost use mathlib.Core.Path.{_≡_};
 ghost use mathlib.Core.Bool.{false, cond};
 ghost use Prim.Native.Nat.{_+_, _*_, _-_, _≤_, _<_};
 ghost use lib.ListN.{length};
+ghost use Rattle.rules.specs.Tables.{mostRows};
 ghost use Rattle.rules.specs.Session.{settled};
 ghost use Rattle.rules.specs.Read.{scoreDrop, fieldNext, nextDepth};
 ghost use Rattle.rules.specs.Calls.{newBlockCode};
@@ -86,7 +87,7 @@ pub fn pick(t: bool, a: u32, b: u32) -> u32
 
 // The depth that a read leads to: one block further, or all rows.
 pub fn next_depth(block: u32, rows: u32, depth: u32) -> u32
-    requires { ⌜ (block ≤ 1024) × (depth ≤ 65535) ⌝ }
+    requires { ⌜ (block ≤ 1024) × (depth ≤ mostRows) ⌝ }
     ensures { λ r. ⌜ r ≡ nextDepth block rows depth ⌝ }
 {
     if depth + block <= rows {

@@ -14,7 +14,7 @@ use Rattle.lists.specs.Words.{Ordered}
 use Rattle.lists.specs.Sorts.{sort-ordered, take-ordered}
 use Rattle.rules.specs.declared.Pair.{Pair}
 use Rattle.rules.specs.declared.Session.{Session}
-use Rattle.rules.specs.Tables.{Block, qualifying, ahead}
+use Rattle.rules.specs.Tables.{mostRows, Block, qualifying, ahead}
 use Rattle.rules.specs.Ranking.{ahead-strict}
 use Rattle.rules.specs.Session.{places, heldPairs}
 use Rattle.rules.specs.Read.{skipped, bestHeld, holding, meet, rowsBetween, meetBlocks}
@@ -72,7 +72,7 @@ part-is t a e =
     ap (λ (m : ℕ). at a (take m (drop (4 * a) t))) n
 
 -- they are whole rows, within a table's 65,535
-pub part-rows : (t : List ℤ) (a e : ℕ) → a ≤ e → e ≤ 65535 → 4 * e ≤ length t
+pub part-rows : (t : List ℤ) (a e : ℕ) → a ≤ e → e ≤ mostRows → 4 * e ≤ length t
     → Rows a (take (4 * e - 4 * a) (drop (4 * a) t))
 part-rows t a e h k l =
     let n : length (take (4 * e - 4 * a) (drop (4 * a) t)) ≡ 4 * e - 4 * a =

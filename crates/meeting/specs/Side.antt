@@ -5,7 +5,7 @@ use mathlib.Core.List.{List}
 use lib.IntN.{ℤ}
 use lib.ListN.{length}
 use Rattle.rules.specs.declared.Counts.{Counts}
-use Rattle.rules.specs.Tables.{Block}
+use Rattle.rules.specs.Tables.{mostRows, Block}
 use Rattle.rules.specs.Read.{rowsBetween}
 use Rattle.meeting.specs.declared.Span.{Span}
 
@@ -24,5 +24,5 @@ spanBlock t x = rowsBetween t (x .from) (x .to)
 -- they lie within a slice and a table's 65,535 rows, and there is one at least
 pub record SpanFits (x : Span) (t : List ℤ) : Type 0 where
   pub some : x .from < x .to
-  pub few : x .to ≤ 65535
+  pub few : x .to ≤ mostRows
   pub within : 4 * x .to ≤ length t

@@ -7,6 +7,7 @@ ghost use mathlib.Core.Path.{_≡_};
 ghost use mathlib.Core.Bool.{false, cond};
 ghost use Prim.Native.Nat.{_+_, _*_, _-_, _≤_, _<_, _^_, min};
 ghost use lib.ListN.{length};
+ghost use Rattle.rules.specs.Tables.{mostRows};
 ghost use Rattle.rules.specs.Session.{settled};
 ghost use Rattle.rules.specs.Read.{meetBlocks, readTable, readBlock};
 ghost use Rattle.session_laws.specs.Calls.{Lent};
@@ -145,7 +146,7 @@ fn meet_blocks(
 ) -> Met
     requires { ⌜ Ready s × (s .joined + n < 2 ^ 63) × Keys s (now keys) ⌝ }
     requires { ⌜ SpanFits new (cond field (now f) (now t)) ⌝ }
-    requires { ⌜ (depth ≤ 65535) × (4 * depth ≤ length (cond field (now t) (now f)))
+    requires { ⌜ (depth ≤ mostRows) × (4 * depth ≤ length (cond field (now t) (now f)))
         × (n * s .query .block < depth + s .query .block) ⌝ }
     ensures { λ r. ⌜ Stands
         (meetBlocks field s (spanBlock (cond field (now (f .entry)) (now (t .entry))) new)

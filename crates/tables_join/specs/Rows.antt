@@ -19,7 +19,7 @@ use Rattle.lists.specs.Parts.{map-range-at, length-map-range}
 use Rattle.join.specs.Join.{Side, Laws, flip}
 use Rattle.join.specs.Plain.{Rows, plain, PlainLegal, Matches}
 use Rattle.join.specs.PlainLaws.{plain-laws}
-use Rattle.rules.specs.Tables.{rowCount, inRange, Row, row, qualifies, num, within, rowInRange, rowInOrder, legal}
+use Rattle.rules.specs.Tables.{mostRows, rowCount, inRange, Row, row, qualifies, num, within, rowInRange, rowInOrder, legal}
 use Rattle.rules.specs.Tables.{natOf, gap, squaredDistance}
 use Rattle.session_laws.specs.Tables.{range-out, range-in, legal-out, legal-in}
 
@@ -38,7 +38,7 @@ abbrev pub GoodRow : Row → Type 0
 GoodRow x = inRange (pos (x .pattern)) (pos (x .score)) (x .shade .a) (x .shade .b) ≡ true
 
 abbrev pub rows : Rows Row
-rows = record { blank = blankRow; weight = λ x. x .score; Good = GoodRow; most = 65535 }
+rows = record { blank = blankRow; weight = λ x. x .score; Good = GoodRow; most = mostRows }
 
 -- both tables today: the weight of a row is its score
 abbrev pub side : Side Row

@@ -43,10 +43,15 @@ loop-again c =
     let v = c .before .before .before .before .loop in
     let x = c .before .before .before .before .before .args .x .now in
     let t = c .before .is-small in
-    let here : Small (row x (v .i) .shade) = rw (sym (c .before .before .shade .ensures)) (small-out _ (sym (t .ensures) ∙ not-false (t .result) (c .if1 .left))) in
-    (omega (arith, c .before .before .before .loop-test .taken), λ k h. go x (v .i) (v .inv .1) here k h (eqb k (v .i)) refl)
+    let here : Small (row x (v .i) .shade) =
+    rw (sym (c .before .before .shade .ensures))
+    (small-out _ (sym (t .ensures) ∙ not-false (t .result) (c .if1 .left))) in (
+      omega (arith, c .before .before .before .loop-test .taken),
+      λ k h. go x (v .i) (v .inv .1) here k h (eqb k (v .i)) refl,
+    )
   where
-    go : (x : List ℤ) (i : ℕ) → ((k : ℕ) → k < i → Small (row x k .shade)) → Small (row x i .shade) → (k : ℕ) → k < i + 1 → (b : Bool) → eqb k i ≡ b → Small (row x k .shade)
+    go : (x : List ℤ) (i : ℕ) → ((k : ℕ) → k < i → Small (row x k .shade)) → Small (row x i .shade) → (k : ℕ)
+        → k < i + 1 → (b : Bool) → eqb k i ≡ b → Small (row x k .shade)
     go x i before here k h true e = rw (eqb-true k i e) here
     go x i before here k h false e = before k (let n = eqb-false k i e in omega (arith, h, n))
 

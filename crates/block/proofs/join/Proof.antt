@@ -92,9 +92,10 @@ loop-less c =
 
 loop-again : tie.Need-loop-again Inv-loop μ-loop
 loop-again c =
+    let found = c .before .before .before .before .before in
     let s = c .before .before .before .before .before .before .before .before .before in
     let v = c .before .before .before .before .before .before .before .loop in
-    let near = c .before .before .before .before .before .next-near in
+    let near = found .next-near in
     let x = at (s .args .a) (s .args .x .now) in
     let y = at (s .args .c) (s .args .y .now) in
     let n = s .args .held in
@@ -102,8 +103,7 @@ loop-again c =
     let p = c .before .before .before .pair-at in
     let key = c .before .before .key in
     let h : near .result < length (s .args .y .now) / 4 = c .before .before .before .before .if1 .taken in
-    let turn : v .i < length (s .args .x .now) / 4 =
-    c .before .before .before .before .before .before .loop-test .taken in
+    let turn : v .i < length (s .args .x .now) / 4 = found .before .loop-test .taken in
     let here =
     Turns.skipped (s .args .radius) (s .args .room) x y n a (v .i) (v .g) (v .keys) (v .j) (near .result)
     (near .ensures) (v .inv .5) in

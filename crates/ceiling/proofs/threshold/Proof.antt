@@ -46,14 +46,15 @@ higher-requires c κs = search needs
 returns : tie.Need-returns
 unfolding ceiling
 returns c =
+    let at = c .before .before .before .before .before in
     simp (
       c .higher .ensures,
       c .before .pick2 .ensures,
       c .before .before .before .pick .ensures,
       c .before .before .before .before .before .score4 .ensures .0,
-      c .before .before .before .before .before .before .score3 .ensures .0,
-      c .before .before .before .before .before .before .before .score2 .ensures .0,
-      c .before .before .before .before .before .before .before .before .score .ensures .0,
+      at .before .score3 .ensures .0,
+      at .before .before .score2 .ensures .0,
+      at .before .before .before .score .ensures .0,
     )
 
 pub threshold-spec : {M : Type 1} → statement M

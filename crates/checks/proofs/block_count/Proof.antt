@@ -4,10 +4,11 @@ use Prim.Native.Nat.{ℕ, _+_, _-_, _≤_, _<_, _/_}
 use native.Mathlib.Nat.{div-lt-iff-lt-mul}
 use native.Mathlib.Omega.{arith}
 use borrow.Author.Needs.{needs}
+use Rattle.rules.specs.Tables.{mostRows}
 use Rattle.checks.proofs.block_count.Statement.{statement}
 use Rattle.checks.proofs.block_count.Tie as tie
 
-blocks-few : (block depth : ℕ) → 0 < block → depth ≤ 65535 → (depth + block - 1) / block ≤ 65535
+blocks-few : (block depth : ℕ) → 0 < block → depth ≤ mostRows → (depth + block - 1) / block ≤ mostRows
 blocks-few block depth h k =
     let less : (depth + block - 1) / block < 65536 = div-lt-iff-lt-mul h .1 (omega arith) in
     omega arith

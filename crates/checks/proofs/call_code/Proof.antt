@@ -7,6 +7,7 @@ use native.Mathlib.Omega.{arith}
 use lib.IntN.{ℤ}
 use lib.ListN.{length}
 use borrow.Author.Tests.{ne-eqb}
+use Rattle.rules.specs.Tables.{mostRows}
 use Rattle.session_laws.specs.Calls.{SameSize}
 use Rattle.checks.specs.Codes.{callOf, lent-of-out}
 use borrow.Author.Needs.{needs}
@@ -19,8 +20,8 @@ known c =
     let s = c .before .before .args in
     lent-of-out (s .fits) (s .rows) (s .f .now) (s .t .now) (sym (c .before .lent-code .ensures) ∙ c .if1 .left)
 
-rows-within : (t : List ℤ) (rows depth : ℕ) → SameSize rows t → (depth ≤ rows) × (rows ≤ 65535)
-    → (0 + depth ≤ 65535) × (4 * (0 + depth) ≤ length t)
+rows-within : (t : List ℤ) (rows depth : ℕ) → SameSize rows t → (depth ≤ rows) × (rows ≤ mostRows)
+    → (0 + depth ≤ mostRows) × (4 * (0 + depth) ≤ length t)
 rows-within t rows depth h k = omega (arith, h .size .whole, h .count, k)
 
 lent-code-requires : tie.Need-lent-code-requires
@@ -61,8 +62,9 @@ rows-code-requires-2 c κs =
 returns-3 : tie.Need-returns-3
 unfolding callOf
 returns-3 c =
+    let at = c .before .before .before .before .before in
     simp (
-      ← c .before .before .before .before .before .before .lent-code .ensures,
+      ← at .before .lent-code .ensures,
       c .before .before .before .before .before .if1 .left,
       ← c .before .before .before .rows-code .ensures,
       c .before .before .if2 .left,

@@ -23,7 +23,8 @@ field : (c : tie.Else2) → let a = c .before .before .before .before .args in
     countsFit (a .q .block) (a .rows .field .0) (a .depth .field .0) ≡ true
 field c = sym (c .before .counts-fit .ensures) ∙ not-false (c .before .counts-fit .result) (c .if2 .left)
 
-trim : (c : tie.Else3) → let a = c .before .before .before .before .before .before .args in
+trim : (c : tie.Else3) → let at = c .before .before .before .before .before in
+    let a = at .before .args in
     countsFit (a .q .block) (a .rows .trim .0) (a .depth .trim .0) ≡ true
 trim c = sym (c .before .counts-fit2 .ensures) ∙ not-false (c .before .counts-fit2 .result) (c .if3 .left)
 
@@ -72,13 +73,15 @@ mark-fits-requires c κs = search needs
 
 block-count-requires : tie.Need-block-count-requires
 block-count-requires c κs =
-    let q = fits (c .before .before .before .before .before .before) in
+    let at = c .before .before .before .before .before in
+    let q = fits (at .before) in
     let f = counts-out _ _ _ (field (c .before .before .before .before)) in
     omega (arith, q .block .0, q .block .1, f .few, f .within)
 
 block-count-requires-2 : tie.Need-block-count-requires-2
 block-count-requires-2 c κs =
-    let q = fits (c .before .before .before .before .before .before .before) in
+    let at = c .before .before .before .before .before in
+    let q = fits (at .before .before) in
     let t = counts-out _ _ _ (trim (c .before .before .before)) in
     omega (arith, q .block .0, q .block .1, t .few, t .within)
 
@@ -90,9 +93,10 @@ mul-most c =
 returns-4 : tie.Need-returns-4
 unfolding numbersFit
 returns-4 c =
+    let at = c .before .before .before .before .before in
     simp (
-      eq-eqb _ _ (queried (c .before .before .before .before .before .before .before .before)),
-      field (c .before .before .before .before .before .before),
+      eq-eqb _ _ (queried (at .before .before .before)),
+      field (at .before),
       trim (c .before .before .before .before),
       c .before .before .mark-fits .ensures,
       c .before .block-count .ensures .0,

@@ -43,12 +43,13 @@ drop-of-requires-2 c κs = search needs
 returns-5 : tie.Need-returns-5
 unfolding fieldNext
 returns-5 c =
+    let at = c .before .before .before .before .before in
     let s = c .before .before .before .before .before .before .before .before .before .args in
     let x = scoreDrop (s .f .now) (s .s .depth .field .0) in
     let y = scoreDrop (s .t .now) (s .s .depth .trim .0) in
     simp (
-      ne-eqb _ _ (c .before .before .before .before .before .before .before .before .if1 .left),
-      ne-eqb _ _ (c .before .before .before .before .before .before .before .if2 .left),
+      ne-eqb _ _ (at .before .before .before .if1 .left),
+      ne-eqb _ _ (at .before .before .if2 .left),
       ne-eqb _ _ (c .before .before .before .before .before .if3 .left),
       ne-eqb _ _ (c .before .before .before .if4 .left),
       lt-ltb x y (omega (arith, c .before .before .drop-of .ensures, c .before .drop-of2 .ensures, c .if5 .taken)),
@@ -57,13 +58,14 @@ returns-5 c =
 returns-6 : tie.Need-returns-6
 unfolding fieldNext
 returns-6 c =
+    let at = c .before .before .before .before .before in
     let s = c .before .before .before .before .before .before .before .before .before .before .args in
     let x = scoreDrop (s .f .now) (s .s .depth .field .0) in
     let y = scoreDrop (s .t .now) (s .s .depth .trim .0) in
     simp (
-      ne-eqb _ _ (c .before .before .before .before .before .before .before .before .before .if1 .left),
-      ne-eqb _ _ (c .before .before .before .before .before .before .before .before .if2 .left),
-      ne-eqb _ _ (c .before .before .before .before .before .before .if3 .left),
+      ne-eqb _ _ (at .before .before .before .before .if1 .left),
+      ne-eqb _ _ (at .before .before .before .if2 .left),
+      ne-eqb _ _ (at .before .if3 .left),
       ne-eqb _ _ (c .before .before .before .before .if4 .left),
       le-ltb x y
           (omega (
@@ -80,13 +82,14 @@ returns-6 c =
 returns-7 : tie.Need-returns-7
 unfolding fieldNext
 returns-7 c =
+    let at = c .before .before .before .before .before in
     let s = c .before .before .before .before .before .before .before .before .before .before .args in
     let x = scoreDrop (s .f .now) (s .s .depth .field .0) in
     let y = scoreDrop (s .t .now) (s .s .depth .trim .0) in
     simp (
-      ne-eqb _ _ (c .before .before .before .before .before .before .before .before .before .if1 .left),
-      ne-eqb _ _ (c .before .before .before .before .before .before .before .before .if2 .left),
-      ne-eqb _ _ (c .before .before .before .before .before .before .if3 .left),
+      ne-eqb _ _ (at .before .before .before .before .if1 .left),
+      ne-eqb _ _ (at .before .before .before .if2 .left),
+      ne-eqb _ _ (at .before .if3 .left),
       ne-eqb _ _ (c .before .before .before .before .if4 .left),
       le-ltb x y
           (omega (

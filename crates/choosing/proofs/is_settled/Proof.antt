@@ -16,7 +16,8 @@ long : (c : tie.Start) → length (c .args .s .pairs) ≡ 64
 long c = sym (length-map (c .args .s .pairs) _) ∙ c .good .1 .1 .0 .1 .1 .1 .1 .1 .1 .1 .1 .0 .1 .0 .1
 
 -- a pair is held where k are held or out, and not all are out
-some : (c : tie.Else4) → 0 < c .before .before .before .before .before .before .before .before .before .args .s .held
+some : (c : tie.Else4) → let at = c .before .before .before .before .before in
+    0 < at .before .before .before .before .args .s .held
 some c = omega (arith, c .if4 .left, c .before .before .before .if3 .left)
 
 returns : tie.Need-returns
@@ -45,8 +46,9 @@ add-if4 c = search needs
 returns-4 : tie.Need-returns-4
 unfolding settled
 returns-4 c =
+    let at = c .before .before .before .before .before in
     simp (
-      c .before .before .before .before .before .before .before .before .if1 .left,
+      at .before .before .before .if1 .left,
       c .before .before .before .before .before .if2 .left,
       ne-eqb _ _ (c .before .before .before .if3 .left),
       ne-eqb _ _ (c .if4 .taken),
@@ -61,13 +63,14 @@ is-secured-requires c κs =
 returns-5 : tie.Need-returns-5
 unfolding settled
 returns-5 c =
+    let at = c .before .before .before .before .before in
     let s = c .before .before .before .before .before .before .before .before .before .before in
     let l = s .pre .0 .fits in
     let fit : s .args .s .held ≤ length (s .args .s .pairs) = omega (arith, long s, l .room, l .query .k .1) in
     let last = s .pre .1 (some (c .before)) in
     simp (
-      c .before .before .before .before .before .before .before .before .before .if1 .left,
-      c .before .before .before .before .before .before .if2 .left,
+      at .before .before .before .before .if1 .left,
+      at .before .if2 .left,
       ne-eqb _ _ (c .before .before .before .before .if3 .left),
       eq-eqb _ _ (c .before .if4 .left),
       held-secured (s .args .f .now) (s .args .t .now) (s .args .s) l fit (some (c .before)),

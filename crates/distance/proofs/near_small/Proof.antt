@@ -22,8 +22,10 @@ add-result : tie.Need-add-result
 add-result c = S.squares-fit _ _ (c .before .before .before .apart-small .ensures .1) (c .apart-small2 .ensures .1) .2
 
 mul-result-3 : tie.Need-mul-result-3
-mul-result-3 c = let s =
-    c .before .before .before .before .before .before in S.radius-fits (s .args .radius) (s .pre .2)
+mul-result-3 c =
+    let at = c .before .before .before .before .before in
+    let s =
+    at .before in S.radius-fits (s .args .radius) (s .pre .2)
 
 returns : tie.Need-returns
 returns c =

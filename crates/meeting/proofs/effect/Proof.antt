@@ -34,11 +34,12 @@ any-near-requires c κs = search needs
 
 returns-3 : tie.Need-returns-3
 returns-3 c =
-    effect-open (c .before .before .before .before .before .before .args .full)
-    (c .before .before .before .before .before .before .args .low)
-    (c .before .before .before .before .before .before .args .radius)
-    (c .before .before .before .before .before .before .args .x .now)
-    (c .before .before .before .before .before .before .args .y .now)
+    let at = c .before .before .before .before .before in
+    effect-open (at .before .args .full)
+    (at .before .args .low)
+    (at .before .args .radius)
+    (at .before .args .x .now)
+    (at .before .args .y .now)
     (simp (
       c .before .before .before .before .before .score .ensures .0,
       c .before .before .before .before .score2 .ensures .0,
@@ -46,11 +47,12 @@ returns-3 c =
 
 returns-4 : tie.Need-returns-4
 returns-4 c =
-    effect-quiet (c .before .before .before .before .before .before .args .full)
-    (c .before .before .before .before .before .before .args .low)
-    (c .before .before .before .before .before .before .args .radius)
-    (c .before .before .before .before .before .before .args .x .now)
-    (c .before .before .before .before .before .before .args .y .now)
+    let at = c .before .before .before .before .before in
+    effect-quiet (at .before .args .full)
+    (at .before .args .low)
+    (at .before .args .radius)
+    (at .before .args .x .now)
+    (at .before .args .y .now)
     (simp (
       c .before .before .before .before .before .score .ensures .0,
       c .before .before .before .before .score2 .ensures .0,

@@ -73,7 +73,8 @@ old c = record { from = c .before .before .loop .c; to = c .lesser .result }
 
 -- it lies within its table, and so do the two blocks as field and trim
 old-inside : (c : tie.After-lesser Inv-loop μ-loop)
-    → SpanFits (old c) (other (c .before .before .before .before .before .before))
+    → let at = c .before .before .before .before .before in
+    SpanFits (old c) (other (at .before))
 old-inside c =
     let s = c .before .before .before .before .before .before in
     let least = s .pre .0 .0 .query .block .0 in
@@ -84,9 +85,10 @@ old-inside c =
     }
 
 inside : (c : tie.After-either2 Inv-loop μ-loop)
-    → SpanFits (c .before .either .result)
-    (c .before .before .before .before .before .before .before .before .args .f .now)
-    × SpanFits (c .either2 .result) (c .before .before .before .before .before .before .before .before .args .t .now)
+    → let at = c .before .before .before .before .before in
+    SpanFits (c .before .either .result)
+    (at .before .before .before .args .f .now)
+    × SpanFits (c .either2 .result) (at .before .before .before .args .t .now)
 inside c =
     let s = c .before .before .before .before .before .before .before .before in
     let a = s .args in

@@ -82,21 +82,24 @@ ready s = blocks-ready (s .args .field) (s .args .s) _ _ _ _ (s .pre .0 .ready)
 
 -- the numbers and keys stand for it
 stands : (c : tie.After-meet-blocks)
-    → Stands (met (c .before .before .before .before .before .before .before)) (c .meet-blocks .result)
+    → let at = c .before .before .before .before .before in
+    Stands (met (at .before .before)) (c .meet-blocks .result)
     (c .meet-blocks .last .1 .1 .1 .1 .1 .1 .1 .0)
 stands c =
+    let at = c .before .before .before .before .before in
     simp (
       c .before .before .block-count .ensures .0,
       c .before .before .before .next-depth .ensures,
       c .before .before .before .before .pick3 .ensures,
       c .before .before .before .before .before .pick2 .ensures,
-      c .before .before .before .before .before .before .pick .ensures,
+      at .before .pick .ensures,
     )
     at (c .meet-blocks .ensures)
 
 few : (c : tie.After-meet-blocks) → c .meet-blocks .result .held ≤ 64
 few c =
-    let k = ready (c .before .before .before .before .before .before .before) in
+    let at = c .before .before .before .before .before in
+    let k = ready (at .before .before) in
     omega (arith, stands c .held, k .room, k .query .k .1)
 
 cast-t19 : tie.Need-cast-t19

@@ -96,7 +96,9 @@ loop-again c =
 
 -- what was handed in, as seen from behind the loop
 abbrev given : tie.Left-loop Inv-loop μ-loop Inv-loop2 μ-loop2 → tie.Start Inv-loop μ-loop Inv-loop2 μ-loop2
-given c = c .before .before .before .before .before .before .before .before
+given c =
+    let at = c .before .before .before .before .before in
+    at .before .before .before
 
 looked : (c : tie.Left-loop Inv-loop μ-loop Inv-loop2 μ-loop2) → c .loop-test .fits ≡ recordFits (given c .args .s)
 looked c =
@@ -216,7 +218,8 @@ returns c =
 
 returns-2 : tie.Need-returns-2 Inv-loop μ-loop Inv-loop2 μ-loop2
 returns-2 c =
-    let a = given (c .before .before .before .before .before .before) .args in
+    let at = c .before .before .before .before .before in
+    let a = given (at .before) .args in
     let is = ap (λ (r : Step). r .answer) (ended (c .before)) in
     simp (not-read (a .f .now) (a .t .now) (a .s) (c .before .read-answer .result) is (c .match .keys2)) at
     (ended (c .before))

@@ -80,7 +80,9 @@ loop-again c =
 
 -- what was handed in, as seen from behind the loop
 abbrev given : tie.Left-loop Inv-loop μ-loop Inv-loop2 μ-loop2 → tie.Start Inv-loop μ-loop Inv-loop2 μ-loop2
-given c = c .before .before .before .before .before .before .before .before
+given c =
+    let at = c .before .before .before .before .before in
+    at .before .before .before
 
 looked : (c : tie.Left-loop Inv-loop μ-loop Inv-loop2 μ-loop2) → c .loop-test .fits ≡ recordFits (given c .args .s)
 looked c =
@@ -112,7 +114,8 @@ told c = ap wasGiven (c .enum-told .given .1)
 
 -- a pair is held, and there is room for one more that is out
 gives : (c : tie.After-enum-told Inv-loop μ-loop Inv-loop2 μ-loop2)
-    → let s = given (c .before .before .before .before .before .before) .args .s in (0 < s .held) × (s .out ≤ 64)
+    → let at = c .before .before .before .before .before in
+    let s = given (at .before) .args .s in (0 < s .held) × (s .out ≤ 64)
 unfolding givesPair
 gives c =
     let call = c .before .before .before in
@@ -154,8 +157,9 @@ loop2-less c = search needs
 
 loop2-again : tie.Need-loop2-again Inv-loop μ-loop Inv-loop2 μ-loop2
 loop2-again c =
+    let at = c .before .before .before .before .before in
     let v = c .before .before .loop2 in
-    move-on (given (c .before .before .before .before .before .before .before .before .before) .args .s) (v .j) (v .r)
+    move-on (given (at .before .before .before .before) .args .s) (v .j) (v .r)
     (v .inv) (c .before .loop2-test .taken)
 
 element-set-from-z : tie.Need-element-set-from-z Inv-loop μ-loop Inv-loop2 μ-loop2
@@ -163,7 +167,9 @@ element-set-from-z c = search needs
 
 -- the record that the moves began with
 abbrev first : tie.After-loop2 Inv-loop μ-loop Inv-loop2 μ-loop2 → Session
-first c = given (c .before .before .before .before .before .before .before .before) .args .s
+first c =
+    let at = c .before .before .before .before .before in
+    given (at .before .before .before) .args .s
 
 add-r : tie.Need-add-r Inv-loop μ-loop Inv-loop2 μ-loop2
 add-r c =
