@@ -54,7 +54,8 @@ pub fn any_near(radius: u32, x: &[i32], y: &[i32]) -> bool
 
 // The pair of row i + 1 of x and row j + 1 of y; a and c rows stand before x and y in their tables.
 fn pair_at(x: &[i32], a: usize, i: usize, y: &[i32], c: usize, j: usize) -> Pair
-    requires { ⌜ (4 * i + 4 ≤ length (now x)) × (4 * j + 4 ≤ length (now y)) × (a + i < mostRows) × (c + j < mostRows) ⌝ }
+    requires { ⌜ (4 * i + 4 ≤ length (now x)) × (4 * j + 4 ≤ length (now y))
+        × (a + i < mostRows) × (c + j < mostRows) ⌝ }
     ensures { λ r. ⌜ (r ≡ pairAt (at a (now (x .entry))) (at c (now (y .entry))) i j) × Narrow r ⌝ }
 {
     let s = tables::score(x, i);

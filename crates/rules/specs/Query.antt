@@ -1,4 +1,4 @@
--- docs/RULES.md, "One whole query": the two files and the input as bytes in, the listing as bytes out. Definitions only.
+-- docs/RULES.md, "One whole query": two files and the input as bytes in, the listing as bytes out. Definitions only.
 -- Assumes nothing.
 use Prim.Native.Nat.{ℕ, zero, suc, _+_, _-_, _/_, _%_}
 use mathlib.Core.Bool.{Bool, true, false, _&&_}

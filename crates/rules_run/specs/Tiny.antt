@@ -1,5 +1,5 @@
--- The rules, run by the checker on all tables of up to two rows from a small domain: the sums that reading until settled
--- and taking until finished bring out are the k highest of the plain list of all qualifying sums. Assumes nothing.
+-- The rules, run by the checker on all tables of up to two rows from a small domain: the sums that reading until
+-- settled and taking until finished bring out are the k highest of all qualifying sums. Assumes nothing.
 use Prim.Native.Nat.{ℕ}
 use mathlib.Core.Path.{_≡_, refl}
 use mathlib.Core.Bool.{Bool, true, false, _&&_}

@@ -19,7 +19,8 @@ use Rattle.lists.specs.Parts.{map-range-at, length-map-range}
 use Rattle.join.specs.Join.{Side, Laws, flip}
 use Rattle.join.specs.Plain.{Rows, plain, PlainLegal, Matches}
 use Rattle.join.specs.PlainLaws.{plain-laws}
-use Rattle.rules.specs.Tables.{mostRows, rowCount, inRange, Row, row, qualifies, num, within, rowInRange, rowInOrder, legal}
+use Rattle.rules.specs.Tables.{mostRows, rowCount, inRange, Row, row, qualifies, num, within, rowInRange, rowInOrder}
+use Rattle.rules.specs.Tables.{legal}
 use Rattle.rules.specs.Tables.{natOf, gap, squaredDistance}
 use Rattle.session_laws.specs.Tables.{range-out, range-in, legal-out, legal-in}
 

@@ -1,5 +1,5 @@
--- The rules' sure readings are the join's, and a test on the rows read says which they are: step 3 of docs/WHY-IT-HOLDS.md
--- tables. Assumes legal tables.
+-- The rules' sure readings are the join's, and a test on the rows read says which they are (docs/WHY-IT-HOLDS.md,
+-- step 3). Assumes legal tables.
 use mathlib.Core.Path.{_≡_, sym, ap, ap₂, _∙_, refl}
 use mathlib.Core.Bool.{Bool, cond, _&&_, _||_, true, false}
 use mathlib.Core.List.{List, map, map-map}
