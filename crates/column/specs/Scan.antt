@@ -22,7 +22,8 @@ byteWorth isMinus b = cond isMinus 0 (b % 16)
 abbrev pub start : Scan
 start = record { seen = false; digit = false; negative = false; bad = false; worth = 0 }
 
--- one byte more, of this place value: a blank or a minus stands only where no other byte stood before it, a digit not after a single 0
+-- one byte more, of this place value: a blank or a minus stands only where no other byte stood before it, a digit not
+-- after a single 0
 unfoldable pub stepped : Bool → ℕ → Scan → ℕ → Scan
 stepped signed place s b =
     record {
