@@ -4,8 +4,9 @@ use mathlib.Core.Bool.{Bool, false, cond, _&&_, _||_, not}
 use mathlib.Core.List.{List, [], _∷_}
 use lib.Dec.{eqb}
 use lib.IntN.{ℤ, pos, negℤ}
-use lib.ListN.{take, drop}
+use lib.ListN.{length, take, drop}
 use Rattle.rules.specs.File.{blank, minus, isDigit}
+use Rattle.file_laws.specs.Places.{placeAt}
 use Rattle.column.specs.declared.Column.{Column}
 use Rattle.column.specs.declared.Scan.{Scan}
 
@@ -13,7 +14,7 @@ use Rattle.column.specs.declared.Scan.{Scan}
 unfoldable pub upTo : List ℕ → ℕ → ℕ → List ℕ
 upTo bytes i e = take (e - i) (drop i bytes)
 
--- what a byte adds to the digits before it: b - 48 if it is a digit, nothing if it is a blank or a minus
+-- what a byte is worth as a digit: b - 48 if it is one, nothing if it is a blank or a minus
 unfoldable pub byteWorth : Bool → ℕ → ℕ
 byteWorth isMinus b = cond isMinus 0 (b % 16)
 
@@ -21,9 +22,10 @@ byteWorth isMinus b = cond isMinus 0 (b % 16)
 abbrev pub start : Scan
 start = record { seen = false; digit = false; negative = false; bad = false; worth = 0 }
 
--- one byte more: a blank or a minus stands only where no other byte stood before it, a digit not after a single 0
-unfoldable pub stepped : Bool → Scan → ℕ → Scan
-stepped signed s b =
+-- one byte more, of this place value: a blank or a minus stands only where no other byte stood before it, a digit not
+-- after a single 0
+unfoldable pub stepped : Bool → ℕ → Scan → ℕ → Scan
+stepped signed place s b =
     record {
       seen = not (eqb b blank);
       digit = isDigit b;
@@ -31,12 +33,13 @@ stepped signed s b =
       bad = s .bad
           || ((s .digit && eqb (s .worth) 0) ||
           (not (isDigit b) && (s .seen || not (eqb b blank || (signed && eqb b minus)))));
-      worth = 10 * s .worth + byteWorth (signed && eqb b minus) b;
+      worth = s .worth + place * byteWorth (signed && eqb b minus) b;
     }
 
+-- all bytes, each by the entry of those behind it
 unfoldable pub scanned : Bool → Scan → List ℕ → Scan
 scanned signed s [] = s
-scanned signed s (b ∷ l) = scanned signed (stepped signed s b) l
+scanned signed s (b ∷ l) = scanned signed (stepped signed (placeAt (length l)) s b) l
 
 -- the number that a scan has met
 unfoldable pub signedWorth : Scan → ℤ

@@ -4,6 +4,7 @@ ghost use mathlib.Core.Bool.{true};
 ghost use Prim.Native.Nat.{_+_, _≤_, _<_};
 ghost use lib.ListN.{length};
 ghost use Rattle.rules.specs.File.{columns, columnFits, columnNumber};
+ghost use Rattle.file_laws.specs.Places.{placeAt};
 ghost use Rattle.column.specs.Column.{columnHeld};
 ghost use Rattle.column.specs.Scan.{upTo, byteWorth, stepped, start, scanned, signedWorth, heldOf};
 
@@ -27,7 +28,17 @@ struct Scan {
     worth: u32,
 }
 
-// What a byte adds to the digits before it: a blank and a minus nothing.
+// The place values: what a digit is worth with so many digits behind it.
+const PLACES: [u32; 7] = [1, 10, 100, 1000, 10000, 100000, 1000000];
+
+fn place_value(i: usize) -> u32
+    requires { ⌜ i < 7 ⌝ }
+    ensures { λ r. ⌜ r ≡ placeAt i ⌝ }
+{
+    PLACES[i]
+}
+
+// What a byte is worth as a digit: a blank and a minus nothing.
 fn byte_worth(byte: u8, minus: bool) -> u32
     ensures { λ r. ⌜ r ≡ byteWorth minus byte ⌝ }
 {
@@ -37,10 +48,10 @@ fn byte_worth(byte: u8, minus: bool) -> u32
     (byte % 16) as u32
 }
 
-// One byte more.
-fn step(s: Scan, byte: u8, signed: bool) -> Scan
-    requires { ⌜ s .worth < 20000000 ⌝ }
-    ensures { λ r. ⌜ r ≡ stepped signed s byte ⌝ }
+// One byte more, of this place value.
+fn step(s: Scan, byte: u8, signed: bool, place: u32) -> Scan
+    requires { ⌜ (s .worth < 20000000) × (place ≤ 1000000) ⌝ }
+    ensures { λ r. ⌜ r ≡ stepped signed place s byte ⌝ }
 {
     let blank = byte == b' ';
     let minus = signed & (byte == b'-');
@@ -52,7 +63,7 @@ fn step(s: Scan, byte: u8, signed: bool) -> Scan
         digit: digit,
         negative: s.negative | minus,
         bad: s.bad | (after_zero | astray),
-        worth: 10 * s.worth + byte_worth(byte, minus),
+        worth: s.worth + place * byte_worth(byte, minus),
     }
 }
 
@@ -71,7 +82,8 @@ fn scan_from(bytes: &[u8], at: usize, end: usize, signed: bool) -> Scan
     };
     let mut i = at;
     while i < end {
-        s = step(s, bytes[i], signed);
+        let place = place_value(end - 1 - i);
+        s = step(s, bytes[i], signed, place);
         i += 1;
     }
     s

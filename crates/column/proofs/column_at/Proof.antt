@@ -3,7 +3,7 @@ use mathlib.Core.Path.{sym, ap, _∙_}
 use Prim.Native.Nat.{_+_}
 use Rattle.column.specs.Column.{columnHeld}
 use Rattle.column.specs.Scan.{upTo, heldOf}
-use Rattle.column.proofs.Bytes.{whole}
+use Rattle.column.proofs.Bytes.{whole, short}
 use Rattle.column.proofs.Scans.{scan-holds}
 use borrow.Author.Needs.{needs}
 use Rattle.column.proofs.column_at.Statement.{statement}
@@ -25,6 +25,7 @@ returns c =
     c .held .ensures
     ∙ ap heldOf (c .before .scan-from .ensures .0)
     ∙ scan-holds (s .signed) (upTo l (s .at) (s .at + s .width))
+    (short l (s .at) (s .width) (c .before .before .before .pre))
     ∙ sym (ap (columnHeld (s .signed)) (whole l (s .at) (s .width)))
 
 pub column-at-spec : {M : Type 1} → statement M

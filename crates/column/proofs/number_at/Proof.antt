@@ -6,7 +6,7 @@ use mir.Syntax.{w32}
 use mir.Facts.{toZ-ofZ}
 use Rattle.rules.specs.File.{columns, columnFits, columnNumber}
 use Rattle.column.specs.Scan.{upTo, signedWorth}
-use Rattle.column.proofs.Bytes.{whole}
+use Rattle.column.proofs.Bytes.{whole, short}
 use Rattle.column.proofs.Scans.{scan-number}
 use borrow.Author.Needs.{needs, sfits-of}
 use Rattle.column.proofs.number_at.Statement.{statement}
@@ -32,7 +32,7 @@ returns c =
     toZ-ofZ {w = w32} {z = c .signed-worth .result} (sfits-of (c .signed-worth .ok))
     ∙ c .signed-worth .ensures
     ∙ ap signedWorth (c .before .scan-from .ensures .0)
-    ∙ scan-number (s .signed) (upTo l (s .at) (s .at + s .width)) fits
+    ∙ scan-number (s .signed) (upTo l (s .at) (s .at + s .width)) (short l (s .at) (s .width) (at .pre .0)) fits
     ∙ sym (ap (columnNumber (s .signed)) same)
 
 pub number-at-spec : {M : Type 1} → statement M

@@ -1,6 +1,8 @@
 -- `step` meets its contract. Assumes nothing.
 use mathlib.Core.Path.{refl}
 use mathlib.Core.Bool.{_&&_}
+use Prim.Native.Nat.{_*_, _≤_}
+use native.Mathlib.Nat.{mul-le-mul}
 use native.Mathlib.Omega.{arith}
 use lib.Dec.{eqb}
 use Rattle.column.specs.Scan.{stepped}
@@ -9,20 +11,28 @@ use borrow.Author.Needs.{needs}
 use Rattle.column.proofs.step.Statement.{statement}
 use Rattle.column.proofs.step.Tie as tie
 
-mul-t13 : tie.Need-mul-t13
-mul-t13 c = search needs
+-- a byte is worth at most 15 at a place of at most 1,000,000
+small : (c : tie.After-byte-worth) →
+    c .before .before .before .before .before .before .args .place * c .byte-worth .result ≤ 15000000
+small c =
+    let at = c .before .before .before .before .before .before in
+    let s = at .args in
+    let worth : c .byte-worth .result ≤ 15 =
+    omega (arith, c .byte-worth .ensures, worth-small (s .signed && eqb (s .byte) 45) (s .byte)) in
+    omega (arith, mul-le-mul (at .pre .1) worth)
 
 byte-worth-requires : tie.Need-byte-worth-requires
 byte-worth-requires c κs = search needs
 
-add-t15 : tie.Need-add-t15
-add-t15 c =
-    let s = c .before .before .before .before .before .before .before .args in
-    omega (arith, c .byte-worth .ensures, worth-small (s .signed && eqb (s .byte) 45) (s .byte))
+mul-t15 : tie.Need-mul-t15
+mul-t15 c = omega (arith, small c)
+
+add-t16 : tie.Need-add-t16
+add-t16 c = omega (arith, small (c .before))
 
 returns : tie.Need-returns
 unfolding stepped
-returns c = simp (c .byte-worth .ensures) refl
+returns c = simp (c .before .byte-worth .ensures) refl
 
 pub step-spec : {M : Type 1} → statement M
-step-spec = tie.close (tie.spec mul-t13 byte-worth-requires add-t15 returns)
+step-spec = tie.close (tie.spec byte-worth-requires mul-t15 add-t16 returns)
