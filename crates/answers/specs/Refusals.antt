@@ -16,7 +16,9 @@ use Rattle.rules.specs.Take.{firstHeld, movedOut, givesPair, finished}
 use Rattle.rules.specs.Numbers.{listLength, blockSize, radiusRange, tableSize, badRecord, rowLimit, rowOrder}
 use Rattle.rules.specs.Numbers.{IsRefusal, unless, first, said, refusal}
 use Rattle.rules.specs.Calls.{step, between, queryCode, sizeCode, sameSizeCode, rowCode, rowsCode, recordFits}
-use Rattle.rules.specs.Calls.{recordCode, lentCode, callCode, newBlockCode, openCode, openCall, readCall, takeCall}
+use Rattle.rules.specs.Calls.{recordCode, lentCode, callCode, newBlockCodeBy, newBlockCode, openCode, openCall}
+use Rattle.rules.specs.Calls.{readCallBy, readCall, takeCallBy}
+use Rattle.rules.specs.Calls.{takeCall}
 use Rattle.rules.specs.Checks.{unless-refusal, first-refusal}
 
 -- ---- The codes
@@ -77,7 +79,7 @@ call-refusal f t s =
     (rows-refusal t 0 (s .depth .trim .0))
 
 block-refusal : (f t : List ℤ) (s : Session) → IsRefusal (newBlockCode f t s)
-unfolding newBlockCode
+unfolding newBlockCodeBy
 block-refusal f t s = rows-refusal _ _ _
 
 -- ---- The calls
@@ -97,7 +99,7 @@ open-refusal q f t =
     either (eqb (openCode q f t) 0) accepted (step (Refused (openCode q f t)) zeros) (omega arith) (open-code q f t)
 
 pub read-refusal : (f t : List ℤ) (s : Session) → Numbered (readCall f t s)
-unfolding readCall
+unfolding readCallBy
 read-refusal f t s =
     let new = step (Refused (newBlockCode f t s)) s in
     let read = cond (eqb (newBlockCode f t s) 0) (step Read (readBlock f t s)) new in
@@ -108,7 +110,7 @@ read-refusal f t s =
     (call-refusal f t s)
 
 pub take-refusal : (f t : List ℤ) (s : Session) → Numbered (takeCall f t s)
-unfolding takeCall
+unfolding takeCallBy
 take-refusal f t s =
     let none = cond (finished s) (step Finished s) (step NotYet s) in
     let given = step (Given (firstHeld s)) (movedOut s) in

@@ -8,7 +8,7 @@ use lib.Dec.{ltb}
 use lib.ListN.{length, getD, take, length-take}
 use Rattle.lists.specs.Words.{Ordered}
 use Rattle.rules.specs.declared.Pair.{Pair}
-use Rattle.rules.specs.Tables.{Block, row, rowCount, qualifies, pairAt, ahead}
+use Rattle.rules.specs.Tables.{Terms, Block, row, rowCount, pairAt, ahead}
 use Rattle.keys.specs.Held.{keyOf, Narrow, Keyed, Put}
 use Rattle.keys.specs.Keys.{keyed-length}
 use Rattle.block.specs.Block.{metRow, metRows, Joined}
@@ -16,10 +16,10 @@ use Rattle.block.specs.Full.{off, to-ordered}
 use Rattle.block.specs.Near.{NextNear}
 use Rattle.block.specs.Twin.{metTo, to-next, row-joins, row-skips, met-is}
 
-module _ (radius room : ℕ) (x y : Block) (n : ℕ) (a : List ℕ) where
+module _ (w : Terms) (room : ℕ) (x y : Block) (n : ℕ) (a : List ℕ) where
   -- b holds g pairs: of those that a held and of the pairs of rows passed
   abbrev pub Met : ℕ → ℕ → ℕ → List ℕ → Type 0
-  Met i j g b = (l : List Pair) → Keyed l (take n a) → Ordered ahead l → Keyed (metTo radius room x y l i j) (take g b)
+  Met i j g b = (l : List Pair) → Keyed l (take n a) → Ordered ahead l → Keyed (metTo w room x y l i j) (take g b)
 
   pub start : Met 0 0 n a
   unfolding metRow metRows
@@ -27,42 +27,42 @@ module _ (radius room : ℕ) (x y : Block) (n : ℕ) (a : List ℕ) where
 
   module _ (i g : ℕ) (b : List ℕ) where
     -- rows that do not lie near are passed
-    pub skipped : (j k : ℕ) → NextNear radius (x .rows) i (y .rows) j k → Met i j g b → Met i k g b
+    pub skipped : (j k : ℕ) → NextNear w (x .rows) i (y .rows) j k → Met i j g b → Met i k g b
     skipped j k near met =
         λ l h o. subst (λ (m : List Pair). Keyed m (take g b))
-        (row-skips radius room x y i (metRows radius room x y l i) j k (near .from) (near .none-before)) (met l h o)
+        (row-skips w room x y i (metRows w room x y l i) j k (near .from) (near .none-before)) (met l h o)
 
     -- a near pair is put
     pub joined : (k r : ℕ) (b′ : List ℕ) (p : Pair) → Met i k g b
-        → qualifies radius (row (x .rows) i .shade) (row (y .rows) k .shade) ≡ true → p ≡ pairAt x y i k
+        → w .near (row (x .rows) i) (row (y .rows) k) ≡ true → p ≡ pairAt w x y i k
         → Put g room p b r b′ → Met i (k + 1) r b′
     joined k r b′ p met q e put =
         λ l h o.
         subst (λ (m : List Pair). Keyed m (take r b′))
-        (row-joins radius room x y i k (metRows radius room x y l i) p q e)
-        (put .held (metTo radius room x y l i k) (met l h o))
+        (row-joins w room x y i k (metRows w room x y l i) p q e)
+        (put .held (metTo w room x y l i k) (met l h o))
 
     -- a near pair would fall off
     pub fallen : (k : ℕ) (p : Pair) → Met i k g b
-        → qualifies radius (row (x .rows) i .shade) (row (y .rows) k .shade) ≡ true → p ≡ pairAt x y i k → Narrow p
+        → w .near (row (x .rows) i) (row (y .rows) k) ≡ true → p ≡ pairAt w x y i k → Narrow p
         → length b ≡ 64 → room ≤ 64 → g ≡ room → ltb (getD b ((room + 63) % 64) 0) (keyOf p) ≡ true → Met i (k + 1) g b
     fallen k p met q e narrow long fits full last =
         λ l h o.
-        let m = metTo radius room x y l i k in
-        let same = off b m g room p long (met l h o) narrow (to-ordered radius room x y l i k o) fits full last in
+        let m = metTo w room x y l i k in
+        let same = off b m g room p long (met l h o) narrow (to-ordered w room x y l i k o) fits full last in
         subst (λ (m : List Pair). Keyed m (take g b))
-        (sym same ∙ row-joins radius room x y i k (metRows radius room x y l i) p q e) (met l h o)
+        (sym same ∙ row-joins w room x y i k (metRows w room x y l i) p q e) (met l h o)
 
     -- row i + 1 of x has met all of y
     pub next : (k : ℕ) → k ≡ rowCount (y .rows) → Met i k g b → Met (i + 1) 0 g b
     next k e met =
         λ l h o.
-        subst (λ (m : List Pair). Keyed m (take g b)) (ap (metTo radius room x y l i) e ∙ to-next radius room x y l i)
+        subst (λ (m : List Pair). Keyed m (take g b)) (ap (metTo w room x y l i) e ∙ to-next w room x y l i)
         (met l h o)
 
     -- all rows of x have
     pub all-met : i ≡ rowCount (x .rows) → Met i 0 g b → n ≤ room → g ≤ room → length b ≡ 64
-        → Joined radius room x y n a g b
+        → Joined w room x y n a g b
     unfolding metRow
     all-met e met few few-after long =
         record {
@@ -72,5 +72,5 @@ module _ (radius room : ℕ) (x y : Block) (n : ℕ) (a : List ℕ) where
               λ l h o.
               let short : length l ≤ room = omega (arith, keyed-length l (take n a) h, length-take n a) in
               subst (λ (m : List Pair). Keyed m (take g b))
-              (ap (metRows radius room x y l) e ∙ met-is radius room x y l o short) (met l h o);
+              (ap (metRows w room x y l) e ∙ met-is w room x y l o short) (met l h o);
         }

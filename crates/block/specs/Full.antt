@@ -11,7 +11,7 @@ use Rattle.lists.specs.Lists.{ins}
 use Rattle.lists.specs.Words.{Ordered}
 use Rattle.lists.specs.Sorts as Sorts
 use Rattle.rules.specs.declared.Pair.{Pair}
-use Rattle.rules.specs.Tables.{Block, row, rowCount, qualifies, pairAt, ahead}
+use Rattle.rules.specs.Tables.{Terms, Block, row, rowCount, pairAt, ahead}
 use Rattle.rules.specs.Ranking.{ahead-strict}
 use Rattle.rules.specs.Session.{noPair}
 use Rattle.keys.specs.Held.{keyOf, Narrow, Keyed}
@@ -67,22 +67,21 @@ put-ordered : (b : Bool) (room : ℕ) (p : Pair) (l : List Pair) → Ordered ahe
 put-ordered true room p l o = Sorts.take-ordered ahead room (ins ahead p l) (Sorts.ins-ordered ahead ahead-strict p l o)
 put-ordered false room p l o = o
 
-row-ordered : (radius room : ℕ) (x y : Block) (i : ℕ) (l : List Pair) (j : ℕ) → Ordered ahead l
-    → Ordered ahead (metRow radius room x y i l j)
+row-ordered : (w : Terms) (room : ℕ) (x y : Block) (i : ℕ) (l : List Pair) (j : ℕ) → Ordered ahead l
+    → Ordered ahead (metRow w room x y i l j)
 unfolding metRow
-row-ordered radius room x y i l zero o = o
-row-ordered radius room x y i l (suc j) o =
-    put-ordered (qualifies radius (row (x .rows) i .shade) (row (y .rows) j .shade)) room (pairAt x y i j) _
-    (row-ordered radius room x y i l j o)
+row-ordered w room x y i l zero o = o
+row-ordered w room x y i l (suc j) o =
+    put-ordered (w .near (row (x .rows) i) (row (y .rows) j)) room (pairAt w x y i j) _ (row-ordered w room x y i l j o)
 
-rows-ordered : (radius room : ℕ) (x y : Block) (l : List Pair) (i : ℕ) → Ordered ahead l
-    → Ordered ahead (metRows radius room x y l i)
+rows-ordered : (w : Terms) (room : ℕ) (x y : Block) (l : List Pair) (i : ℕ) → Ordered ahead l
+    → Ordered ahead (metRows w room x y l i)
 unfolding metRows
-rows-ordered radius room x y l zero o = o
-rows-ordered radius room x y l (suc i) o =
-    row-ordered radius room x y i _ (rowCount (y .rows)) (rows-ordered radius room x y l i o)
+rows-ordered w room x y l zero o = o
+rows-ordered w room x y l (suc i) o =
+    row-ordered w room x y i _ (rowCount (y .rows)) (rows-ordered w room x y l i o)
 
-pub to-ordered : (radius room : ℕ) (x y : Block) (l : List Pair) (i j : ℕ) → Ordered ahead l
-    → Ordered ahead (metRow radius room x y i (metRows radius room x y l i) j)
-to-ordered radius room x y l i j o =
-    row-ordered radius room x y i (metRows radius room x y l i) j (rows-ordered radius room x y l i o)
+pub to-ordered : (w : Terms) (room : ℕ) (x y : Block) (l : List Pair) (i j : ℕ) → Ordered ahead l
+    → Ordered ahead (metRow w room x y i (metRows w room x y l i) j)
+to-ordered w room x y l i j o =
+    row-ordered w room x y i (metRows w room x y l i) j (rows-ordered w room x y l i o)

@@ -12,66 +12,65 @@ use Rattle.lists.specs.Lists.{consIf, keep, range, each}
 use Rattle.lists.specs.Appends.{keep-append, each-append, range-end}
 use Rattle.lists.specs.Bools.{or-none-out}
 use Rattle.rules.specs.declared.Pair.{Pair}
-use Rattle.rules.specs.Tables.{Block, row, rowCount, qualifies, pairAt, qualifying}
+use Rattle.rules.specs.Tables.{Terms, Block, row, rowCount, pairAt, qualifying}
 
 -- row i + 1 of x and one of the first rows of y
-unfoldable pub rowNear : ℕ → List ℤ → List ℤ → ℕ → ℕ → Bool
-rowNear radius x y i zero = false
-rowNear radius x y i (suc j) = rowNear radius x y i j || qualifies radius (row x i .shade) (row y j .shade)
+unfoldable pub rowNear : Terms → List ℤ → List ℤ → ℕ → ℕ → Bool
+rowNear w x y i zero = false
+rowNear w x y i (suc j) = rowNear w x y i j || w .near (row x i) (row y j)
 
 -- one of the first rows of x and a row of y
-unfoldable pub anyNear : ℕ → List ℤ → List ℤ → ℕ → Bool
-anyNear radius x y zero = false
-anyNear radius x y (suc i) = anyNear radius x y i || rowNear radius x y i (rowCount y)
+unfoldable pub anyNear : Terms → List ℤ → List ℤ → ℕ → Bool
+anyNear w x y zero = false
+anyNear w x y (suc i) = anyNear w x y i || rowNear w x y i (rowCount y)
 
-module _ (radius : ℕ) (x y : Block) where
+module _ (w : Terms) (x y : Block) where
   abbrev test : ℕ → ℕ → Bool
-  test i j = qualifies radius (row (x .rows) i .shade) (row (y .rows) j .shade)
+  test i j = w .near (row (x .rows) i) (row (y .rows) j)
 
-  none-kept : (i n : ℕ) → rowNear radius (x .rows) (y .rows) i n ≡ false → keep (test i) (range 0 n) ≡ []
+  none-kept : (i n : ℕ) → rowNear w (x .rows) (y .rows) i n ≡ false → keep (test i) (range 0 n) ≡ []
   unfolding rowNear keep range consIf
   none-kept i zero h = refl
   none-kept i (suc n) h =
-      let both = or-none-out (rowNear radius (x .rows) (y .rows) i n) (test i n) h in
+      let both = or-none-out (rowNear w (x .rows) (y .rows) i n) (test i n) h in
       let e : 0 + n ≡ n = omega arith in
       ap (keep (test i)) (range-end 0 n ∙ ap (λ (m : ℕ). range 0 n ++ m ∷ []) e)
       ∙ keep-append (test i) (range 0 n) (n ∷ [])
       ∙ ap₂ (λ (k l : List ℕ). k ++ l) (none-kept i n (both .0)) (ap (λ (b : Bool). consIf b n []) (both .1))
 
   abbrev ofRow : ℕ → List Pair
-  ofRow i = map (pairAt x y i) (keep (test i) (range 0 (rowCount (y .rows))))
+  ofRow i = map (pairAt w x y i) (keep (test i) (range 0 (rowCount (y .rows))))
 
-  none-of : (n : ℕ) → anyNear radius (x .rows) (y .rows) n ≡ false → each ofRow (range 0 n) ≡ []
+  none-of : (n : ℕ) → anyNear w (x .rows) (y .rows) n ≡ false → each ofRow (range 0 n) ≡ []
   unfolding anyNear each range
   none-of zero h = refl
   none-of (suc n) h =
       let both =
-      or-none-out (anyNear radius (x .rows) (y .rows) n)
-      (rowNear radius (x .rows) (y .rows) n (rowCount (y .rows))) h in
+      or-none-out (anyNear w (x .rows) (y .rows) n) (rowNear w (x .rows) (y .rows) n (rowCount (y .rows))) h in
       let e : 0 + n ≡ n = omega arith in
       ap (each ofRow) (range-end 0 n ∙ ap (λ (m : ℕ). range 0 n ++ m ∷ []) e)
       ∙ each-append ofRow (range 0 n) (n ∷ [])
       ∙ ap₂ (λ (k l : List Pair). k ++ l) (none-of n (both .0))
-      (ap (λ (k : List ℕ). map (pairAt x y n) k ++ []) (none-kept n (rowCount (y .rows)) (both .1)))
+      (ap (λ (k : List ℕ). map (pairAt w x y n) k ++ []) (none-kept n (rowCount (y .rows)) (both .1)))
 
-  pub none-qualify : anyNear radius (x .rows) (y .rows) (rowCount (x .rows)) ≡ false → qualifying radius x y ≡ []
+  pub none-qualify : anyNear w (x .rows) (y .rows) (rowCount (x .rows)) ≡ false → qualifying w x y ≡ []
   unfolding qualifying
   none-qualify h = none-of (rowCount (x .rows)) h
 
 -- r is the first row of y from row j on that lies near row i of x, rows counted from 0, or y's row count
-pub record NextNear (radius : ℕ) (x : List ℤ) (i : ℕ) (y : List ℤ) (j r : ℕ) : Type 0 where
+pub record NextNear (w : Terms) (x : List ℤ) (i : ℕ) (y : List ℤ) (j r : ℕ) : Type 0 where
   pub from : j ≤ r
   pub upto : r ≤ rowCount y
-  pub none-before : (k : ℕ) → j ≤ k → k < r → qualifies radius (row x i .shade) (row y k .shade) ≡ false
-  pub found : r < rowCount y → qualifies radius (row x i .shade) (row y r .shade) ≡ true
+  pub none-before : (k : ℕ) → j ≤ k → k < r → w .near (row x i) (row y k) ≡ false
+  pub found : r < rowCount y → w .near (row x i) (row y r) ≡ true
 
 -- one row more that does not lie near
-pub none-more : (radius : ℕ) (x : List ℤ) (i : ℕ) (y : List ℤ) (j r : ℕ)
-    → ((k : ℕ) → j ≤ k → k < r → qualifies radius (row x i .shade) (row y k .shade) ≡ false)
-    → qualifies radius (row x i .shade) (row y r .shade) ≡ false
-    → (k : ℕ) → j ≤ k → k < r + 1 → qualifies radius (row x i .shade) (row y k .shade) ≡ false
-none-more radius x i y j r none here k h l = go (eqb k r) refl
+pub none-more : (w : Terms) (x : List ℤ) (i : ℕ) (y : List ℤ) (j r : ℕ)
+    → ((k : ℕ) → j ≤ k → k < r → w .near (row x i) (row y k) ≡ false)
+    → w .near (row x i) (row y r) ≡ false
+    → (k : ℕ) → j ≤ k → k < r + 1 → w .near (row x i) (row y k) ≡ false
+none-more w x i y j r none here k h l = go (eqb k r) refl
   where
-    go : (t : Bool) → eqb k r ≡ t → qualifies radius (row x i .shade) (row y k .shade) ≡ false
-    go true e = ap (λ (b : ℕ). qualifies radius (row x i .shade) (row y b .shade)) (eqb-true k r e) ∙ here
+    go : (t : Bool) → eqb k r ≡ t → w .near (row x i) (row y k) ≡ false
+    go true e = ap (λ (b : ℕ). w .near (row x i) (row y b)) (eqb-true k r e) ∙ here
     go false e = let n = eqb-false k r e in none k h (omega (arith, l, n))

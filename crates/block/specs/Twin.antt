@@ -16,7 +16,7 @@ use Rattle.lists.specs.Words.{Ordered}
 use Rattle.lists.specs.Appends.{keep-append, each-append, range-end}
 use Rattle.lists.specs.Sorts as Sorts
 use Rattle.rules.specs.declared.Pair.{Pair}
-use Rattle.rules.specs.Tables.{Block, row, rowCount, qualifies, pairAt, qualifying, ahead}
+use Rattle.rules.specs.Tables.{Terms, Block, row, rowCount, pairAt, qualifying, ahead}
 use Rattle.rules.specs.Ranking.{ahead-strict}
 use Rattle.block.specs.Block.{putIf, metRow, metRows}
 
@@ -55,35 +55,35 @@ putAll-sort room l (p ∷ m) o h =
         ap (ins ahead p) (Sorts.sort-append-comm ahead ahead-strict l m)
         ∙ sym (Sorts.sort-append-comm ahead ahead-strict l (p ∷ m))
 
-module _ (radius room : ℕ) (x y : Block) where
+module _ (w : Terms) (room : ℕ) (x y : Block) where
   test : ℕ → ℕ → Bool
-  test i j = qualifies radius (row (x .rows) i .shade) (row (y .rows) j .shade)
+  test i j = w .near (row (x .rows) i) (row (y .rows) j)
 
   -- the pairs of row i + 1 of x with the first j rows of y
   pairsOf : ℕ → ℕ → List Pair
-  pairsOf i j = map (pairAt x y i) (keep (test i) (range 0 j))
+  pairsOf i j = map (pairAt w x y i) (keep (test i) (range 0 j))
 
   put-one : (b : Bool) (i j : ℕ) (l : List Pair)
-      → putIf b room (pairAt x y i j) l ≡ putAll room l (map (pairAt x y i) (consIf b j []))
+      → putIf b room (pairAt w x y i j) l ≡ putAll room l (map (pairAt w x y i) (consIf b j []))
   unfolding putAll consIf
   put-one true i j l = refl
   put-one false i j l = refl
 
-  pairs-suc : (i j : ℕ) → pairsOf i (suc j) ≡ pairsOf i j ++ map (pairAt x y i) (consIf (test i j) j [])
+  pairs-suc : (i j : ℕ) → pairsOf i (suc j) ≡ pairsOf i j ++ map (pairAt w x y i) (consIf (test i j) j [])
   unfolding pairsOf keep
   pairs-suc i j =
-      ap (λ (r : List ℕ). map (pairAt x y i) (keep (test i) r))
+      ap (λ (r : List ℕ). map (pairAt w x y i) (keep (test i) r))
       (range-end 0 j ∙ ap (λ (b : ℕ). range 0 j ++ b ∷ []) (zero-add j))
-      ∙ ap (map (pairAt x y i)) (keep-append (test i) (range 0 j) (j ∷ []))
-      ∙ map-append (pairAt x y i) (keep (test i) (range 0 j)) (consIf (test i j) j [])
+      ∙ ap (map (pairAt w x y i)) (keep-append (test i) (range 0 j) (j ∷ []))
+      ∙ map-append (pairAt w x y i) (keep (test i) (range 0 j)) (consIf (test i j) j [])
 
-  row-is : (i : ℕ) (l : List Pair) (j : ℕ) → metRow radius room x y i l j ≡ putAll room l (pairsOf i j)
+  row-is : (i : ℕ) (l : List Pair) (j : ℕ) → metRow w room x y i l j ≡ putAll room l (pairsOf i j)
   unfolding metRow pairsOf test range keep putAll
   row-is i l zero = refl
   row-is i l (suc j) =
-      ap (putIf (test i j) room (pairAt x y i j)) (row-is i l j)
+      ap (putIf (test i j) room (pairAt w x y i j)) (row-is i l j)
       ∙ put-one (test i j) i j (putAll room l (pairsOf i j))
-      ∙ sym (putAll-append room l (pairsOf i j) (map (pairAt x y i) (consIf (test i j) j [])))
+      ∙ sym (putAll-append room l (pairsOf i j) (map (pairAt w x y i) (consIf (test i j) j [])))
       ∙ ap (putAll room l) (sym (pairs-suc i j))
 
   -- the pairs of the first i rows of x with all rows of y
@@ -97,59 +97,58 @@ module _ (radius room : ℕ) (x y : Block) where
       ∙ each-append (λ a. pairsOf a (rowCount (y .rows))) (range 0 i) (i ∷ [])
       ∙ ap (λ (r : List Pair). pairsTo i ++ r) (append-nil (pairsOf i (rowCount (y .rows))))
 
-  rows-are : (l : List Pair) (i : ℕ) → metRows radius room x y l i ≡ putAll room l (pairsTo i)
+  rows-are : (l : List Pair) (i : ℕ) → metRows w room x y l i ≡ putAll room l (pairsTo i)
   unfolding metRows pairsTo range each putAll
   rows-are l zero = refl
   rows-are l (suc i) =
-      row-is i (metRows radius room x y l i) (rowCount (y .rows))
+      row-is i (metRows w room x y l i) (rowCount (y .rows))
       ∙ ap (λ (r : List Pair). putAll room r (pairsOf i (rowCount (y .rows)))) (rows-are l i)
       ∙ sym (putAll-append room l (pairsTo i) (pairsOf i (rowCount (y .rows))))
       ∙ ap (putAll room l) (sym (pairs-to-suc i))
 
-  all-is : pairsTo (rowCount (x .rows)) ≡ qualifying radius x y
+  all-is : pairsTo (rowCount (x .rows)) ≡ qualifying w x y
   unfolding pairsTo pairsOf test qualifying
   all-is = refl
 
   -- the block join, pair by pair, is the rule's
   pub met-is : (l : List Pair) → Ordered ahead l → length l ≤ room →
-      metRows radius room x y l (rowCount (x .rows)) ≡ take room (sort ahead (l ++ qualifying radius x y))
+      metRows w room x y l (rowCount (x .rows)) ≡ take room (sort ahead (l ++ qualifying w x y))
   met-is l r h =
       rows-are l (rowCount (x .rows))
       ∙ ap (putAll room l) all-is
-      ∙ putAll-sort room l (qualifying radius x y) r h
+      ∙ putAll-sort room l (qualifying w x y) r h
 
   -- one near pair more
   pub row-joins : (i j : ℕ) (l : List Pair) (p : Pair) →
-      qualifies radius (row (x .rows) i .shade) (row (y .rows) j .shade) ≡ true →
-      p ≡ pairAt x y i j →
-      take room (ins ahead p (metRow radius room x y i l j)) ≡ metRow radius room x y i l (j + 1)
+      w .near (row (x .rows) i) (row (y .rows) j) ≡ true →
+      p ≡ pairAt w x y i j →
+      take room (ins ahead p (metRow w room x y i l j)) ≡ metRow w room x y i l (j + 1)
   unfolding metRow
   row-joins i j l p q e =
-      ap (λ (r : Pair). take room (ins ahead r (metRow radius room x y i l j))) e ∙ sym (rw (add-one, q))
+      ap (λ (r : Pair). take room (ins ahead r (metRow w room x y i l j))) e ∙ sym (rw (add-one, q))
 
   -- rows of y that do not lie near row i + 1 of x leave the pairs held
   pub row-skips : (i : ℕ) (l : List Pair) (j r : ℕ) → j ≤ r
-      → ((k : ℕ) → j ≤ k → k < r → qualifies radius (row (x .rows) i .shade) (row (y .rows) k .shade) ≡ false)
-      → metRow radius room x y i l j ≡ metRow radius room x y i l r
+      → ((k : ℕ) → j ≤ k → k < r → w .near (row (x .rows) i) (row (y .rows) k) ≡ false)
+      → metRow w room x y i l j ≡ metRow w room x y i l r
   unfolding metRow
-  row-skips i l j zero h none = let e : j ≡ 0 = omega arith in ap (metRow radius room x y i l) e
+  row-skips i l j zero h none = let e : j ≡ 0 = omega arith in ap (metRow w room x y i l) e
   row-skips i l j (suc r) h none = go (eqb j (suc r)) refl (row-skips i l j r)
     where
       go : (t : Bool) → eqb j (suc r) ≡ t
-          → (j ≤ r →
-          ((k : ℕ) → j ≤ k → k < r → qualifies radius (row (x .rows) i .shade)
-          (row (y .rows) k .shade) ≡ false) → metRow radius room x y i l j ≡ metRow radius room x y i l r)
-          → metRow radius room x y i l j ≡ metRow radius room x y i l (suc r)
-      go true e before = ap (metRow radius room x y i l) (eqb-true j (suc r) e)
+          → (j ≤ r → ((k : ℕ) → j ≤ k → k < r → w .near (row (x .rows) i) (row (y .rows) k) ≡ false)
+          → metRow w room x y i l j ≡ metRow w room x y i l r)
+          → metRow w room x y i l j ≡ metRow w room x y i l (suc r)
+      go true e before = ap (metRow w room x y i l) (eqb-true j (suc r) e)
       go false e before =
           let n = eqb-false j (suc r) e in
           let here = none r (omega (arith, n)) (omega arith) in
           before (omega (arith, n)) (λ k a b. none k a (omega (arith, b)))
-          ∙ sym (ap (λ (b : Bool). putIf b room (pairAt x y i r) (metRow radius room x y i l r)) here)
+          ∙ sym (ap (λ (b : Bool). putIf b room (pairAt w x y i r) (metRow w room x y i l r)) here)
 
   -- the pairs held when the first i rows of x have met all of y, and row i + 1 its first j rows
   abbrev pub metTo : List Pair → ℕ → ℕ → List Pair
-  metTo l i j = metRow radius room x y i (metRows radius room x y l i) j
+  metTo l i j = metRow w room x y i (metRows w room x y l i) j
 
   -- row i + 1 has met all of y
   pub to-next : (l : List Pair) (i : ℕ) → metTo l i (rowCount (y .rows)) ≡ metTo l (i + 1) 0

@@ -1,36 +1,37 @@
 // The block join: the qualifying pairs of a field block and a trim block, each a part of its table, are put among the
 // pairs held.
 use rules::Pair;
+use rules::Query;
 ghost use mathlib.Core.Path.{_≡_};
 ghost use mathlib.Core.Bool.{true};
 ghost use Prim.Native.Nat.{_+_, _*_, _≤_, _<_, _/_, _%_};
 ghost use lib.ListN.{length};
-ghost use Rattle.rules.specs.Tables.{mostRows, row, qualifies, pairAt};
+ghost use Rattle.rules.specs.Tables.{mostRows, row, terms, pairAt};
 ghost use Rattle.keys.specs.Held.{Narrow};
 ghost use Rattle.block.specs.Block.{at, Rows, Joined};
 ghost use Rattle.block.specs.Small.{SmallRows, SmallPairs};
 ghost use Rattle.block.specs.Near.{rowNear, anyNear, NextNear};
 
 // Whether row i + 1 of x and row j + 1 of y lie within the radius.
-fn near(radius: u32, x: &[i32], i: usize, y: &[i32], j: usize) -> bool
+fn near(q: Query, x: &[i32], i: usize, y: &[i32], j: usize) -> bool
     requires { ⌜ (4 * i + 4 ≤ length (now x)) × (4 * j + 4 ≤ length (now y)) ⌝ }
-    ensures { λ r. ⌜ r ≡ qualifies radius (row (now (x .entry)) i .shade) (row (now (y .entry)) j .shade) ⌝ }
+    ensures { λ r. ⌜ r ≡ terms q .near (row (now (x .entry)) i) (row (now (y .entry)) j) ⌝ }
 {
-    let p = tables::shade(x, i);
-    let q = tables::shade(y, j);
-    distance::qualifies(radius, p, q)
+    let first = tables::shade(x, i);
+    let second = tables::shade(y, j);
+    distance::qualifies(q.radius, first, second)
 }
 
 // Whether row i + 1 of x lies near any row of y. It looks at all of them: no branch stands in the loop.
-fn row_near(radius: u32, x: &[i32], i: usize, y: &[i32]) -> bool
+fn row_near(q: Query, x: &[i32], i: usize, y: &[i32]) -> bool
     requires { ⌜ 4 * i + 4 ≤ length (now x) ⌝ }
-    ensures { λ r. ⌜ r ≡ rowNear radius (now (x .entry)) (now (y .entry)) i (length (now (y .entry)) / 4) ⌝ }
+    ensures { λ r. ⌜ r ≡ rowNear (terms q) (now (x .entry)) (now (y .entry)) i (length (now (y .entry)) / 4) ⌝ }
 {
     let n = y.len() / 4;
     let mut seen = false;
     let mut j: usize = 0;
     while j < n {
-        let here = near(radius, x, i, y, j);
+        let here = near(q, x, i, y, j);
         seen = seen | here;
         j += 1;
     }
@@ -38,14 +39,14 @@ fn row_near(radius: u32, x: &[i32], i: usize, y: &[i32]) -> bool
 }
 
 // Whether any row of x lies near any row of y.
-pub fn any_near(radius: u32, x: &[i32], y: &[i32]) -> bool
-    ensures { λ r. ⌜ r ≡ anyNear radius (now (x .entry)) (now (y .entry)) (length (now (x .entry)) / 4) ⌝ }
+pub fn any_near(q: Query, x: &[i32], y: &[i32]) -> bool
+    ensures { λ r. ⌜ r ≡ anyNear (terms q) (now (x .entry)) (now (y .entry)) (length (now (x .entry)) / 4) ⌝ }
 {
     let m = x.len() / 4;
     let mut seen = false;
     let mut i: usize = 0;
     while i < m {
-        let here = row_near(radius, x, i, y);
+        let here = row_near(q, x, i, y);
         seen = seen | here;
         i += 1;
     }
@@ -53,10 +54,10 @@ pub fn any_near(radius: u32, x: &[i32], y: &[i32]) -> bool
 }
 
 // The pair of row i + 1 of x and row j + 1 of y; a and c rows stand before x and y in their tables.
-fn pair_at(x: &[i32], a: usize, i: usize, y: &[i32], c: usize, j: usize) -> Pair
+fn pair_at(q: Query, x: &[i32], a: usize, i: usize, y: &[i32], c: usize, j: usize) -> Pair
     requires { ⌜ (4 * i + 4 ≤ length (now x)) × (4 * j + 4 ≤ length (now y))
         × (a + i < mostRows) × (c + j < mostRows) ⌝ }
-    ensures { λ r. ⌜ (r ≡ pairAt (at a (now (x .entry))) (at c (now (y .entry))) i j) × Narrow r ⌝ }
+    ensures { λ r. ⌜ (r ≡ pairAt (terms q) (at a (now (x .entry))) (at c (now (y .entry))) i j) × Narrow r ⌝ }
 {
     let s = tables::score(x, i);
     let t = tables::score(y, j);
@@ -85,13 +86,13 @@ fn all_small(x: &[i32]) -> bool
 
 // Whether the pairs of two blocks are to be tested at 32 bits. Rows that passed 6 may be; it is asked where it pays: of
 // long blocks, and of a radius at which a first gap within it is not rare, so that the branch on it is hard to foresee.
-fn both_small(radius: u32, x: &[i32], y: &[i32]) -> bool
-    ensures { λ r. ⌜ (r ≡ true → SmallPairs radius (now (x .entry)) (now (y .entry))) ⌝ }
+fn both_small(q: Query, x: &[i32], y: &[i32]) -> bool
+    ensures { λ r. ⌜ (r ≡ true → SmallPairs (q .radius) (now (x .entry)) (now (y .entry))) ⌝ }
 {
-    if (x.len() <= 128) | (radius < 64) {
+    if (x.len() <= 128) | (q.radius < 64) {
         return false;
     }
-    if 40000 < radius {
+    if 40000 < q.radius {
         return false;
     }
     let first = all_small(x);
@@ -100,29 +101,29 @@ fn both_small(radius: u32, x: &[i32], y: &[i32]) -> bool
 }
 
 // Whether row i + 1 of x and row j + 1 of y lie within the radius, tested at 32 bits where they may be.
-fn near_by(small: bool, radius: u32, x: &[i32], i: usize, y: &[i32], j: usize) -> bool
+fn near_by(small: bool, q: Query, x: &[i32], i: usize, y: &[i32], j: usize) -> bool
     requires { ⌜ (4 * i + 4 ≤ length (now x)) × (4 * j + 4 ≤ length (now y)) ⌝ }
-    requires { ⌜ (small ≡ true → SmallPairs radius (now x) (now y)) ⌝ }
-    ensures { λ r. ⌜ r ≡ qualifies radius (row (now (x .entry)) i .shade) (row (now (y .entry)) j .shade) ⌝ }
+    requires { ⌜ (small ≡ true → SmallPairs (q .radius) (now x) (now y)) ⌝ }
+    ensures { λ r. ⌜ r ≡ terms q .near (row (now (x .entry)) i) (row (now (y .entry)) j) ⌝ }
 {
     if !small {
-        return near(radius, x, i, y, j);
+        return near(q, x, i, y, j);
     }
-    let p = tables::shade(x, i);
-    let q = tables::shade(y, j);
-    distance::near_small(radius, p, q)
+    let first = tables::shade(x, i);
+    let second = tables::shade(y, j);
+    distance::near_small(q.radius, first, second)
 }
 
 // The first row of y from row j + 1 on that lies near row i + 1 of x, counted from 0; y's row count where none does.
-fn next_near(small: bool, radius: u32, x: &[i32], i: usize, y: &[i32], j: usize) -> usize
+fn next_near(small: bool, q: Query, x: &[i32], i: usize, y: &[i32], j: usize) -> usize
     requires { ⌜ (4 * i + 4 ≤ length (now x)) × (j ≤ length (now y) / 4) ⌝ }
-    requires { ⌜ (small ≡ true → SmallPairs radius (now x) (now y)) ⌝ }
-    ensures { λ r. ⌜ NextNear radius (now (x .entry)) i (now (y .entry)) j r ⌝ }
+    requires { ⌜ (small ≡ true → SmallPairs (q .radius) (now x) (now y)) ⌝ }
+    ensures { λ r. ⌜ NextNear (terms q) (now (x .entry)) i (now (y .entry)) j r ⌝ }
 {
     let n = y.len() / 4;
     let mut k = j;
     while k < n {
-        if near_by(small, radius, x, i, y, k) {
+        if near_by(small, q, x, i, y, k) {
             return k;
         }
         k += 1;
@@ -133,7 +134,7 @@ fn next_near(small: bool, radius: u32, x: &[i32], i: usize, y: &[i32], j: usize)
 // The block join: of the pairs held and the qualifying pairs of x and y the best-ranked, at most room: how many are
 // held then. It goes from one near pair to the next; where the room is used up, a pair that would fall off is not put.
 pub fn join(
-    radius: u32,
+    q: Query,
     room: usize,
     x: &[i32],
     a: usize,
@@ -144,20 +145,20 @@ pub fn join(
 ) -> usize
     requires { ⌜ (held ≤ room) × (room ≤ 64) × (length (now keys) ≡ 64) ⌝ }
     requires { ⌜ Rows a (now x) × Rows c (now y) ⌝ }
-    ensures { λ r. ⌜ Joined radius room (at a (now (x .entry))) (at c (now (y .entry))) held
+    ensures { λ r. ⌜ Joined (terms q) room (at a (now (x .entry))) (at c (now (y .entry))) held
         (now (keys .entry)) r (now (keys .exit)) ⌝ }
 {
     let m = x.len() / 4;
     let n = y.len() / 4;
     let last = (room + 63) % 64;
-    let small = both_small(radius, x, y);
+    let small = both_small(q, x, y);
     let mut g = held;
     let mut i: usize = 0;
     let mut j: usize = 0;
     while i < m {
-        let k = next_near(small, radius, x, i, y, j);
+        let k = next_near(small, q, x, i, y, j);
         if k < n {
-            let p = pair_at(x, a, i, y, c, k);
+            let p = pair_at(q, x, a, i, y, c, k);
             let key = keys::key(p);
             if !((g == room) & (keys[last] < key)) {
                 g = keys::put(keys, g, room, p);

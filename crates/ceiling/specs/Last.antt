@@ -19,7 +19,8 @@ use Rattle.rules.specs.declared.Pair.{Pair}
 use Rattle.rules.specs.declared.Session.{Session}
 use Rattle.rules.specs.Tables.{ahead}
 use Rattle.rules.specs.Ranking.{Before, before-ahead, ahead-strict}
-use Rattle.rules.specs.Session.{noPair, heldPairs, bothReadOut, aDepthIsZero, aTableIsEmpty, ceiling, secured}
+use Rattle.rules.specs.Session.{noPair, heldPairs, bothReadOut, aDepthIsZero, aTableIsEmpty, ceiling, securedBy}
+use Rattle.rules.specs.Session.{secured}
 use Rattle.rules.specs.Read.{lowest}
 use Rattle.session_laws.specs.Record.{RecordFits, first-fits}
 use Rattle.session_laws.specs.Calls.{Lent}
@@ -80,7 +81,7 @@ every-last test mono (p ∷ q ∷ l) h o =
 
 module _ (f t : List ℤ) (s : Session) where
   secured-higher : (p q : Pair) → q .sum ≤ p .sum → secured f t s q ≡ true → secured f t s p ≡ true
-  unfolding secured
+  unfolding securedBy
   secured-higher p q h = go (aDepthIsZero s && not (aTableIsEmpty s)) (bothReadOut s)
     where
       go : (a b : Bool) → cond a false (cond b true (leb (ceiling f t s) (q .sum))) ≡ true
@@ -97,7 +98,7 @@ module _ (f t : List ℤ) (s : Session) where
 -- once rows of both tables were read, only the read-out tables and the ceiling decide
 pub read-secured : (f t : List ℤ) (s : Session) (p : Pair) → BothRead f t s →
     secured f t s p ≡ cond (bothReadOut s) true (leb (ceiling f t s) (p .sum))
-unfolding secured
+unfolding securedBy
 read-secured f t s p r =
     let d : s .depth .field .0 ≡ 0 → ⊥ = omega (arith, r .field-read) in
     let e : s .depth .trim .0 ≡ 0 → ⊥ = omega (arith, r .trim-read) in

@@ -18,7 +18,7 @@ use Rattle.rules.specs.declared.Session.{Session}
 use Rattle.rules.specs.declared.Step.{Step}
 use Rattle.rules.specs.Session.{settled}
 use Rattle.rules.specs.Read.{readBlock}
-use Rattle.rules.specs.Calls.{callCode, newBlockCode, step, readCall}
+use Rattle.rules.specs.Calls.{callCode, newBlockCode, step, readCallBy, readCall}
 use Rattle.rules.specs.Query.{wasRead, wasGiven}
 
 -- a number that differs from all keys is none of them
@@ -33,7 +33,7 @@ no-key x (k ∷ j ∷ ks) e (inr h) =
 
 -- a read never answers that a session was opened
 not-opened : (f t : List ℤ) (s : Session) → eqb (tagOf the-type (readCall f t s .answer)) 1 ≡ false
-unfolding readCall
+unfolding readCallBy
 not-opened f t s = go (eqb (callCode f t s) 0) (settled f t s) (eqb (newBlockCode f t s) 0)
   where
     unread : Step

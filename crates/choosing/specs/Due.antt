@@ -18,7 +18,7 @@ use Rattle.rules.specs.Tables.{mostRows, ahead}
 use Rattle.rules.specs.Ranking.{ahead-strict}
 use Rattle.rules.specs.Session.{noPair, places, heldPairs, settled}
 use Rattle.rules.specs.Read.{fieldNext, oldDepth, newDepth}
-use Rattle.rules.specs.Calls.{isZeros, rowsCode, newBlockCode}
+use Rattle.rules.specs.Calls.{isZeros, rowsCode, newBlockCodeBy, newBlockCode}
 use Rattle.lists.specs.Bools.{and-left, and-right}
 use Rattle.session_laws.specs.Record.{RecordFits}
 use Rattle.session_laws.specs.Calls.{Lent}
@@ -144,7 +144,7 @@ module _ (f t : List ℤ) (s : Session) (b : Bool) where
   -- what 6 and 7 say of it is the rule's
   pub code-is : b ≡ fieldNext f t s → (own : List ℤ) (d e : ℕ) → own ≡ cond b f t → d ≡ oldDepth b s → e ≡ newDepth b s
       → rowsCode own d (e - d) ≡ newBlockCode f t s
-  unfolding newBlockCode
+  unfolding newBlockCodeBy
   code-is next own d e x y z =
       (λ i. rowsCode (x i) (y i) (z i - y i))
       ∙ ap (λ (c : Bool). rowsCode (cond c f t) (oldDepth c s) (newDepth c s - oldDepth c s)) next

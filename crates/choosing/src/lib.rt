@@ -16,7 +16,7 @@ ghost use Rattle.checks.specs.Codes.{LastHeld};
 // How far a table's score has dropped from its first row to the last row read.
 fn drop_of(t: &[i32], depth: u32) -> u32
     requires { ⌜ (0 < depth) × (4 * depth ≤ length (now t)) ⌝ }
-    ensures { λ r. ⌜ r ≡ scoreDrop (now (t .entry)) depth ⌝ }
+    ensures { λ r. ⌜ r ≡ scoreDrop (λ x. x .score) (now (t .entry)) depth ⌝ }
 {
     let high = tables::score(t, 0);
     let low = tables::score(t, depth as usize - 1);

@@ -15,7 +15,7 @@ use Rattle.rules.specs.declared.Session.{Session}
 use Rattle.rules.specs.declared.Step.{Step}
 use Rattle.rules.specs.declared.Answer.{Answer}
 use Rattle.rules.specs.declared.Answer.the-variants.{Opened, Given, Finished}
-use Rattle.rules.specs.Tables.{rowCount, legal, row, qualifies, pairSum}
+use Rattle.rules.specs.Tables.{rowCount, legal, row, terms, pairSum}
 use Rattle.rules.specs.Sure.{Sure}
 use Rattle.rules.specs.Numbers.{said}
 use Rattle.rules.specs.Calls.{openCall, readCall, takeCall}
@@ -66,11 +66,11 @@ pub record Sequence (q : Query) (f t : List ℤ) (opening : Step) (lines : List 
 pub record Qualifying (q : Query) (f t : List ℤ) (i j : ℕ) : Type 0 where
   pub field-row : (1 ≤ i) × (i ≤ rowCount f)
   pub trim-row : (1 ≤ j) × (j ≤ rowCount t)
-  pub near : qualifies (q .radius) (row f (i - 1) .shade) (row t (j - 1) .shade) ≡ true
+  pub near : terms q .near (row f (i - 1)) (row t (j - 1)) ≡ true
 
 -- the sum of a pair of rows
-abbrev pub sumOf : List ℤ → List ℤ → ℕ → ℕ → ℕ
-sumOf f t i j = pairSum (row f (i - 1)) (row t (j - 1))
+abbrev pub sumOf : Query → List ℤ → List ℤ → ℕ → ℕ → ℕ
+sumOf q f t i j = pairSum (terms q) (row f (i - 1)) (row t (j - 1))
 
 -- the pairs that the takes of a transcript answered
 abbrev pub outs : List Line → List Pair
@@ -125,11 +125,11 @@ pub record Brought (q : Query) (f t : List ℤ) (before : List Line) (p : Pair) 
   -- "Each pair brought out qualifies,"
   pub qualifying : Qualifying q f t (p .field) (p .trim)
   -- "carries its own sum"
-  pub own-sum : p .sum ≡ sumOf f t (p .field) (p .trim)
+  pub own-sum : p .sum ≡ sumOf q f t (p .field) (p .trim)
   -- "and wasn't out already."
   pub new : Out before (p .field) (p .trim) → ⊥
   -- "When it comes out, no qualifying pair that is not yet out has a higher sum, unread rows included."
-  pub highest : (i j : ℕ) → Qualifying q f t i j → (Out before i j → ⊥) → sumOf f t i j ≤ p .sum
+  pub highest : (i j : ℕ) → Qualifying q f t i j → (Out before i j → ⊥) → sumOf q f t i j ≤ p .sum
 
 -- of a call that said finished
 abbrev pub Complete : Query → List ℤ → List ℤ → List Line → Type 0
@@ -143,7 +143,7 @@ pub record Demand3 (q : Query) (f t : List ℤ) (opening : Step) (lines : List L
       lines ≡ before ++ l ∷ after → l .gave .answer ≡ Finished → Complete q f t before
   -- "After the sequence no more than max(p, q) + block - 1 rows of either table have been read, for every reading of p
   -- field rows and q trim rows that is sure of the wanted best sums."
-  pub row-limit : (m : FieldRows) (n : TrimRows) → Sure (q .k) (q .radius) f t m n →
+  pub row-limit : (m : FieldRows) (n : TrimRows) → Sure q f t m n →
       (lastRecord (opening .session) lines .depth .field .0 ≤ max (m .0) (n .0) + q .block - 1)
       × (lastRecord (opening .session) lines .depth .trim .0 ≤ max (m .0) (n .0) + q .block - 1)
   -- "Legal tables alike in their row counts and in the rows read get the same answers."

@@ -42,9 +42,9 @@ fields = rowThen (pos 5) (pos 0) (rowThen (pos 4) (pos 7) (rowThen (pos 3) (pos 
 abbrev trims : List ℤ
 trims = rowThen (pos 5) (pos 9) (rowThen (pos 5) (pos 0) (rowThen (pos 3) (pos 9) []))
 
-sure-uneven : Sure 1 0 fields trims (fieldRows 1) (trimRows 2)
+sure-uneven : Sure (topOne 1) fields trims (fieldRows 1) (trimRows 2)
 unfolding run isSure ceilingAt qualifyingSums atLeast
-sure-uneven = sure-is-test fields trims refl refl (fieldRows 1) (trimRows 2) 1 0 (lit≤ tt) .1 refl
+sure-uneven = sure-is-test (topOne 1) fields trims refl refl (fieldRows 1) (trimRows 2) refl .1 refl
 
 pub limit-uneven : DepthsUpTo 2 (lastOf (topOne 1) fields trims)
 unfolding run
@@ -60,9 +60,9 @@ at-uneven = (refl, refl)
 abbrev table : List ℤ
 table = rowThen (pos 5) (pos 0) (rowThen (pos 4) (pos 0) (rowThen (pos 3) (pos 0) []))
 
-sure-one : Sure 1 0 table table (fieldRows 1) (trimRows 1)
+sure-one : Sure (topOne 2) table table (fieldRows 1) (trimRows 1)
 unfolding run isSure ceilingAt qualifyingSums atLeast
-sure-one = sure-is-test table table refl refl (fieldRows 1) (trimRows 1) 1 0 (lit≤ tt) .1 refl
+sure-one = sure-is-test (topOne 2) table table refl refl (fieldRows 1) (trimRows 1) refl .1 refl
 
 pub limit-two : DepthsUpTo 2 (lastOf (topOne 2) table table)
 unfolding run

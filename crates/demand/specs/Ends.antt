@@ -19,7 +19,8 @@ use Rattle.rules.specs.Session.{settled}
 use Rattle.rules.specs.Read.{readBlock}
 use Rattle.rules.specs.Take.{firstHeld, givesPair, movedOut, finished}
 use Rattle.rules.specs.Numbers.{said}
-use Rattle.rules.specs.Calls.{queryCode, callCode, newBlockCode, step, openCall, readCall, takeCall}
+use Rattle.rules.specs.Calls.{queryCode, callCode, newBlockCode, step, openCall, readCallBy, readCall, takeCallBy}
+use Rattle.rules.specs.Calls.{takeCall}
 use Rattle.session_laws.specs.Calls.{legal-opened, call-accepted, new-block-accepted}
 use Rattle.session_laws.specs.Read.{depths}
 use Rattle.session_laws.specs.Take.{gives-some, settled-take}
@@ -37,7 +38,7 @@ use Rattle.demand.specs.Sequences.{reached, some-block, calls-before, re
 
 module _ (f t : List ℤ) (s : Session) (a : callCode f t s ≡ 0) where
   read-accepted : newBlockCode f t s ≡ 0 → said (readCall f t s .answer) .accepted ≡ true
-  unfolding readCall
+  unfolding readCallBy
   read-accepted b = rw (eq-eqb (callCode f t s) 0 a, eq-eqb (newBlockCode f t s) 0 b) (go (settled f t s))
     where
       go : (b : Bool) → said (cond b (step Settled s) (step Read (readBlock f t s)) .answer) .accepted ≡ true
@@ -45,7 +46,7 @@ module _ (f t : List ℤ) (s : Session) (a : callCode f t s ≡ 0) where
       go false = refl
 
   take-accepted : said (takeCall f t s .answer) .accepted ≡ true
-  unfolding takeCall
+  unfolding takeCallBy
   take-accepted = rw (eq-eqb (callCode f t s) 0 a) (go (givesPair f t s) (finished s))
     where
       given : Step
@@ -64,7 +65,7 @@ module _ (q : Query) (f t : List ℤ) (g : legal f ≡ true) (h : legal t ≡ tr
       accepted : callCode f t s ≡ 0
       accepted =
           call-accepted f t s g h (a .field-rows) (a .trim-rows) (a .field-depth) (a .trim-depth)
-          (reached-fits a b g h k)
+          (reached-fits a b g h)
 
       new-accepted : newBlockCode f t s ≡ 0
       new-accepted = new-block-accepted f t s g h (a .field-rows) (a .trim-rows) (a .field-depth) (a .trim-depth)

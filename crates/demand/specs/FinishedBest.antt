@@ -25,7 +25,7 @@ module _ {q : Query} {f t : List ℤ} {opening : Step} {lines : List Line} (w : 
       omega (arith, r .keeping .holds .room, ap (λ q. q .k) (r .query))
 
   pub finished-best : l .gave .answer ≡ Finished
-      → map (λ p. p .sum) (outs before) ≡ best (q .k) (qualifyingSums (q .radius) f t)
+      → map (λ p. p .sum) (outs before) ≡ best (q .k) (qualifyingSums q f t)
   finished-best y =
       let few = length-map (outs before) (λ p. p .sum) in
       sym (take-all (q .k) (map (λ p. p .sum) (outs before)) (omega (arith, few-out, few)))

@@ -18,9 +18,9 @@ use Rattle.rules.specs.declared.Answer.the-variants.{Refused, Read, Settled, Gi
 use Rattle.rules.specs.Tables.{rowCount, legal}
 use Rattle.rules.specs.Session.{settled, secured, aTableIsEmpty}
 use Rattle.rules.specs.Read.{fieldNext, readTable, readBlock}
-use Rattle.rules.specs.Take.{firstHeld, givesPair, movedOut, finished}
+use Rattle.rules.specs.Take.{firstHeld, givesPairBy, givesPair, movedOut, finished}
 use Rattle.rules.specs.Numbers.{said}
-use Rattle.rules.specs.Calls.{callCode, newBlockCode, step, readCall, takeCall}
+use Rattle.rules.specs.Calls.{callCode, newBlockCode, step, readCallBy, readCall, takeCallBy, takeCall}
 use Rattle.rules.specs.Query.{given}
 use Rattle.session_laws.specs.Calls.{call-accepted, call-record, new-block-accepted, read-settled, read-goes}
 use Rattle.session_laws.specs.Calls.{take-gives, take-finishes, take-waits}
@@ -39,7 +39,7 @@ differ e = absurd (omega arith)
 
 module _ (f t : List ℤ) (s : Session) where
   read-outcome : Happened f t s reading (readCall f t s)
-  unfolding readCall
+  unfolding readCallBy
   read-outcome = go (eqb (callCode f t s) 0) (settled f t s) (eqb (newBlockCode f t s) 0) refl refl refl
     where
       refusedBy : ℕ → Step
@@ -55,7 +55,7 @@ module _ (f t : List ℤ) (s : Session) where
       go false y z a b c = refused (callCode f t s) refl
 
   take-outcome : Happened f t s taking (takeCall f t s)
-  unfolding takeCall
+  unfolding takeCallBy
   take-outcome = go (eqb (callCode f t s) 0) (givesPair f t s) (finished s) refl refl refl
     where
       given : Step
@@ -155,7 +155,7 @@ module _ {q : Query} {f t : List ℤ} {out : List Pair} {s : Session} (a : Reach
   held-live some = fails (aTableIsEmpty s) (λ e. empty-none a e (firstHeld s) (first-inside a some .fits))
 
   same-gives : AlikeTo f t f′ t′ s → givesPair f′ t′ s ≡ givesPair f t s
-  unfolding givesPair
+  unfolding givesPairBy
   same-gives v = go (ltb 0 (s .held)) refl
     where
       go : (b : Bool) → ltb 0 (s .held) ≡ b → (b && secured f′ t′ s (firstHeld s)) ≡ (b && secured f t s (firstHeld s))

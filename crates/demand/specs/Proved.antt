@@ -42,7 +42,7 @@ alike-rows a = a .rows
 
 module _ {q : Query} {f t : List ℤ} (g : legal f ≡ true) (h : legal t ≡ true) (before : List Line) {s : Session}
     (a : Reached q f t (outs before) s) where
-  out-fits : (p : Pair) → List·Memᴰ p (outs before) → QualifyingPair (q .radius) f t p
+  out-fits : (p : Pair) → List·Memᴰ p (outs before) → QualifyingPair q f t p
   out-fits p m = a .keeping .holds .inside p (inl m) .fits
 
   first-brought : givesPair f t s ≡ true → Brought q f t before (firstHeld s)
@@ -56,10 +56,10 @@ module _ {q : Query} {f t : List ℤ} (g : legal f ≡ true) (h : legal t ≡ tr
       some : 1 ≤ s .held
       some = gives-some f t s gives
 
-      fits : QualifyingPair (q .radius) f t (firstHeld s)
+      fits : QualifyingPair q f t (firstHeld s)
       fits = first-inside a some .fits
 
-      first-highest : (i j : ℕ) → Qualifying q f t i j → (Out before i j → ⊥) → sumOf f t i j ≤ firstHeld s .sum
+      first-highest : (i j : ℕ) → Qualifying q f t i j → (Out before i j → ⊥) → sumOf q f t i j ≤ firstHeld s .sum
       first-highest i j k new =
           secured-best a g h some (gives-secured f t s gives) (named q f t i j) (named-fits q f t i j k)
           (λ m. new (mem-in (named q f t i j) (outs before) m))
@@ -72,7 +72,7 @@ module _ {q : Query} {f t : List ℤ} (g : legal f ≡ true) (h : legal t ≡ tr
   call-complete c x w o =
       ⊎-elim (λ e. inl e) (λ all. inr (all-in all)) (finished-complete a (said-finished f t s c x w o))
     where
-      all-in : ((p : Pair) → QualifyingPair (q .radius) f t p → List·Memᴰ p (outs before)) → (i j : ℕ)
+      all-in : ((p : Pair) → QualifyingPair q f t p → List·Memᴰ p (outs before)) → (i j : ℕ)
           → Qualifying q f t i j
           → IsIn (outs before) i j
       all-in all i j k = mem-in (named q f t i j) (outs before) (all (named q f t i j) (named-fits q f t i j k))
@@ -95,7 +95,7 @@ module _ {q : Query} {f t : List ℤ} {opening : Step} {lines : List Line} (w : 
   unfolding opened
   nothing-read n = subst (λ x. DepthsUpTo n (x .session)) (sym (opening-is w)) (omega arith)
 
-  within-limit : (m : FieldRows) (n : TrimRows) → Sure (q .k) (q .radius) f t m n
+  within-limit : (m : FieldRows) (n : TrimRows) → Sure q f t m n
       → DepthsUpTo (max (m .0) (n .0) + q .block - 1) (lastRecord (opening .session) lines)
   within-limit m n sure =
       lines-up-to q f t (w .field-legal) (w .trim-legal) (some-block w) (query-out q (opening-query w) .k .0)

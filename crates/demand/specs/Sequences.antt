@@ -118,7 +118,7 @@ module _ (q : Query) (f t : List ℤ) (g : legal f ≡ true) (h : legal t ≡ tr
       lines-keep (Beyond m n) (line-beyond m n) lines a (omega arith) w
 
   -- the row limit
-  module _ (wanted : 1 ≤ q .k) (m : FieldRows) (n : TrimRows) (sure : Sure (q .k) (q .radius) f t m n) where
+  module _ (wanted : 1 ≤ q .k) (m : FieldRows) (n : TrimRows) (sure : Sure q f t m n) where
     abbrev limit : ℕ
     limit = max (m .0) (n .0) + q .block - 1
 
@@ -171,7 +171,7 @@ module _ (q : Query) (f t : List ℤ) (g : legal f ≡ true) (h : legal t ≡ tr
 
 module _ {q : Query} {f t : List ℤ} {opening : Step} {lines : List Line} (w : Sequence q f t opening lines) where
   pub reached : Reached q f t [] (opening .session)
-  reached = subst (λ x. Reached q f t [] (x .session)) (sym (opening-is w)) (open-reached q f t)
+  reached = subst (λ x. Reached q f t [] (x .session)) (sym (opening-is w)) (open-reached q f t (opening-query w))
 
   pub some-block : 1 ≤ q .block
   some-block = query-out q (opening-query w) .block .0

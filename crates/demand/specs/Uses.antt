@@ -21,7 +21,7 @@ use Rattle.rules.specs.declared.Pair.{Pair}
 use Rattle.rules.specs.declared.Query.{Query}
 use Rattle.rules.specs.declared.Answer.{Answer}
 use Rattle.rules.specs.declared.Answer.the-variants.{Refused, Opened, Read, Settled, Given, NotYet, Finished}
-use Rattle.rules.specs.Tables.{legal, qualifying}
+use Rattle.rules.specs.Tables.{legal, terms, qualifying}
 use Rattle.rules.specs.Calls.{openCall}
 use Rattle.rules.specs.Query.{given}
 use Rattle.rules.specs.Sure.{whole, qualifyingSums}
@@ -68,7 +68,7 @@ rules-at s (x ∷ before) after l e =
 -- Pairs that come out
 
 module _ (q : Query) (f t : List ℤ) where
-  brought-fits : (before : List Line) (p : Pair) → Brought q f t before p → QualifyingPair (q .radius) f t p
+  brought-fits : (before : List Line) (p : Pair) → Brought q f t before p → QualifyingPair q f t p
   brought-fits before p b =
       let k = b .qualifying in
       record { field-row = k .field-row; trim-row = k .trim-row; near = k .near; own-sum = b .own-sum }
@@ -77,10 +77,10 @@ module _ (q : Query) (f t : List ℤ) where
   record Come (out l : List Pair) : Type 0 where
     new : (p : Pair) → List·Memᴰ p l → List·Memᴰ p out → ⊥
     once : Distinct l
-    best-first : BestFirst (λ p. p .sum) (QualifyingPair (q .radius) f t) out l
+    best-first : BestFirst (λ p. p .sum) (QualifyingPair q f t) out l
 
   come-one : (before : List Line) (p : Pair) (l : List Pair) → Brought q f t before p
-      → ((p : Pair) → List·Memᴰ p (outs before) → QualifyingPair (q .radius) f t p) → Come (outs before ++ p ∷ []) l
+      → ((p : Pair) → List·Memᴰ p (outs before) → QualifyingPair q f t p) → Come (outs before ++ p ∷ []) l
       → Come (outs before) (p ∷ l)
   come-one before p l b fit c = record {
     new = new;
@@ -92,7 +92,7 @@ module _ (q : Query) (f t : List ℤ) where
       new x (List·Memᴰ·head e) o = b .new (mem-in p (outs before) (subst (λ x. List·Memᴰ x (outs before)) e o))
       new x (List·Memᴰ·tail m) o = c .new x m (Memᴰ·append-left (p ∷ []) o)
 
-      highest : (x : Pair) → QualifyingPair (q .radius) f t x → (List·Memᴰ x (outs before) → ⊥) → x .sum ≤ p .sum
+      highest : (x : Pair) → QualifyingPair q f t x → (List·Memᴰ x (outs before) → ⊥) → x .sum ≤ p .sum
       highest x k apart =
           let left : Out before (x .field) (x .trim) → ⊥ = λ o. apart (in-mem q f t x k (outs before) fit o) in
           let low = b .highest (x .field) (x .trim) (fits-qualifying q f t x k) left in
@@ -102,25 +102,25 @@ module _ (q : Query) (f t : List ℤ) where
 
 module _ {q : Query} {f t : List ℤ} {opening : Step} {lines : List Line} (d : Demand3 q f t opening lines) where
   rest-fits : (before rest after : List Line) → lines ≡ before ++ (rest ++ after) → (p : Pair) → List·Memᴰ p (outs rest)
-      → QualifyingPair (q .radius) f t p
+      → QualifyingPair q f t p
   rest-fits before (l ∷ rest) after e p m =
       go (one-or-none (l .gave .answer))
       (rest-fits (before ++ l ∷ []) rest after (e ∙ sym (append-assoc before (l ∷ []) (rest ++ after))) p)
     where
       go : (given (l .gave .answer) ≡ []) ⊎ ((x : Pair) × (l .gave .answer ≡ Given x))
-          → (List·Memᴰ p (outs rest) → QualifyingPair (q .radius) f t p) → QualifyingPair (q .radius) f t p
+          → (List·Memᴰ p (outs rest) → QualifyingPair q f t p) → QualifyingPair q f t p
       go (inl z) later = later (subst (List·Memᴰ p) (ap (λ o. o ++ outs rest) z) m)
       go (inr x) later = at (subst (λ a. List·Memᴰ p (given a ++ outs rest)) (x .1) m)
         where
-          at : List·Memᴰ p (x .0 ∷ outs rest) → QualifyingPair (q .radius) f t p
+          at : List·Memᴰ p (x .0 ∷ outs rest) → QualifyingPair q f t p
           at (List·Memᴰ·head i) =
-              subst (QualifyingPair (q .radius) f t) (sym i)
+              subst (QualifyingPair q f t) (sym i)
               (brought-fits q f t before (x .0) (d .brought before (rest ++ after) l (x .0) e (x .1)))
           at (List·Memᴰ·tail k) = later k
 
   -- "Each pair brought out qualifies, carries its own sum"
   pub out-fits : (before after : List Line) → lines ≡ before ++ after → (p : Pair) → List·Memᴰ p (outs before)
-      → QualifyingPair (q .radius) f t p
+      → QualifyingPair q f t p
   out-fits before after e = rest-fits [] before after e
 
   rest-comes : (before rest after : List Line) → lines ≡ before ++ (rest ++ after)
@@ -146,43 +146,43 @@ module _ {q : Query} {f t : List ℤ} {opening : Step} {lines : List Line} (d : 
   module _ (g : legal f ≡ true) (h : legal t ≡ true) where
     -- so many highest sums as any k from the number of pairs out on, if these are k or all
     out-sums : (before after : List Line) → lines ≡ before ++ after → (k : ℕ) → length (outs before) ≤ k
-        → (length (outs before) ≡ k) ⊎ ((p : Pair) → QualifyingPair (q .radius) f t p → List·Memᴰ p (outs before))
-        → map (λ p. p .sum) (outs before) ≡ best k (qualifyingSums (q .radius) f t)
+        → (length (outs before) ≡ k) ⊎ ((p : Pair) → QualifyingPair q f t p → List·Memᴰ p (outs before))
+        → map (λ p. p .sum) (outs before) ≡ best k (qualifyingSums q f t)
     unfolding qualifyingSums
     out-sums before after e k room complete =
         let c = rest-comes [] before after e in
-        best-first-sums pair-rank (QualifyingPair (q .radius) f t) k (qualifying (q .radius) (whole f) (whole t))
+        best-first-sums pair-rank (QualifyingPair q f t) k (qualifying (terms q) (whole f) (whole t))
         (outs before)
-        (qualifying-distinct (q .radius) (whole f) (whole t)) (all-qualify (q .radius) f t g h) (c .once)
+        (qualifying-distinct q (whole f) (whole t)) (all-qualify q f t g h) (c .once)
         (out-fits before after e) (c .best-first) room complete
 
     -- at any time the sums out are the highest, as many as are out
     pub out-best : (before after : List Line) → lines ≡ before ++ after
-        → map (λ p. p .sum) (outs before) ≡ best (length (outs before)) (qualifyingSums (q .radius) f t)
+        → map (λ p. p .sum) (outs before) ≡ best (length (outs before)) (qualifyingSums q f t)
     out-best before after e = out-sums before after e (length (outs before)) (omega arith) (inl refl)
 
     -- and when a call says finished their first k are the k highest, all there are if fewer
     pub finished-highest : (before after : List Line) (l : Line) → lines ≡ before ++ l ∷ after
         → l .gave .answer ≡ Finished
-        → take (q .k) (map (λ p. p .sum) (outs before)) ≡ best (q .k) (qualifyingSums (q .radius) f t)
+        → take (q .k) (map (λ p. p .sum) (outs before)) ≡ best (q .k) (qualifyingSums q f t)
     unfolding best
     finished-highest before after l e y =
         ⊎-elim (λ z. at (q .k) (omega (arith, z)) (omega arith) (inl z))
         (λ all. at (max (q .k) (length (outs before))) (omega arith) (omega arith) (inr (all-out all)))
         (d .finished before after l e y)
       where
-        all-out : ((i j : ℕ) → Qualifying q f t i j → Out before i j) → (p : Pair) → QualifyingPair (q .radius) f t p
+        all-out : ((i j : ℕ) → Qualifying q f t i j → Out before i j) → (p : Pair) → QualifyingPair q f t p
             → List·Memᴰ p (outs before)
         all-out all p k =
             in-mem q f t p k (outs before) (out-fits before (l ∷ after) e)
             (all (p .field) (p .trim) (fits-qualifying q f t p k))
 
         at : (k : ℕ) → length (outs before) ≤ k → q .k ≤ k
-            → (length (outs before) ≡ k) ⊎ ((p : Pair) → QualifyingPair (q .radius) f t p → List·Memᴰ p (outs before))
-            → take (q .k) (map (λ p. p .sum) (outs before)) ≡ best (q .k) (qualifyingSums (q .radius) f t)
+            → (length (outs before) ≡ k) ⊎ ((p : Pair) → QualifyingPair q f t p → List·Memᴰ p (outs before))
+            → take (q .k) (map (λ p. p .sum) (outs before)) ≡ best (q .k) (qualifyingSums q f t)
         at k room more complete =
             ap (take (q .k)) (out-sums before (l ∷ after) e k room complete)
-            ∙ take-take (q .k) k (sort (λ x y. ltb y x) (qualifyingSums (q .radius) f t)) more
+            ∙ take-take (q .k) k (sort (λ x y. ltb y x) (qualifyingSums q f t)) more
 
   -- "Each answer and record, the opening's included, is the one that document 01 gives": at each call the one of the
   -- record that the call before it gave

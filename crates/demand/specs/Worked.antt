@@ -141,7 +141,7 @@ unfolding row
 qualify = (first-brought .qualifying .near, second-brought .qualifying .near)
 
 -- "carries its own sum"
-pub own-sums : (140 ≡ sumOf fields trims 1 2) × (110 ≡ sumOf fields trims 2 3)
+pub own-sums : (140 ≡ sumOf query fields trims 1 2) × (110 ≡ sumOf query fields trims 2 3)
 own-sums = (first-brought .own-sum, second-brought .own-sum)
 
 -- "and wasn't out already."
@@ -149,8 +149,8 @@ pub both-new : (Out (firstLines 5) 1 2 → ⊥) × (Out (firstLines 10) 2 3 → 
 both-new = (first-brought .new, second-brought .new)
 
 -- "no qualifying pair that is not yet out has a higher sum, unread rows included"
-pub none-higher : ((i j : ℕ) → Qualifying query fields trims i j → sumOf fields trims i j ≤ 140)
-    × ((i j : ℕ) → Qualifying query fields trims i j → ((1 ≡ i) × (2 ≡ j) → ⊥) → sumOf fields trims i j ≤ 110)
+pub none-higher : ((i j : ℕ) → Qualifying query fields trims i j → sumOf query fields trims i j ≤ 140)
+    × ((i j : ℕ) → Qualifying query fields trims i j → ((1 ≡ i) × (2 ≡ j) → ⊥) → sumOf query fields trims i j ≤ 110)
 unfolding run
 none-higher = (
   λ i j k. first-brought .highest i j k (λ o. o),
@@ -174,14 +174,14 @@ wanted-out =
     (worked .finished (firstLines 11) [] (lineAt 11) refl refl)
 
 -- so their sums are the two highest
-pub highest-two : 140 ∷ 110 ∷ [] ≡ best 2 (qualifyingSums 5 fields trims)
+pub highest-two : 140 ∷ 110 ∷ [] ≡ best 2 (qualifyingSums query fields trims)
 unfolding run
 highest-two = finished-highest worked refl refl (firstLines 11) [] (lineAt 11) refl refl
 
 -- "After the sequence no more than max(p, q) + block - 1 rows of either table have been read": four of each are sure
-sure : Sure 2 5 fields trims (fieldRows 4) (trimRows 4)
+sure : Sure query fields trims (fieldRows 4) (trimRows 4)
 unfolding run isSure ceilingAt qualifyingSums atLeast
-sure = sure-is-test fields trims refl refl (fieldRows 4) (trimRows 4) 2 5 (lit≤ tt) .1 refl
+sure = sure-is-test query fields trims refl refl (fieldRows 4) (trimRows 4) refl .1 refl
 
 pub at-most-four : (lastRecord begun lines .depth .field .0 ≤ 4) × (lastRecord begun lines .depth .trim .0 ≤ 4)
 at-most-four = worked .row-limit (fieldRows 4) (trimRows 4) sure

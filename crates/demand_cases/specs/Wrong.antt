@@ -10,6 +10,7 @@ use lib.IntN.{ℤ, pos}
 use Rattle.lists.specs.Lists.{atLeast}
 use Rattle.rules.specs.declared.Query.{Query}
 use Rattle.rules.specs.declared.Session.{Session}
+use Rattle.rules.specs.Tables.{terms}
 use Rattle.rules.specs.Session.{lastScore, fieldReadOut, trimReadOut, settled}
 use Rattle.rules.specs.Read.{scoreDrop, fieldNext, readTable, readTo}
 use Rattle.rules.specs.Take.{firstHeld}
@@ -30,17 +31,26 @@ chosenBy rule f t s =
 
 -- Qi, Bouros and Mamoulis (2020) as printed: the table whose last score is higher
 abbrev byLastScore : List ℤ → List ℤ → Session → Bool
-byLastScore f t s = leb (lastScore t (s .depth .trim .0)) (lastScore f (s .depth .field .0))
+byLastScore f t s =
+    let w = terms (s .query) in
+    leb (lastScore (w .trim) t (s .depth .trim .0)) (lastScore (w .field) f (s .depth .field .0))
+
+-- the drops of the two tables
+abbrev fieldDrop : List ℤ → Session → ℕ
+fieldDrop f s = scoreDrop (terms (s .query) .field) f (s .depth .field .0)
+
+abbrev trimDrop : List ℤ → Session → ℕ
+trimDrop t s = scoreDrop (terms (s .query) .trim) t (s .depth .trim .0)
 
 -- at equal drops always the field table
 abbrev equalDropsField : List ℤ → List ℤ → Session → Bool
-equalDropsField f t s = leb (scoreDrop f (s .depth .field .0)) (scoreDrop t (s .depth .trim .0))
+equalDropsField f t s = leb (fieldDrop f s) (trimDrop t s)
 
 -- the rule itself in this form
 abbrev byDrops : List ℤ → List ℤ → Session → Bool
 byDrops f t s =
-    let x = scoreDrop f (s .depth .field .0) in
-    let y = scoreDrop t (s .depth .trim .0) in
+    let x = fieldDrop f s in
+    let y = trimDrop t s in
     cond (ltb x y) true (cond (ltb y x) false (leb (s .depth .field .0) (s .depth .trim .0)))
 
 -- reading until settled by such a rule, at most n reads
@@ -62,12 +72,12 @@ highFields =
 abbrev lowTrims : List ℤ
 lowTrims = rowThen (pos 10) (pos 9) (rowThen (pos 9) (pos 0) (rowThen (pos 8) (pos 9) []))
 
-sure-low : Sure 1 0 highFields lowTrims (fieldRows 2) (trimRows 2)
+sure-low : Sure (topOne 1) highFields lowTrims (fieldRows 2) (trimRows 2)
 unfolding run isSure ceilingAt qualifyingSums atLeast
-sure-low = sure-is-test highFields lowTrims refl refl (fieldRows 2) (trimRows 2) 1 0 (lit≤ tt) .1 refl
+sure-low = sure-is-test (topOne 1) highFields lowTrims refl refl (fieldRows 2) (trimRows 2) refl .1 refl
 
 -- the row limit, here 2, is broken by the last-score rule and kept by the rule itself
-pub last-score-breaks-limit : Sure 1 0 highFields lowTrims (fieldRows 2) (trimRows 2)
+pub last-score-breaks-limit : Sure (topOne 1) highFields lowTrims (fieldRows 2) (trimRows 2)
     × (max 2 2 + 1 - 1 < rowsBy byLastScore (topOne 1) highFields lowTrims)
     × (rowsBy byDrops (topOne 1) highFields lowTrims ≡ 2)
 unfolding run
@@ -80,11 +90,11 @@ plateau = rowThen (pos 5) (pos 0) (rowThen (pos 5) (pos 7) (rowThen (pos 5) (pos
 abbrev level : List ℤ
 level = rowThen (pos 5) (pos 9) (rowThen (pos 5) (pos 0) (rowThen (pos 5) (pos 9) []))
 
-sure-level : Sure 1 0 plateau level (fieldRows 2) (trimRows 2)
+sure-level : Sure (topOne 1) plateau level (fieldRows 2) (trimRows 2)
 unfolding run isSure ceilingAt qualifyingSums atLeast
-sure-level = sure-is-test plateau level refl refl (fieldRows 2) (trimRows 2) 1 0 (lit≤ tt) .1 refl
+sure-level = sure-is-test (topOne 1) plateau level refl refl (fieldRows 2) (trimRows 2) refl .1 refl
 
-pub equal-drops-break-limit : Sure 1 0 plateau level (fieldRows 2) (trimRows 2)
+pub equal-drops-break-limit : Sure (topOne 1) plateau level (fieldRows 2) (trimRows 2)
     × (max 2 2 + 1 - 1 < rowsBy equalDropsField (topOne 1) plateau level)
     × (rowsBy byDrops (topOne 1) plateau level ≡ 2)
 unfolding run
@@ -98,11 +108,11 @@ readsAll q f t =
     let s = openCall q f t .session in
     readTo (fieldNext f t s) (s .rows .field .0) s .depth .field .0
 
-sure-first : Sure 1 0 plateau plateau (fieldRows 1) (trimRows 1)
+sure-first : Sure (topOne 1) plateau plateau (fieldRows 1) (trimRows 1)
 unfolding run isSure ceilingAt qualifyingSums atLeast
-sure-first = sure-is-test plateau plateau refl refl (fieldRows 1) (trimRows 1) 1 0 (lit≤ tt) .1 refl
+sure-first = sure-is-test (topOne 1) plateau plateau refl refl (fieldRows 1) (trimRows 1) refl .1 refl
 
-pub reading-all-breaks-limit : Sure 1 0 plateau plateau (fieldRows 1) (trimRows 1)
+pub reading-all-breaks-limit : Sure (topOne 1) plateau plateau (fieldRows 1) (trimRows 1)
     × (max 1 1 + 1 - 1 < readsAll (topOne 1) plateau plateau)
     × (rowsBy byDrops (topOne 1) plateau plateau ≡ 1)
 unfolding run

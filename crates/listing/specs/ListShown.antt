@@ -20,12 +20,15 @@ use Rattle.rules.specs.declared.Step.{Step}
 use Rattle.rules.specs.declared.Answer.the-variants.{Refused, Opened}
 use Rattle.rules.specs.Tables.{Block, num, row, rowCount, within, rowInRange, gap, squaredDistance}
 use Rattle.rules.specs.Session.{noPair, placeCount, places, opened, zeros}
-use Rattle.rules.specs.Read.{blockAt, skipped, bestHeld, holding, meet, meetBlocks, readTo, readTable}
-use Rattle.rules.specs.Tables.{qualifying}
+use Rattle.rules.specs.Read.{blockAt, skipped, bestHeld, holding, meetBy, meet, meetBlocksBy, meetBlocks, readTo}
+use Rattle.rules.specs.Read.{readTableBy}
+use Rattle.rules.specs.Tables.{terms, qualifying}
 use Rattle.rules.specs.Take.{firstHeld, movedOut}
 use Rattle.rules.specs.Calls.{step}
 use Rattle.rules.specs.Calls.{openCode, openCall, readCall, takeCall}
-use Rattle.rules.specs.Query.{wasRead, wasGiven, readUntilSettled, takeUntilFinished, settledSession, list}
+use Rattle.rules.specs.Query.{wasRead, wasGiven, readUntilSettledBy, readUntilSettled, takeUntilFinishedBy}
+use Rattle.rules.specs.Query.{takeUntilFinished}
+use Rattle.rules.specs.Query.{settledSession, list}
 use Rattle.session_laws.specs.Tables.{range-out, RowFits}
 use Rattle.session_laws.specs.Record.{first-fits}
 use Rattle.session_laws.specs.Calls.{call-out, Takes, was-read-out, was-given-out}
@@ -91,11 +94,11 @@ unfolding places
 places-placed l = simp (length-append, length-replicate) (omega arith)
 
 meet-placed : (s : Session) (x y : Block) → 0 < length (s .pairs) → 0 < length (meet s x y .pairs)
-unfolding meet holding
+unfolding meetBy holding
 meet-placed s x y h = go (skipped s x y)
   where
     met : List Pair
-    met = bestHeld s (qualifying (s .query .radius) x y)
+    met = bestHeld s (qualifying (terms (s .query)) x y)
 
     go : (b : Bool) → 0 < length (cond b s (holding s met) .pairs)
     go true = h
@@ -103,7 +106,7 @@ meet-placed s x y h = go (skipped s x y)
 
 blocks-placed : (field : Bool) (s : Session) (new : Block) (t : List ℤ) (depth n : ℕ) → 0 < length (s .pairs) →
     0 < length (meetBlocks field s new t depth n .pairs)
-unfolding meetBlocks
+unfolding meetBlocksBy
 blocks-placed field s new t depth zero h = h
 blocks-placed field s new t depth (suc n) h =
     let old = blockAt t (s .query .block) depth n in
@@ -112,7 +115,7 @@ blocks-placed field s new t depth (suc n) h =
 
 reads-placed : (n : ℕ) (f t : List ℤ) (s : Session) → 0 < length (s .pairs) →
     0 < length (readUntilSettled n f t s .pairs)
-unfolding readUntilSettled readTable readTo
+unfolding readUntilSettledBy readTableBy readTo
 reads-placed zero f t s h = h
 reads-placed (suc n) f t s h =
     go (wasRead (readCall f t s .answer)) refl (reads-placed n f t (readCall f t s .session))
@@ -156,7 +159,7 @@ unfolding movedOut
 moved-placed s = simp length-append (omega arith)
 
 takes-shown : (n : ℕ) (f t : List ℤ) (s : Session) → 0 < length (s .pairs) → AllShown f t (takeUntilFinished n f t s)
-unfolding takeUntilFinished
+unfolding takeUntilFinishedBy
 takes-shown zero f t s placed = λ i h. absurd (not-suc-le-zero h)
 takes-shown (suc n) f t s placed =
     go (wasGiven (takeCall f t s .answer)) refl (takes-shown n f t (takeCall f t s .session))

@@ -12,24 +12,29 @@ use lib.Seq.{take-all}
 use Rattle.lists.specs.Lists.{sort}
 use Rattle.lists.specs.Sorts.{ordered-sort}
 use Rattle.rules.specs.declared.Pair.{Pair}
+use Rattle.rules.specs.declared.Query.{Query}
 use Rattle.rules.specs.declared.Session.{Session}
-use Rattle.rules.specs.Tables.{Block, rowCount, qualifying, ahead}
+use Rattle.rules.specs.Tables.{terms, Block, rowCount, qualifying, ahead}
 use Rattle.rules.specs.Session.{heldPairs, firstScore}
-use Rattle.rules.specs.Read.{skipped, bestHeld, holding, meet}
+use Rattle.rules.specs.Read.{skipped, bestHeld, holding, meetBy, meet}
 use Rattle.block.specs.Near.{anyNear, none-qualify}
 use Rattle.choosing.specs.Ready.{Ready}
 
-abbrev pub skips : Bool → ℕ → List ℤ → List ℤ → Bool
-skips full low x y = full && ltb (firstScore x + firstScore y) low
+-- what the first rows of two blocks add to a sum
+abbrev pub firstScores : Query → List ℤ → List ℤ → ℕ
+firstScores q x y = firstScore (terms q .field) x + firstScore (terms q .trim) y
 
-pub record Effect (full : Bool) (low radius : ℕ) (x y : List ℤ) (r : ℕ) : Type 0 where
-  pub skip : r ≡ 0 → skips full low x y ≡ true
-  pub quiet : r ≡ 1 → (skips full low x y ≡ false) × (anyNear radius x y (rowCount x) ≡ false)
-  pub joined : r ≡ 2 → skips full low x y ≡ false
+abbrev pub skips : Bool → ℕ → Query → List ℤ → List ℤ → Bool
+skips full low q x y = full && ltb (firstScores q x y) low
+
+pub record Effect (full : Bool) (low : ℕ) (q : Query) (x y : List ℤ) (r : ℕ) : Type 0 where
+  pub skip : r ≡ 0 → skips full low q x y ≡ true
+  pub quiet : r ≡ 1 → (skips full low q x y ≡ false) × (anyNear (terms q) x y (rowCount x) ≡ false)
+  pub joined : r ≡ 2 → skips full low q x y ≡ false
   pub most : r ≤ 2
 
-module _ (full : Bool) (low radius : ℕ) (x y : List ℤ) where
-  pub effect-skip : skips full low x y ≡ true → Effect full low radius x y 0
+module _ (full : Bool) (low : ℕ) (q : Query) (x y : List ℤ) where
+  pub effect-skip : skips full low q x y ≡ true → Effect full low q x y 0
   effect-skip h =
       record {
         skip = λ e. h;
@@ -38,7 +43,7 @@ module _ (full : Bool) (low radius : ℕ) (x y : List ℤ) where
         most = omega arith;
       }
 
-  pub effect-quiet : skips full low x y ≡ false → anyNear radius x y (rowCount x) ≡ false → Effect full low radius x y 1
+  pub effect-quiet : skips full low q x y ≡ false → anyNear (terms q) x y (rowCount x) ≡ false → Effect full low q x y 1
   effect-quiet h k =
       record {
         skip = λ e. absurd (omega (arith, e));
@@ -47,7 +52,7 @@ module _ (full : Bool) (low radius : ℕ) (x y : List ℤ) where
         most = omega arith;
       }
 
-  pub effect-open : skips full low x y ≡ false → Effect full low radius x y 2
+  pub effect-open : skips full low q x y ≡ false → Effect full low q x y 2
   effect-open h =
       record {
         skip = λ e. absurd (omega (arith, e));
@@ -58,7 +63,7 @@ module _ (full : Bool) (low radius : ℕ) (x y : List ℤ) where
 
 -- a block pair is joined and counted
 abbrev pub joinedPair : Session → Block → Block → Session
-joinedPair s x y = holding s (bestHeld s (qualifying (s .query .radius) x y))
+joinedPair s x y = holding s (bestHeld s (qualifying (terms (s .query)) x y))
 
 -- so many block pairs more are joined
 unfoldable pub counted : Session → ℕ → Session
@@ -115,26 +120,26 @@ module _ (s : Session) (r : Ready s) where
       }
 
   -- `full` and `low` are the code's numbers: whether k pairs are held or out, and the lowest held sum
-  module _ (full : Bool) (low : ℕ) (x y : Block) (test : skips full low (x .rows) (y .rows) ≡ skipped s x y) (w : ℕ)
-      (f : Effect full low (s .query .radius) (x .rows) (y .rows) w) where
+  module _ (full : Bool) (low : ℕ) (x y : Block) (test : skips full low (s .query) (x .rows) (y .rows) ≡ skipped s x y)
+      (w : ℕ) (f : Effect full low (s .query) (x .rows) (y .rows) w) where
     abbrev met : Bool → Session
     met skip = cond skip s (joinedPair s x y)
 
     pub effect-joins : w ≡ 2 → joinedPair s x y ≡ meet s x y
-    unfolding meet
+    unfolding meetBy
     effect-joins e = sym (ap met (sym test ∙ f .joined e))
 
     pub effect-counts : (w ≡ 2 → ⊥) → counted s w ≡ meet s x y
-    unfolding meet
+    unfolding meetBy
     effect-counts h = go w f h
       where
-        go : (w : ℕ) → Effect full low (s .query .radius) (x .rows) (y .rows) w → (w ≡ 2 → ⊥) → counted s w ≡ meet s x y
+        go : (w : ℕ) → Effect full low (s .query) (x .rows) (y .rows) w → (w ≡ 2 → ⊥) → counted s w ≡ meet s x y
         go zero f h = counted-none ∙ sym (ap met (sym test ∙ f .skip refl))
         go (suc zero) f h =
             let q = f .quiet refl in
             sym
             (ap met (sym test ∙ q .0)
-            ∙ ap (λ (l : List Pair). holding s (bestHeld s l)) (none-qualify (s .query .radius) x y (q .1))
+            ∙ ap (λ (l : List Pair). holding s (bestHeld s l)) (none-qualify (terms (s .query)) x y (q .1))
             ∙ ap (holding s) same-held
             ∙ holding-same)
         go (suc (suc w)) f h = absurd (h (omega (arith, f .most)))

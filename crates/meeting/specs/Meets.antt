@@ -14,10 +14,10 @@ use Rattle.lists.specs.Words.{Ordered}
 use Rattle.lists.specs.Sorts.{sort-ordered, take-ordered}
 use Rattle.rules.specs.declared.Pair.{Pair}
 use Rattle.rules.specs.declared.Session.{Session}
-use Rattle.rules.specs.Tables.{mostRows, Block, qualifying, ahead}
+use Rattle.rules.specs.Tables.{mostRows, terms, Block, qualifying, ahead}
 use Rattle.rules.specs.Ranking.{ahead-strict}
 use Rattle.rules.specs.Session.{places, heldPairs}
-use Rattle.rules.specs.Read.{skipped, bestHeld, holding, meet, rowsBetween, meetBlocks}
+use Rattle.rules.specs.Read.{skipped, bestHeld, holding, meetBy, meet, rowsBetween, meetBlocksBy, meetBlocks}
 use Rattle.keys.specs.Places.{list-of-places}
 use Rattle.block.specs.Block.{at, Rows}
 use Rattle.meeting.specs.declared.Span.{Span}
@@ -50,16 +50,16 @@ holding-ready s l r o h =
     }
 
 pub meet-ready : (s : Session) (x y : Block) → Ready s → Ready (meet s x y)
-unfolding meet
+unfolding meetBy
 meet-ready s x y r = go (skipped s x y)
   where
-    go : (b : Bool) → Ready (cond b s (holding s (bestHeld s (qualifying (s .query .radius) x y))))
+    go : (b : Bool) → Ready (cond b s (holding s (bestHeld s (qualifying (terms (s .query)) x y))))
     go true = r
-    go false = holding-ready s (bestHeld s (qualifying (s .query .radius) x y)) r (best-ordered s _) (best-few s _)
+    go false = holding-ready s (bestHeld s (qualifying (terms (s .query)) x y)) r (best-ordered s _) (best-few s _)
 
 pub blocks-ready : (field : Bool) (s : Session) (new : Block) (t : List ℤ) (depth n : ℕ) → Ready s
     → Ready (meetBlocks field s new t depth n)
-unfolding meetBlocks
+unfolding meetBlocksBy
 blocks-ready field s new t depth zero r = r
 blocks-ready field s new t depth (suc n) r = meet-ready _ _ _ (blocks-ready field s new t depth n r)
 
@@ -115,7 +115,7 @@ pub blocks-next : (field : Bool) (s : Session) (new : Block) (t : List ℤ) (dep
     g ≡ min (c + block) depth →
     r′ ≡ meet r (cond field new (rowsBetween t c g)) (cond field (rowsBetween t c g) new) →
     r′ ≡ meetBlocks field s new t depth (i + 1)
-unfolding meetBlocks
+unfolding meetBlocksBy
 blocks-next field s new t depth i c g block r r′ eb ec er eg h =
     let c-is : c ≡ i * s .query .block = ec ∙ ap (λ (b : ℕ). i * b) eb in
     let g-is : g ≡ min (i * s .query .block + s .query .block) depth =

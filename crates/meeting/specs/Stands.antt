@@ -1,5 +1,5 @@
 -- A record's held pairs as keys, and its counts beside them, while blocks are met. Assumes nothing.
-use mathlib.Core.Path.{_≡_, refl, sym, ap, _∙_}
+use mathlib.Core.Path.{_≡_, refl, sym, ap, subst, _∙_}
 use mathlib.Core.Bool.{Bool, true, false, cond, _&&_}
 use mathlib.Core.List.{List, [], _∷_, map}
 use Prim.Native.Nat.{ℕ, _+_, _-_, _%_, _≤_, _<_}
@@ -10,10 +10,11 @@ use lib.Seq.{length-take-le, getD-take}
 use borrow.Author.Tests.{eq-eqb, ne-eqb, eqb-true, eqb-false}
 use Rattle.lists.specs.Words.{All}
 use Rattle.rules.specs.declared.Pair.{Pair}
+use Rattle.rules.specs.declared.Query.{Query}
 use Rattle.rules.specs.declared.Session.{Session}
-use Rattle.rules.specs.Tables.{Block, qualifying}
-use Rattle.rules.specs.Session.{noPair, places, heldPairs, firstScore}
-use Rattle.rules.specs.Read.{lowest, skipped, bestHeld, holding, meet, readTo}
+use Rattle.rules.specs.Tables.{terms, Block, qualifying}
+use Rattle.rules.specs.Session.{noPair, places, heldPairs}
+use Rattle.rules.specs.Read.{lowest, skippedBy, skipped, bestHeld, holding, meet, readTo}
 use Rattle.session_laws.specs.Read.{Kept}
 use Rattle.ceiling.specs.Last.{lastOf, lowest-is-last}
 use Rattle.keys.specs.Held.{keyOf, pairOf, Narrow, Keyed}
@@ -24,7 +25,7 @@ use Rattle.meeting.specs.declared.Met.{Met}
 use Rattle.meeting.specs.declared.After.{After}
 use Rattle.choosing.specs.Ready.{Ready}
 use Rattle.meeting.specs.Side.{downTo}
-use Rattle.meeting.specs.Effect.{Effect, skips, joinedPair, counted, effect-joins, effect-counts}
+use Rattle.meeting.specs.Effect.{Effect, firstScores, skips, joinedPair, counted, effect-joins, effect-counts}
 
 -- 64 numbers, of which the first stand for the pairs that a record holds
 pub record Keys (r : Session) (keys : List ℕ) : Type 0 where
@@ -38,11 +39,12 @@ pub record Stands (r : Session) (m : Met) (keys : List ℕ) : Type 0 where
   pub pairs : Keys r keys
 
 -- one block pair more is met, whatever the record is that the numbers stand for
-pub record Meets (radius room : ℕ) (x y : Block) (m : Met) (keys : List ℕ) (after : Met) (left : List ℕ) : Type 0 where
+pub record Meets (q : Query) (room : ℕ) (x y : Block) (m : Met) (keys : List ℕ) (after : Met) (left : List ℕ)
+    : Type 0 where
   pub few : after .held ≤ room
   pub one : after .joined ≤ m .joined + 1
   pub long : length left ≡ 64
-  pub meets : (r : Session) → Ready r → r .query .radius ≡ radius → r .query .k - r .out ≡ room → Stands r m keys
+  pub meets : (r : Session) → Ready r → r .query ≡ q → r .query .k - r .out ≡ room → Stands r m keys
       → Stands (meet r x y) after left
 
 -- a record after a read: its numbers, and its pairs read off the keys
@@ -106,25 +108,25 @@ module _ (r : Session) (ready : Ready r) (room : ℕ) (left : r .query .k - r .o
       ∙ sym (lowest-is-last (heldPairs r) (omega (arith, ready .count, stands .held)) (ready .order))
 
   -- the code's test of a skipped block pair is the rule's
-  skips-is : (x y : Block) → skips (eqb (m .held) room) lowSum (x .rows) (y .rows) ≡ skipped r x y
-  unfolding skipped
+  skips-is : (x y : Block) → skips (eqb (m .held) room) lowSum (r .query) (x .rows) (y .rows) ≡ skipped r x y
+  unfolding skippedBy
   skips-is x y =
       go (eqb (m .held) room) refl
-      ∙ ap (λ (b : Bool). b && ltb (firstScore (x .rows) + firstScore (y .rows)) (lowest (heldPairs r))) full-is
+      ∙ ap (λ (b : Bool). b && ltb (firstScores (r .query) (x .rows) (y .rows)) (lowest (heldPairs r))) full-is
     where
       go : (b : Bool) → eqb (m .held) room ≡ b
-          → (b && ltb (firstScore (x .rows) + firstScore (y .rows)) lowSum)
-          ≡ (b && ltb (firstScore (x .rows) + firstScore (y .rows)) (lowest (heldPairs r)))
-      go true e = ap (ltb (firstScore (x .rows) + firstScore (y .rows))) (low-is e)
+          → (b && ltb (firstScores (r .query) (x .rows) (y .rows)) lowSum)
+          ≡ (b && ltb (firstScores (r .query) (x .rows) (y .rows)) (lowest (heldPairs r)))
+      go true e = ap (ltb (firstScores (r .query) (x .rows) (y .rows))) (low-is e)
       go false e = refl
 
   module _ (x y : Block) (w : ℕ)
-      (effect : Effect (eqb (m .held) room) lowSum (r .query .radius) (x .rows) (y .rows) w) where
-    best : (n : ℕ) (after : List ℕ) → Joined (r .query .radius) room x y (m .held) keys n after
+      (effect : Effect (eqb (m .held) room) lowSum (r .query) (x .rows) (y .rows) w) where
+    best : (n : ℕ) (after : List ℕ) → Joined (terms (r .query)) room x y (m .held) keys n after
         → Stands (joinedPair r x y) (record { held = n; joined = m .joined + 1 }) after
     unfolding holding bestHeld
     best n after k =
-        let l = bestHeld r (qualifying (r .query .radius) x y) in
+        let l = bestHeld r (qualifying (terms (r .query)) x y) in
         let keyed : Keyed (heldPairs r) (take (m .held) keys) = rw (stands .held) (stands .pairs .keyed) in
         let got : Keyed l (take n after) = rw left (k .held (heldPairs r) keyed (ready .order)) in
         let count : n ≡ length l =
@@ -137,7 +139,7 @@ module _ (r : Session) (ready : Ready r) (room : ℕ) (left : r .query .k - r .o
         }
 
     -- a block pair that is joined
-    pub stands-joined : w ≡ 2 → (n : ℕ) (after : List ℕ) → Joined (r .query .radius) room x y (m .held) keys n after
+    pub stands-joined : w ≡ 2 → (n : ℕ) (after : List ℕ) → Joined (terms (r .query)) room x y (m .held) keys n after
         → Stands (meet r x y) (record { held = n; joined = m .joined + 1 }) after
     stands-joined e n after k =
         rw (sym (effect-joins r ready (eqb (m .held) room) lowSum x y (skips-is x y) w effect e)) (best n after k)
@@ -156,11 +158,11 @@ module _ (r : Session) (ready : Ready r) (room : ℕ) (left : r .query .k - r .o
     stands-counted h = rw (sym (effect-counts r ready (eqb (m .held) room) lowSum x y (skips-is x y) w effect h)) same
 
 -- a block pair that comes to w, whatever the record is
-module _ (radius room : ℕ) (x y : Block) (m : Met) (keys : List ℕ) (w : ℕ)
-    (effect : Effect (eqb (m .held) room) (pairOf (getD keys ((m .held + 63) % 64) 0) .sum) radius (x .rows)
+module _ (q : Query) (room : ℕ) (x y : Block) (m : Met) (keys : List ℕ) (w : ℕ)
+    (effect : Effect (eqb (m .held) room) (pairOf (getD keys ((m .held + 63) % 64) 0) .sum) q (x .rows)
     (y .rows) w) where
-  pub meets-joined : w ≡ 2 → (n : ℕ) (after : List ℕ) → Joined radius room x y (m .held) keys n after
-      → Meets radius room x y m keys (record { held = n; joined = m .joined + 1 }) after
+  pub meets-joined : w ≡ 2 → (n : ℕ) (after : List ℕ) → Joined (terms q) room x y (m .held) keys n after
+      → Meets q room x y m keys (record { held = n; joined = m .joined + 1 }) after
   meets-joined e n after k =
       record {
         few = k .few;
@@ -168,11 +170,12 @@ module _ (radius room : ℕ) (x y : Block) (m : Met) (keys : List ℕ) (w : ℕ)
         long = k .long;
         meets =
             λ r ready same left stands.
-            stands-joined r ready room left m keys stands x y w (rw same effect) e n after (rw same k);
+            let own = subst (λ (p : Query). Joined (terms p) room x y (m .held) keys n after) (sym same) k in
+            stands-joined r ready room left m keys stands x y w (rw same effect) e n after own;
       }
 
   pub meets-counted : (w ≡ 2 → ⊥) → m .held ≤ room → length keys ≡ 64
-      → Meets radius room x y m keys (record { held = m .held; joined = m .joined + w }) keys
+      → Meets q room x y m keys (record { held = m .held; joined = m .joined + w }) keys
   meets-counted h few long =
       record {
         few = few;

@@ -1,13 +1,14 @@
 // A new block of one table meets the blocks already read of the other, in their order.
 use rules::Counts;
 use rules::FieldRows;
+use rules::Query;
 use rules::Session;
 use rules::TrimRows;
 ghost use mathlib.Core.Path.{_≡_};
 ghost use mathlib.Core.Bool.{false, cond};
 ghost use Prim.Native.Nat.{_+_, _*_, _-_, _≤_, _<_, _^_, min};
 ghost use lib.ListN.{length};
-ghost use Rattle.rules.specs.Tables.{mostRows};
+ghost use Rattle.rules.specs.Tables.{mostRows, terms};
 ghost use Rattle.rules.specs.Session.{settled};
 ghost use Rattle.rules.specs.Read.{meetBlocks, readTable, readBlock};
 ghost use Rattle.session_laws.specs.Calls.{Lent};
@@ -39,7 +40,7 @@ fn either(first: bool, a: Span, b: Span) -> Span
 // Rows of the field table and rows of the trim table, each as a part of its table, are joined: of the pairs held, which
 // `keys` stands for, and the qualifying ones the best, at most room. How many are held then.
 fn join_parts(
-    radius: u32,
+    q: Query,
     room: usize,
     f: &[i32],
     x: Span,
@@ -50,21 +51,21 @@ fn join_parts(
 ) -> usize
     requires { ⌜ (held ≤ room) × (room ≤ 64) × (length (now keys) ≡ 64) ⌝ }
     requires { ⌜ SpanFits x (now f) × SpanFits y (now t) ⌝ }
-    ensures { λ r. ⌜ Joined radius room (spanBlock (now (f .entry)) x) (spanBlock (now (t .entry)) y) held
+    ensures { λ r. ⌜ Joined (terms q) room (spanBlock (now (f .entry)) x) (spanBlock (now (t .entry)) y) held
         (now (keys .entry)) r (now (keys .exit)) ⌝ }
 {
     let i = 4 * x.from;
     let j = 4 * x.to;
     let k = 4 * y.from;
     let l = 4 * y.to;
-    block::join(radius, room, &f[i..j], x.from, &t[k..l], y.from, keys, held)
+    block::join(q, room, &f[i..j], x.from, &t[k..l], y.from, keys, held)
 }
 
 // What a block pair comes to: 0, it is skipped; 1, it is joined, and no pair of it qualifies; 2, it is joined, pair by
 // pair. Only small blocks are tried for 1. `full` says that k pairs are held or out, `low` is the lowest held sum.
-fn effect(full: bool, low: u32, radius: u32, x: &[i32], y: &[i32]) -> u64
+fn effect(full: bool, low: u32, q: Query, x: &[i32], y: &[i32]) -> u64
     requires { ⌜ (4 ≤ length (now x)) × (4 ≤ length (now y)) ⌝ }
-    ensures { λ r. ⌜ Effect full low radius (now (x .entry)) (now (y .entry)) r ⌝ }
+    ensures { λ r. ⌜ Effect full low q (now (x .entry)) (now (y .entry)) r ⌝ }
 {
     let first = tables::score(x, 0);
     let second = tables::score(y, 0);
@@ -74,23 +75,23 @@ fn effect(full: bool, low: u32, radius: u32, x: &[i32], y: &[i32]) -> u64
     if 128 < x.len() {
         return 2;
     }
-    if block::any_near(radius, x, y) {
+    if block::any_near(q, x, y) {
         return 2;
     }
     1
 }
 
 // The effect of rows of the field table and rows of the trim table.
-fn effect_parts(full: bool, low: u32, radius: u32, f: &[i32], x: Span, t: &[i32], y: Span) -> u64
+fn effect_parts(full: bool, low: u32, q: Query, f: &[i32], x: Span, t: &[i32], y: Span) -> u64
     requires { ⌜ SpanFits x (now f) × SpanFits y (now t) ⌝ }
-    ensures { λ r. ⌜ Effect full low radius (spanBlock (now (f .entry)) x .rows)
+    ensures { λ r. ⌜ Effect full low q (spanBlock (now (f .entry)) x .rows)
         (spanBlock (now (t .entry)) y .rows) r ⌝ }
 {
     let i = 4 * x.from;
     let j = 4 * x.to;
     let k = 4 * y.from;
     let l = 4 * y.to;
-    effect(full, low, radius, &f[i..j], &t[k..l])
+    effect(full, low, q, &f[i..j], &t[k..l])
 }
 
 // How many pairs are held and how many block pairs are joined.
@@ -101,7 +102,7 @@ pub struct Met {
 
 // One block pair is met: skipped, or joined and counted.
 fn meet_parts(
-    radius: u32,
+    q: Query,
     room: usize,
     f: &[i32],
     x: Span,
@@ -112,15 +113,15 @@ fn meet_parts(
 ) -> Met
     requires { ⌜ (m .held ≤ room) × (room ≤ 64) × (m .joined < 2 ^ 63) × (length (now keys) ≡ 64) ⌝ }
     requires { ⌜ SpanFits x (now f) × SpanFits y (now t) ⌝ }
-    ensures { λ r. ⌜ Meets radius room (spanBlock (now (f .entry)) x) (spanBlock (now (t .entry)) y) m
+    ensures { λ r. ⌜ Meets q room (spanBlock (now (f .entry)) x) (spanBlock (now (t .entry)) y) m
         (now (keys .entry)) r (now (keys .exit)) ⌝ }
 {
     let full = m.held == room;
     let last = (m.held + 63) % 64;
     let p = keys::pair(keys[last]);
-    let w = effect_parts(full, p.sum, radius, f, x, t, y);
+    let w = effect_parts(full, p.sum, q, f, x, t, y);
     if w == 2 {
-        let n = join_parts(radius, room, f, x, t, y, keys, m.held);
+        let n = join_parts(q, room, f, x, t, y, keys, m.held);
         return Met {
             held: n,
             joined: m.joined + 1,
@@ -166,7 +167,7 @@ fn meet_blocks(
         let old = Span { from: c, to: g };
         let x = either(field, new, old);
         let y = either(field, old, new);
-        m = meet_parts(s.query.radius, room, f, x, t, y, keys, m);
+        m = meet_parts(s.query, room, f, x, t, y, keys, m);
         c = c + block;
         i += 1;
     }

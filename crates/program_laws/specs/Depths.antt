@@ -16,8 +16,8 @@ use Rattle.rules.specs.declared.Answer.the-variants.{Refused, Read, Settled}
 use Rattle.rules.specs.Tables.{legal}
 use Rattle.rules.specs.Session.{settled}
 use Rattle.rules.specs.Read.{readBlock}
-use Rattle.rules.specs.Calls.{step, queryCode, callCode, newBlockCode, openCall, readCall}
-use Rattle.rules.specs.Query.{wasRead, readUntilSettled, settledSession}
+use Rattle.rules.specs.Calls.{step, queryCode, callCode, newBlockCode, openCall, readCallBy, readCall}
+use Rattle.rules.specs.Query.{wasRead, readUntilSettledBy, readUntilSettled, settledSession}
 use Rattle.rules.specs.Sure.{Sure}
 use Rattle.lists.specs.Bools.{of-true}
 use Rattle.demand.specs.Demand.{reading, Line, lastRecord}
@@ -29,7 +29,7 @@ use Rattle.demand.specs.Proved.{demand3}
 module _ (f t : List ℤ) where
   -- a read that reads no block gives the same record back
   read-same : (s : Session) → wasRead (readCall f t s .answer) ≡ false → readCall f t s .session ≡ s
-  unfolding readCall
+  unfolding readCallBy
   read-same s h = go (eqb (callCode f t s) 0) (settled f t s) (eqb (newBlockCode f t s) 0) h
     where
       -- what a read gives, by its three tests
@@ -47,7 +47,7 @@ module _ (f t : List ℤ) where
 
   -- from then on nothing is read
   ended : (n : ℕ) (s : Session) → wasRead (readCall f t s .answer) ≡ false → readUntilSettled n f t s ≡ s
-  unfolding readUntilSettled
+  unfolding readUntilSettledBy
   ended zero s h = refl
   ended (suc n) s h = go (wasRead (readCall f t s .answer)) h
     where
@@ -63,7 +63,7 @@ module _ (f t : List ℤ) where
   readsFrom n s = runOf f t s (replicate n reading)
 
   last-read : (n : ℕ) (s : Session) → lastRecord s (readsFrom n s) ≡ readUntilSettled n f t s
-  unfolding runOf readUntilSettled
+  unfolding runOf readUntilSettledBy
   last-read zero s = refl
   last-read (suc n) s = go (wasRead (readCall f t s .answer)) refl (last-read n (readCall f t s .session))
     where
@@ -78,7 +78,7 @@ module _ (f t : List ℤ) where
 
 -- "no more than max(p, q) + block - 1 rows of either table have been read" for every sure reading of p and q rows
 pub settled-within : (q : Query) (f t : List ℤ) → legal f ≡ true → legal t ≡ true → queryCode q ≡ 0
-    → (m : FieldRows) (n : TrimRows) → Sure (q .k) (q .radius) f t m n
+    → (m : FieldRows) (n : TrimRows) → Sure q f t m n
     → DepthsUpTo (max (m .0) (n .0) + q .block - 1) (settledSession q f t)
 unfolding settledSession
 settled-within q f t g h k m n sure =

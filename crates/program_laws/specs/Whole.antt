@@ -37,12 +37,12 @@ pub record Answered (q : Query) (f t : List ℤ) : Type 0 where
   pub trim-legal : legal t ≡ true
   pub in-range : queryCode q ≡ 0
   -- the k highest qualifying sums, all of them if fewer
-  pub sums : map (λ p. p .sum) (list q f t) ≡ best (q .k) (qualifyingSums (q .radius) f t)
+  pub sums : map (λ p. p .sum) (list q f t) ≡ best (q .k) (qualifyingSums q f t)
   -- each pair is one of two rows that qualify, with its own sum, and comes once
-  pub pairs : (p : Pair) → List·Memᴰ p (list q f t) → QualifyingPair (q .radius) f t p
+  pub pairs : (p : Pair) → List·Memᴰ p (list q f t) → QualifyingPair q f t p
   pub once : Distinct (list q f t)
   -- the row limit
-  pub row-limit : (m : FieldRows) (n : TrimRows) → Sure (q .k) (q .radius) f t m n
+  pub row-limit : (m : FieldRows) (n : TrimRows) → Sure q f t m n
       → DepthsUpTo (max (m .0) (n .0) + q .block - 1) (settledSession q f t)
 
 -- and of what the program prints

@@ -14,7 +14,7 @@ use Rattle.rules.specs.declared.Answer.the-variants.{Refused, Read, Settled}
 use Rattle.rules.specs.Session.{settled}
 use Rattle.rules.specs.Read.{readBlock}
 use Rattle.rules.specs.Query.{wasRead}
-use Rattle.rules.specs.Calls.{callCode, newBlockCode, step, readCall}
+use Rattle.rules.specs.Calls.{callCode, newBlockCode, step, readCallBy, readCall}
 
 unfoldable pub readAnswer : ℕ → List ℤ → List ℤ → Session → Answer
 readAnswer code f t s =
@@ -28,7 +28,7 @@ module _ (f t : List ℤ) (s : Session) where
   afterRead a = cond (wasRead a) (readBlock f t s) s
 
   read-is : step (readAnswer (callCode f t s) f t s) (afterRead (readAnswer (callCode f t s) f t s)) ≡ readCall f t s
-  unfolding readCall readAnswer
+  unfolding readCallBy readAnswer
   read-is =
       go (callCode f t s) (newBlockCode f t s) (eqb (callCode f t s) 0) (settled f t s) (eqb (newBlockCode f t s) 0)
     where

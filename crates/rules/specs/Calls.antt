@@ -13,10 +13,10 @@ use Rattle.rules.specs.declared.Session.{Session}
 use Rattle.rules.specs.declared.Step.{Step}
 use Rattle.rules.specs.declared.Answer.{Answer}
 use Rattle.rules.specs.declared.Answer.the-variants.{Refused, Opened, Read, Settled, Given, NotYet, Finished}
-use Rattle.rules.specs.Tables.{mostRows, rowCount, rowInRange, rowInOrder, sizeFits, ahead}
-use Rattle.rules.specs.Session.{opened, zeros, heldPairs, settled}
-use Rattle.rules.specs.Read.{blockCount, fieldNext, oldDepth, newDepth, readBlock}
-use Rattle.rules.specs.Take.{firstHeld, givesPair, movedOut, finished, lastBlock, shownRows}
+use Rattle.rules.specs.Tables.{Terms, terms, mostRows, rowCount, rowInRange, rowInOrder, sizeFits, ahead}
+use Rattle.rules.specs.Session.{opened, zeros, heldPairs, settledBy}
+use Rattle.rules.specs.Read.{blockCount, fieldNextBy, oldDepth, newDepth, readBlockBy}
+use Rattle.rules.specs.Take.{firstHeld, givesPairBy, movedOut, finished, lastBlock, shownRows}
 use Rattle.rules.specs.Numbers.{listLength, blockSize, radiusRange, tableSize, badRecord, rowLimit, rowOrder}
 use Rattle.rules.specs.Numbers.{unless, first}
 
@@ -107,10 +107,13 @@ callCode f t s =
     first (lentCode f t s ∷ rowsCode f 0 (s .depth .field .0) ∷ rowsCode t 0 (s .depth .trim .0) ∷ [])
 
 -- "else it checks its new block by 6 and 7"
-unfoldable pub newBlockCode : List ℤ → List ℤ → Session → ℕ
-newBlockCode f t s =
-    let field = fieldNext f t s in
+unfoldable pub newBlockCodeBy : (Query → Terms) → List ℤ → List ℤ → Session → ℕ
+newBlockCodeBy g f t s =
+    let field = fieldNextBy g f t s in
     rowsCode (cond field f t) (oldDepth field s) (newDepth field s - oldDepth field s)
+
+abbrev pub newBlockCode : List ℤ → List ℤ → Session → ℕ
+newBlockCode = newBlockCodeBy terms
 
 abbrev pub step : Answer → Session → Step
 step a s = record { answer = a; session = s }
@@ -126,21 +129,28 @@ openCall q f t =
 
 -- Read. "A refused read or take returns the record it was given." "In a settled session it answers "settled", reads
 -- nothing and gives back the same record."
-unfoldable pub readCall : List ℤ → List ℤ → Session → Step
-readCall f t s =
+unfoldable pub readCallBy : (Query → Terms) → List ℤ → List ℤ → Session → Step
+readCallBy g f t s =
+    let new = newBlockCodeBy g f t s in
     cond (eqb (callCode f t s) 0)
-    (cond (settled f t s) (step Settled s)
-    (cond (eqb (newBlockCode f t s) 0) (step Read (readBlock f t s)) (step (Refused (newBlockCode f t s)) s)))
+    (cond (settledBy g f t s) (step Settled s)
+    (cond (eqb new 0) (step Read (readBlockBy g f t s)) (step (Refused new) s)))
     (step (Refused (callCode f t s)) s)
+
+abbrev pub readCall : List ℤ → List ℤ → Session → Step
+readCall = readCallBy terms
 
 -- Take. "It answers the first held pair, if secured, and moves it out. "Finished" if .. Else "not yet". Only an
 -- answered pair changes the record."
-unfoldable pub takeCall : List ℤ → List ℤ → Session → Step
-takeCall f t s =
+unfoldable pub takeCallBy : (Query → Terms) → List ℤ → List ℤ → Session → Step
+takeCallBy g f t s =
     cond (eqb (callCode f t s) 0)
-    (cond (givesPair f t s) (step (Given (firstHeld s)) (movedOut s))
+    (cond (givesPairBy g f t s) (step (Given (firstHeld s)) (movedOut s))
     (cond (finished s) (step Finished s) (step NotYet s)))
     (step (Refused (callCode f t s)) s)
+
+abbrev pub takeCall : List ℤ → List ℤ → Session → Step
+takeCall = takeCallBy terms
 
 -- Show. "Nothing read, or a refusal by 5 or 4: the empty part at the front of the field table, and no number goes with
 -- it."

@@ -9,20 +9,20 @@ use lib.IntN.{ℤ}
 use borrow.Author.Tests.{lt-ltb, le-ltb, ne-eqb}
 use Rattle.lists.specs.Bools.{and-false}
 use Rattle.rules.specs.declared.Session.{Session}
-use Rattle.rules.specs.Tables.{Block}
-use Rattle.rules.specs.Session.{firstScore, lastScore, fieldReadOut, trimReadOut, heldPairs, ceiling}
-use Rattle.rules.specs.Read.{scoreDrop, fieldNext, lowest, skipped}
+use Rattle.rules.specs.Tables.{Terms, terms, Block}
+use Rattle.rules.specs.Session.{firstScore, lastScore, fieldReadOut, trimReadOut, heldPairs, ceilingBy, ceiling}
+use Rattle.rules.specs.Read.{scoreDrop, fieldNextBy, fieldNext, lowest, skippedBy, skipped}
 
 -- ---- the ceiling: a table that is read out has no part in it
 
 pub ceiling-trim-read-out : (f t : List ℤ) (s : Session) → trimReadOut s ≡ true → fieldReadOut s ≡ false →
-    ceiling f t s ≡ lastScore f (s .depth .field .0) + firstScore t
-unfolding ceiling
+    ceiling f t s ≡ lastScore (terms (s .query) .field) f (s .depth .field .0) + firstScore (terms (s .query) .trim) t
+unfolding ceilingBy
 ceiling-trim-read-out f t s h k = simp (h, k) (omega arith)
 
 pub ceiling-field-read-out : (f t : List ℤ) (s : Session) → trimReadOut s ≡ false → fieldReadOut s ≡ true →
-    ceiling f t s ≡ firstScore f + lastScore t (s .depth .trim .0)
-unfolding ceiling
+    ceiling f t s ≡ firstScore (terms (s .query) .field) f + lastScore (terms (s .query) .trim) t (s .depth .trim .0)
+unfolding ceilingBy
 ceiling-field-read-out f t s h k = simp (h, k) (omega arith)
 
 -- ---- the table read next, both having been read and neither to its end
@@ -35,41 +35,52 @@ module _ (f t : List ℤ) (s : Session) (p : 0 < s .depth .field .0) (q : 0 < s 
   abbrev e : ℕ
   e = s .depth .trim .0
 
-  pub smaller-drop-field : scoreDrop f d < scoreDrop t e → fieldNext f t s ≡ true
-  unfolding fieldNext
-  smaller-drop-field l =
-      simp (ne-eqb d 0 (omega arith), ne-eqb e 0 (omega arith), h, k, lt-ltb (scoreDrop f d) (scoreDrop t e) l)
+  -- the drops of the two tables
+  abbrev x : ℕ
+  x = scoreDrop (terms (s .query) .field) f d
 
-  pub smaller-drop-trim : scoreDrop t e < scoreDrop f d → fieldNext f t s ≡ false
-  unfolding fieldNext
+  abbrev y : ℕ
+  y = scoreDrop (terms (s .query) .trim) t e
+
+  pub smaller-drop-field : x < y → fieldNext f t s ≡ true
+  unfolding fieldNextBy
+  smaller-drop-field l =
+      simp (ne-eqb d 0 (omega arith), ne-eqb e 0 (omega arith), h, k, lt-ltb x y l)
+
+  pub smaller-drop-trim : y < x → fieldNext f t s ≡ false
+  unfolding fieldNextBy
   smaller-drop-trim l =
       simp (
         ne-eqb d 0 (omega arith),
         ne-eqb e 0 (omega arith),
         h,
         k,
-        le-ltb (scoreDrop f d) (scoreDrop t e) (omega arith),
-        lt-ltb (scoreDrop t e) (scoreDrop f d) l,
+        le-ltb x y (omega arith),
+        lt-ltb y x l,
       )
 
   -- at equal drops the one with fewer rows read, still equal the field table
-  pub equal-drops : scoreDrop f d ≡ scoreDrop t e → fieldNext f t s ≡ leb d e
-  unfolding fieldNext
+  pub equal-drops : x ≡ y → fieldNext f t s ≡ leb d e
+  unfolding fieldNextBy
   equal-drops l =
       simp (
         ne-eqb d 0 (omega arith),
         ne-eqb e 0 (omega arith),
         h,
         k,
-        le-ltb (scoreDrop f d) (scoreDrop t e) (omega arith),
-        le-ltb (scoreDrop t e) (scoreDrop f d) (omega arith),
+        le-ltb x y (omega arith),
+        le-ltb y x (omega arith),
       )
 
 -- ---- a block pair whose first scores add to just the lowest held sum is joined
 
-pub joined-at-equality : (s : Session) (x y : Block) → firstScore (x .rows) + firstScore (y .rows)
-    ≡ lowest (heldPairs s) → skipped s x y ≡ false
-unfolding skipped
-joined-at-equality s x y h =
-    simp (le-ltb (firstScore (x .rows) + firstScore (y .rows)) (lowest (heldPairs s)) (omega arith))
-    (and-false (eqb (s .out + s .held) (s .query .k)))
+module _ (s : Session) (x y : Block) where
+  -- the first scores of both, added
+  abbrev firstScores : ℕ
+  firstScores = firstScore (terms (s .query) .field) (x .rows) + firstScore (terms (s .query) .trim) (y .rows)
+
+  pub joined-at-equality : firstScores ≡ lowest (heldPairs s) → skipped s x y ≡ false
+  unfolding skippedBy
+  joined-at-equality h =
+      simp (le-ltb firstScores (lowest (heldPairs s)) (omega arith))
+      (and-false (eqb (s .out + s .held) (s .query .k)))

@@ -9,6 +9,7 @@ use lib.ListN.{length, replicate}
 use Rattle.rules.specs.declared.Pair.{Pair}
 use Rattle.rules.specs.declared.Query.{Query}
 use Rattle.rules.specs.declared.Session.{Session}
+use Rattle.rules.specs.declared.Step.{Step}
 use Rattle.rules.specs.declared.Answer.{Answer}
 use Rattle.rules.specs.Tables.{natOf, row, squaredDistance}
 use Rattle.rules.specs.Numbers.{tableSize, cutFile, badColumn, unless, first, said, saidOf, refusal}
@@ -21,12 +22,15 @@ use Rattle.lists.specs.Lists.{all}
 abbrev pub wasRead : Answer → Bool
 wasRead a = said a .accepted && eqb (said a .number) 0
 
--- "It .. reads until settled": at most n reads
-unfoldable pub readUntilSettled : ℕ → List ℤ → List ℤ → Session → Session
-readUntilSettled zero f t s = s
-readUntilSettled (suc n) f t s =
-    let r = readCall f t s in
-    elim (wasRead (r .answer)) [ true ↦ readUntilSettled n f t (r .session) | false ↦ s ]
+-- "It .. reads until settled": at most n reads, each the call that is given
+unfoldable pub readUntilSettledBy : (Session → Step) → ℕ → Session → Session
+readUntilSettledBy read zero s = s
+readUntilSettledBy read (suc n) s =
+    let r = read s in
+    elim (wasRead (r .answer)) [ true ↦ readUntilSettledBy read n (r .session) | false ↦ s ]
+
+abbrev pub readUntilSettled : ℕ → List ℤ → List ℤ → Session → Session
+readUntilSettled n f t = readUntilSettledBy (readCall f t) n
 
 -- the pair that three values are
 abbrev pub asPair : List ℕ → List Pair
@@ -43,11 +47,14 @@ abbrev pub wasGiven : Answer → Bool
 wasGiven a = ltb 0 (length (given a))
 
 -- "and takes until finished": the pairs brought out by at most n takes
-unfoldable pub takeUntilFinished : ℕ → List ℤ → List ℤ → Session → List Pair
-takeUntilFinished zero f t s = []
-takeUntilFinished (suc n) f t s =
-    let r = takeCall f t s in
-    elim (wasGiven (r .answer)) [ true ↦ given (r .answer) ++ takeUntilFinished n f t (r .session) | false ↦ [] ]
+unfoldable pub takeUntilFinishedBy : (Session → Step) → ℕ → Session → List Pair
+takeUntilFinishedBy take zero s = []
+takeUntilFinishedBy take (suc n) s =
+    let r = take s in
+    elim (wasGiven (r .answer)) [ true ↦ given (r .answer) ++ takeUntilFinishedBy take n (r .session) | false ↦ [] ]
+
+abbrev pub takeUntilFinished : ℕ → List ℤ → List ℤ → Session → List Pair
+takeUntilFinished n f t = takeUntilFinishedBy (takeCall f t) n
 
 -- the record when it is settled; each read reads a row at least, so that the bound is never what ends it
 unfoldable pub settledSession : Query → List ℤ → List ℤ → Session

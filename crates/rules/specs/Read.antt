@@ -7,28 +7,34 @@ use lib.IntN.{ℤ}
 use lib.ListN.{length, take}
 use Rattle.lists.specs.Lists.{sort}
 use Rattle.rules.specs.declared.Pair.{Pair}
+use Rattle.rules.specs.declared.Query.{Query}
 use Rattle.rules.specs.declared.Session.{Session}
-use Rattle.rules.specs.Tables.{part, ahead, Block, qualifying}
+use Rattle.rules.specs.Tables.{Row, Terms, terms, part, ahead, Block, qualifying}
 use Rattle.rules.specs.Session.{places, heldPairs, firstScore, lastScore, fieldReadOut, trimReadOut}
 
 -- "the .. drop (HF - LF against HT - LT)"
-abbrev pub scoreDrop : List ℤ → ℕ → ℕ
-scoreDrop t depth = firstScore t - lastScore t depth
+abbrev pub scoreDrop : (Row → ℕ) → List ℤ → ℕ → ℕ
+scoreDrop score t depth = firstScore score t - lastScore score t depth
 
 -- Whether the field table is read next. "it chooses the field table if its depth is 0; else trim if its depth is 0;
 -- else the one not read out, if the other is. Else it takes the table with the smaller drop, at equal drops the one
 -- with fewer rows read, and still equal the field table."
-unfoldable pub fieldNext : List ℤ → List ℤ → Session → Bool
-fieldNext f t s =
+unfoldable pub fieldNextBy : (Query → Terms) → List ℤ → List ℤ → Session → Bool
+fieldNextBy g f t s =
     let d = s .depth .field .0 in
     let e = s .depth .trim .0 in
+    let x = scoreDrop (g (s .query) .field) f d in
+    let y = scoreDrop (g (s .query) .trim) t e in
     cond (eqb d 0) true
     (cond (eqb e 0) false
     (cond (trimReadOut s) true
     (cond (fieldReadOut s) false
-    (cond (ltb (scoreDrop f d) (scoreDrop t e)) true
-    (cond (ltb (scoreDrop t e) (scoreDrop f d)) false
+    (cond (ltb x y) true
+    (cond (ltb y x) false
     (leb d e))))))
+
+abbrev pub fieldNext : List ℤ → List ℤ → Session → Bool
+fieldNext = fieldNextBy terms
 
 -- "It reads one block, or the rows that remain": the depth after
 abbrev pub nextDepth : ℕ → ℕ → ℕ → ℕ
@@ -54,10 +60,14 @@ lowest (p ∷ q ∷ l) = min (p .sum) (lowest (q ∷ l))
 
 -- "A block pair is skipped if out plus held is k and the first scores of both blocks add to less than the lowest
 -- held sum"
-unfoldable pub skipped : Session → Block → Block → Bool
-skipped s x y =
+unfoldable pub skippedBy : (Query → Terms) → Session → Block → Block → Bool
+skippedBy g s x y =
+    let w = g (s .query) in
     eqb (s .out + s .held) (s .query .k)
-    && ltb (firstScore (x .rows) + firstScore (y .rows)) (lowest (heldPairs s))
+    && ltb (firstScore (w .field) (x .rows) + firstScore (w .trim) (y .rows)) (lowest (heldPairs s))
+
+abbrev pub skipped : Session → Block → Block → Bool
+skipped = skippedBy terms
 
 -- "the best-ranked (at most k less those out) of those held and the qualifying pairs just met"
 unfoldable pub bestHeld : Session → List Pair → List Pair
@@ -78,17 +88,23 @@ holding s l =
     }
 
 -- one block pair, field and trim: "skipped ..; else it is joined and counted"
-unfoldable pub meet : Session → Block → Block → Session
-meet s x y = cond (skipped s x y) s (holding s (bestHeld s (qualifying (s .query .radius) x y)))
+unfoldable pub meetBy : (Query → Terms) → Session → Block → Block → Session
+meetBy g s x y = cond (skippedBy g s x y) s (holding s (bestHeld s (qualifying (g (s .query)) x y)))
+
+abbrev pub meet : Session → Block → Block → Session
+meet = meetBy terms
 
 -- The new block "meets the blocks already read of the other table in their order": the first n of them. The flag says
 -- whether the new block is of the field table.
-unfoldable pub meetBlocks : Bool → Session → Block → List ℤ → ℕ → ℕ → Session
-meetBlocks field s new t depth zero = s
-meetBlocks field s new t depth (suc n) =
-    let r = meetBlocks field s new t depth n in
+unfoldable pub meetBlocksBy : (Query → Terms) → Bool → Session → Block → List ℤ → ℕ → ℕ → Session
+meetBlocksBy g field s new t depth zero = s
+meetBlocksBy g field s new t depth (suc n) =
+    let r = meetBlocksBy g field s new t depth n in
     let old = blockAt t (s .query .block) depth n in
-    meet r (cond field new old) (cond field old new)
+    meetBy g r (cond field new old) (cond field old new)
+
+abbrev pub meetBlocks : Bool → Session → Block → List ℤ → ℕ → ℕ → Session
+meetBlocks = meetBlocksBy terms
 
 -- the record with one table read down to depth e, and marked as the table read last
 unfoldable pub readTo : Bool → ℕ → Session → Session
@@ -116,12 +132,19 @@ abbrev pub newDepth : Bool → Session → ℕ
 newDepth field s = nextDepth (s .query .block) (cond field (s .rows .field .0) (s .rows .trim .0)) (oldDepth field s)
 
 -- the record after one block of the field table, or of the trim table, was read and met the other table's
-unfoldable pub readTable : Bool → List ℤ → List ℤ → Session → Session
-readTable field f t s =
+unfoldable pub readTableBy : (Query → Terms) → Bool → List ℤ → List ℤ → Session → Session
+readTableBy g field f t s =
     let new = rowsBetween (cond field f t) (oldDepth field s) (newDepth field s) in
     let depth = cond field (s .depth .trim .0) (s .depth .field .0) in
-    readTo field (newDepth field s) (meetBlocks field s new (cond field t f) depth (blockCount (s .query .block) depth))
+    readTo field (newDepth field s)
+    (meetBlocksBy g field s new (cond field t f) depth (blockCount (s .query .block) depth))
+
+abbrev pub readTable : Bool → List ℤ → List ℤ → Session → Session
+readTable = readTableBy terms
 
 -- the record after an unsettled session's read
+abbrev pub readBlockBy : (Query → Terms) → List ℤ → List ℤ → Session → Session
+readBlockBy g f t s = readTableBy g (fieldNextBy g f t s) f t s
+
 abbrev pub readBlock : List ℤ → List ℤ → Session → Session
-readBlock f t s = readTable (fieldNext f t s) f t s
+readBlock = readBlockBy terms

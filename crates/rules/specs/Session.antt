@@ -11,7 +11,7 @@ use Rattle.rules.specs.declared.TrimRows.{TrimRows}
 use Rattle.rules.specs.declared.Pair.{Pair}
 use Rattle.rules.specs.declared.Query.{Query}
 use Rattle.rules.specs.declared.Session.{Session}
-use Rattle.rules.specs.Tables.{row}
+use Rattle.rules.specs.Tables.{Row, row, Terms, terms}
 
 abbrev pub noPair : Pair
 noPair = record { sum = 0; field = 0; trim = 0 }
@@ -46,13 +46,15 @@ zeros = opened (record { k = 0; block = 0; radius = 0 }) (record { 0 = 0 }) (rec
 abbrev pub heldPairs : Session → List Pair
 heldPairs s = take (s .held) (s .pairs)
 
+-- Scores below are what a row adds to a sum: of one table's rows, by its terms.
+
 -- "HF and HT are the scores of the first rows"
-abbrev pub firstScore : List ℤ → ℕ
-firstScore t = row t 0 .score
+abbrev pub firstScore : (Row → ℕ) → List ℤ → ℕ
+firstScore score t = score (row t 0)
 
 -- "LF and LT those of the last rows read"
-abbrev pub lastScore : List ℤ → ℕ → ℕ
-lastScore t depth = row t (depth - 1) .score
+abbrev pub lastScore : (Row → ℕ) → List ℤ → ℕ → ℕ
+lastScore score t depth = score (row t (depth - 1))
 
 abbrev pub fieldReadOut : Session → Bool
 fieldReadOut s = eqb (s .depth .field .0) (s .rows .field .0)
@@ -69,25 +71,39 @@ aTableIsEmpty s = eqb (s .rows .field .0) 0 || eqb (s .rows .trim .0) 0
 abbrev pub aDepthIsZero : Session → Bool
 aDepthIsZero s = eqb (s .depth .field .0) 0 || eqb (s .depth .trim .0) 0
 
+-- A rule that looks at scores is stated over the terms that a query comes to, under a name that ends in By; the rule
+-- itself is it at `terms`.
+
 -- "Ceiling: the higher of HF + LT, if trim rows are unread, and LF + HT, if field rows are unread."
 -- The threshold that a held pair is judged by; a part that is not there counts as 0.
-unfoldable pub ceiling : List ℤ → List ℤ → Session → ℕ
-ceiling f t s =
+unfoldable pub ceilingBy : (Query → Terms) → List ℤ → List ℤ → Session → ℕ
+ceilingBy g f t s =
+    let w = g (s .query) in
     max
-    (cond (trimReadOut s) 0 (firstScore f + lastScore t (s .depth .trim .0)))
-    (cond (fieldReadOut s) 0 (lastScore f (s .depth .field .0) + firstScore t))
+    (cond (trimReadOut s) 0 (firstScore (w .field) f + lastScore (w .trim) t (s .depth .trim .0)))
+    (cond (fieldReadOut s) 0 (lastScore (w .field) f (s .depth .field .0) + firstScore (w .trim) t))
+
+abbrev pub ceiling : List ℤ → List ℤ → Session → ℕ
+ceiling = ceilingBy terms
 
 -- "While a depth is 0 and both tables have rows, nothing is secured. When both are read out, everything held is
 -- secured. Otherwise a held pair is secured if its sum is at least the ceiling."
-unfoldable pub secured : List ℤ → List ℤ → Session → Pair → Bool
-secured f t s p =
-    cond (aDepthIsZero s && not (aTableIsEmpty s)) false (cond (bothReadOut s) true (leb (ceiling f t s) (p .sum)))
+unfoldable pub securedBy : (Query → Terms) → List ℤ → List ℤ → Session → Pair → Bool
+securedBy g f t s p =
+    cond (aDepthIsZero s && not (aTableIsEmpty s)) false
+    (cond (bothReadOut s) true (leb (ceilingBy g f t s) (p .sum)))
+
+abbrev pub secured : List ℤ → List ℤ → Session → Pair → Bool
+secured = securedBy terms
 
 -- "Settled: a table is empty, or both are read out, or k pairs are out, or out plus held is k and every held pair
 -- is secured."
-unfoldable pub settled : List ℤ → List ℤ → Session → Bool
-settled f t s =
+unfoldable pub settledBy : (Query → Terms) → List ℤ → List ℤ → Session → Bool
+settledBy g f t s =
     aTableIsEmpty s
     || (bothReadOut s
     || (eqb (s .out) (s .query .k)
-    || (eqb (s .out + s .held) (s .query .k) && every (secured f t s) (heldPairs s))))
+    || (eqb (s .out + s .held) (s .query .k) && every (securedBy g f t s) (heldPairs s))))
+
+abbrev pub settled : List ℤ → List ℤ → Session → Bool
+settled = settledBy terms

@@ -8,14 +8,15 @@ use lib.ListN.{take}
 use Rattle.lists.specs.Lists.{best}
 use Rattle.rules.specs.declared.FieldRows.{FieldRows}
 use Rattle.rules.specs.declared.TrimRows.{TrimRows}
-use Rattle.rules.specs.Tables.{rowCount, legal, Block, qualifying}
+use Rattle.rules.specs.declared.Query.{Query}
+use Rattle.rules.specs.Tables.{rowCount, legal, Terms, terms, Block, qualifying}
 
 abbrev pub whole : List ℤ → Block
 whole t = record { start = 0; rows = t }
 
 -- the sums of all qualifying pairs of two tables
-unfoldable pub qualifyingSums : ℕ → List ℤ → List ℤ → List ℕ
-qualifyingSums radius f t = map (λ p. p .sum) (qualifying radius (whole f) (whole t))
+unfoldable pub qualifyingSums : Query → List ℤ → List ℤ → List ℕ
+qualifyingSums q f t = map (λ p. p .sum) (qualifying (terms q) (whole f) (whole t))
 
 -- "all legal tables that begin with these rows, or are these rows", the first n of t: whether u is such a table.
 -- "A table whose last row is within the reading is known to end there."
@@ -24,13 +25,13 @@ pub record Begins (n : ℕ) (t u : List ℤ) : Type 0 where
   pub alike : take (4 * n) u ≡ take (4 * n) t
   pub ends : rowCount t ≤ n → u ≡ t
 
--- A reading of p field rows and q trim rows "is sure of k if all legal tables that begin with these rows, or are these
+-- A reading of m field rows and n trim rows "is sure of k if all legal tables that begin with these rows, or are these
 -- rows, have the same list of k highest qualifying sums (fewer where fewer qualify)".
-unfoldable pub Sure : ℕ → ℕ → List ℤ → List ℤ → FieldRows → TrimRows → Type 0
-Sure k radius f t p q =
+unfoldable pub Sure : Query → List ℤ → List ℤ → FieldRows → TrimRows → Type 0
+Sure q f t m n =
     (f₁ f₂ t₁ t₂ : List ℤ) →
-    Begins (p .0) f f₁ →
-    Begins (p .0) f f₂ →
-    Begins (q .0) t t₁ →
-    Begins (q .0) t t₂ →
-    best k (qualifyingSums radius f₁ t₁) ≡ best k (qualifyingSums radius f₂ t₂)
+    Begins (m .0) f f₁ →
+    Begins (m .0) f f₂ →
+    Begins (n .0) t t₁ →
+    Begins (n .0) t t₂ →
+    best (q .k) (qualifyingSums q f₁ t₁) ≡ best (q .k) (qualifyingSums q f₂ t₂)

@@ -9,6 +9,7 @@ use lib.ListN.{length, getD, take, drop}
 use Rattle.lists.specs.Lists.{keep, every, range, each}
 use Rattle.rules.specs.declared.Shade.{Shade}
 use Rattle.rules.specs.declared.Pair.{Pair}
+use Rattle.rules.specs.declared.Query.{Query}
 
 -- "four to a row": number j of row i + 1 (rows are numbered from 1)
 abbrev pub num : List ℤ → ℕ → ℕ → ℤ
@@ -81,9 +82,24 @@ squaredDistance x y = gap (x .a) (y .a) * gap (x .a) (y .a) + gap (x .b) (y .b) 
 unfoldable pub qualifies : ℕ → Shade → Shade → Bool
 qualifies radius x y = leb (squaredDistance x y) (radius * radius)
 
+-- What the rules ask of rows: what a field row and a trim row add to the sum of a pair, and whether the two qualify.
+pub record Terms : Type 0 where
+  pub field : Row → ℕ
+  pub trim : Row → ℕ
+  pub near : Row → Row → Bool
+
+-- the terms of a query: scores as they are, shades within its radius
+abbrev pub terms : Query → Terms
+terms q =
+    record {
+      field = λ x. x .score;
+      trim = λ y. y .score;
+      near = λ x y. qualifies (q .radius) (x .shade) (y .shade);
+    }
+
 -- "Its sum is the two scores added."
-unfoldable pub pairSum : Row → Row → ℕ
-pairSum x y = x .score + y .score
+unfoldable pub pairSum : Terms → Row → Row → ℕ
+pairSum w x y = w .field x + w .trim y
 
 -- "ranked by higher sum, then lower field row, then lower trim row": whether p stands ahead of q
 unfoldable pub ahead : Pair → Pair → Bool
@@ -98,15 +114,13 @@ pub record Block : Type 0 where
   pub rows : List ℤ
 
 -- the pair of row i + 1 of a field block and row j + 1 of a trim block
-unfoldable pub pairAt : Block → Block → ℕ → ℕ → Pair
-pairAt x y i j =
-    record { sum = pairSum (row (x .rows) i) (row (y .rows) j); field = x .start + i + 1; trim = y .start + j + 1 }
+unfoldable pub pairAt : Terms → Block → Block → ℕ → ℕ → Pair
+pairAt w x y i j =
+    record { sum = pairSum w (row (x .rows) i) (row (y .rows) j); field = x .start + i + 1; trim = y .start + j + 1 }
 
 -- the qualifying pairs of the rows of a field block and of a trim block
-unfoldable pub qualifying : ℕ → Block → Block → List Pair
-qualifying radius x y =
+unfoldable pub qualifying : Terms → Block → Block → List Pair
+qualifying w x y =
     each
-    (λ i.
-    map (pairAt x y i)
-    (keep (λ j. qualifies radius (row (x .rows) i .shade) (row (y .rows) j .shade)) (range 0 (rowCount (y .rows)))))
+    (λ i. map (pairAt w x y i) (keep (λ j. w .near (row (x .rows) i) (row (y .rows) j)) (range 0 (rowCount (y .rows)))))
     (range 0 (rowCount (x .rows)))

@@ -6,17 +6,21 @@ use lib.Dec.{ltb, eqb}
 use lib.IntN.{ℤ}
 use lib.ListN.{getD, drop}
 use Rattle.rules.specs.declared.Pair.{Pair}
+use Rattle.rules.specs.declared.Query.{Query}
 use Rattle.rules.specs.declared.Session.{Session}
-use Rattle.rules.specs.Tables.{part}
-use Rattle.rules.specs.Session.{noPair, secured, aTableIsEmpty, bothReadOut}
+use Rattle.rules.specs.Tables.{Terms, terms, part}
+use Rattle.rules.specs.Session.{noPair, securedBy, aTableIsEmpty, bothReadOut}
 
 -- "the first held pair"
 abbrev pub firstHeld : Session → Pair
 firstHeld s = getD (s .pairs) 0 noPair
 
 -- "the first held pair, if secured"
-unfoldable pub givesPair : List ℤ → List ℤ → Session → Bool
-givesPair f t s = ltb 0 (s .held) && secured f t s (firstHeld s)
+unfoldable pub givesPairBy : (Query → Terms) → List ℤ → List ℤ → Session → Bool
+givesPairBy g f t s = ltb 0 (s .held) && securedBy g f t s (firstHeld s)
+
+abbrev pub givesPair : List ℤ → List ℤ → Session → Bool
+givesPair = givesPairBy terms
 
 -- "and moves it out": the held pairs move up one place, and the place that is freed becomes zeros
 unfoldable pub movedOut : Session → Session

@@ -38,7 +38,7 @@ pub query : ℕ → ℕ → Query
 query k block = record { k = k; block = block; radius = 1 }
 
 pub right : Query → List ℤ → List ℤ → Bool
-right q f t = same (map (λ p. p .sum) (list q f t)) (best (q .k) (qualifyingSums (q .radius) f t))
+right q f t = same (map (λ p. p .sum) (list q f t)) (best (q .k) (qualifyingSums q f t))
 
 pub allRight : Query → List (List ℤ) → List (List ℤ) → Bool
 allRight q fs ts = every (λ f. every (right q f) ts) fs

@@ -14,7 +14,7 @@ use Rattle.rules.specs.declared.Step.{Step}
 use Rattle.rules.specs.declared.Answer.the-variants.{Given}
 use Rattle.rules.specs.Session.{noPair, placeCount, places}
 use Rattle.rules.specs.Calls.{takeCall}
-use Rattle.rules.specs.Query.{wasGiven, takeUntilFinished}
+use Rattle.rules.specs.Query.{wasGiven, takeUntilFinishedBy, takeUntilFinished}
 use Rattle.run_query.specs.declared.TakenOut.{TakenOut}
 use Rattle.run_query.specs.Until.{take-more, take-ends}
 use Rattle.run_query.specs.Outcomes.{takenOut}
@@ -92,7 +92,7 @@ module _ {f t : List ℤ} {s : Session} {n : ℕ} {pairs : List Pair} {r : Sessi
   taking-stops none = taking-ends (take-ends (placeCount - n) f t r none)
 
   pub taking-full : placeCount ≤ n → _≡_ {A = TakenOut} (record { pairs = pairs; count = n }) (takenOut f t s)
-  unfolding takeUntilFinished
+  unfolding takeUntilFinishedBy
   taking-full all =
       let m : placeCount - n ≡ 0 = omega arith in
       taking-ends (ap (λ (k : ℕ). takeUntilFinished k f t r) m)

@@ -16,7 +16,9 @@ use Rattle.rules.specs.declared.Answer.the-variants.{Given}
 use Rattle.rules.specs.Session.{placeCount}
 use Rattle.rules.specs.Take.{firstHeld}
 use Rattle.rules.specs.Calls.{openCall, readCall, takeCall}
-use Rattle.rules.specs.Query.{wasRead, given, wasGiven, readUntilSettled, takeUntilFinished, settledSession, list}
+use Rattle.rules.specs.Query.{wasRead, given, wasGiven, readUntilSettledBy, readUntilSettled, takeUntilFinishedBy}
+use Rattle.rules.specs.Query.{takeUntilFinished}
+use Rattle.rules.specs.Query.{settledSession, list}
 use Rattle.session_laws.specs.Calls.{was-given-out}
 use Rattle.session_laws.specs.Read.{unreadRows}
 use Rattle.session_laws.specs.Until.{fewer-unread, reads-end, wanted, fewer-wanted, takes-end, list-bound}
@@ -39,7 +41,7 @@ readOn f t s = readUntilSettled (suc (unreadRows s)) f t s
 
 module _ (f t : List ℤ) (s : Session) where
   pub read-more : wasRead (readCall f t s .answer) ≡ true → readOn f t (readCall f t s .session) ≡ readOn f t s
-  unfolding readOn readUntilSettled
+  unfolding readOn readUntilSettledBy
   read-more h =
       let n = fewer-unread f t s h in
       let r = readCall f t s .session in
@@ -47,7 +49,7 @@ module _ (f t : List ℤ) (s : Session) where
       ∙ sym (chosen (readUntilSettled (unreadRows s) f t r) s (wasRead (readCall f t s .answer)) h)
 
   pub read-ends : wasRead (readCall f t s .answer) ≡ false → s ≡ readOn f t s
-  unfolding readOn readUntilSettled
+  unfolding readOn readUntilSettledBy
   read-ends h =
       let r = readCall f t s in
       sym (other (readUntilSettled (unreadRows s) f t (r .session)) s (wasRead (r .answer)) h)
@@ -63,7 +65,7 @@ settled-on q f t =
 
 pub take-more : (n : ℕ) (f t : List ℤ) (s : Session) (p : Pair) → takeCall f t s .answer ≡ Given p →
     takeUntilFinished (suc n) f t s ≡ p ∷ takeUntilFinished n f t (takeCall f t s .session)
-unfolding takeUntilFinished
+unfolding takeUntilFinishedBy
 take-more n f t s p h =
     let a = takeCall f t s .answer in
     let rest = takeUntilFinished n f t (takeCall f t s .session) in
@@ -72,7 +74,7 @@ take-more n f t s p h =
 
 pub take-ends : (n : ℕ) (f t : List ℤ) (s : Session) → wasGiven (takeCall f t s .answer) ≡ false →
     takeUntilFinished n f t s ≡ []
-unfolding takeUntilFinished
+unfolding takeUntilFinishedBy
 take-ends zero f t s h = refl
 take-ends (suc n) f t s h =
     let a = takeCall f t s .answer in
@@ -120,7 +122,7 @@ list-taken q f t = go (wasGiven (takeCall f t (settledSession q f t) .answer)) r
 
 -- so the list has at most 64 pairs
 takes-few : (n : ℕ) (f t : List ℤ) (s : Session) → length (takeUntilFinished n f t s) ≤ n
-unfolding takeUntilFinished
+unfolding takeUntilFinishedBy
 takes-few zero f t s = omega arith
 takes-few (suc n) f t s = go (wasGiven (takeCall f t s .answer)) refl (takes-few n f t (takeCall f t s .session))
   where

@@ -16,11 +16,13 @@ use Rattle.lists.specs.Bools.{or-none-out}
 use Rattle.lists.specs.Parts.{every-same}
 use Rattle.rules.specs.declared.Pair.{Pair}
 use Rattle.rules.specs.declared.Session.{Session}
-use Rattle.rules.specs.Tables.{num, mostRows, rowCount, rowInRange, rowInOrder, legal, natOf, row, part, Block}
+use Rattle.rules.specs.Tables.{num, mostRows, rowCount, rowInRange, rowInOrder, legal, natOf, row, Terms, terms}
+use Rattle.rules.specs.Tables.{part, Block}
 use Rattle.rules.specs.Session.{heldPairs, firstScore, lastScore, fieldReadOut, trimReadOut, bothReadOut}
-use Rattle.rules.specs.Session.{aTableIsEmpty, aDepthIsZero, ceiling, secured, settled}
-use Rattle.rules.specs.Read.{scoreDrop, fieldNext, rowsBetween, blockCount, meet, meetBlocks, readTo}
-use Rattle.rules.specs.Read.{oldDepth, newDepth, readTable}
+use Rattle.rules.specs.Session.{aTableIsEmpty, aDepthIsZero, ceilingBy, ceiling, securedBy, secured, settledBy, settled}
+use Rattle.rules.specs.Read.{scoreDrop, fieldNextBy, fieldNext, rowsBetween, blockCount, meet, meetBlocksBy, meetBlocks}
+use Rattle.rules.specs.Read.{readTo}
+use Rattle.rules.specs.Read.{oldDepth, newDepth, readTableBy, readTable}
 use Rattle.session_laws.specs.Tables.{RowFits, legal-in}
 
 -- two tables with the same first n rows
@@ -116,21 +118,24 @@ module _ (f t f′ t′ : List ℤ) (s : Session) (ef : SameRows (s .depth .fiel
   abbrev e : ℕ
   e = s .depth .trim .0
 
+  abbrev w : Terms
+  w = terms (s .query)
+
   module _ (hd : 1 ≤ d) (he : 1 ≤ e) where
-    first-field : firstScore f′ ≡ firstScore f
-    first-field = ap (λ r. r .score) (same-row d f f′ ef 0 (omega arith))
+    first-field : firstScore (w .field) f′ ≡ firstScore (w .field) f
+    first-field = ap (w .field) (same-row d f f′ ef 0 (omega arith))
 
-    last-field : lastScore f′ d ≡ lastScore f d
-    last-field = ap (λ r. r .score) (same-row d f f′ ef (d - 1) (omega arith))
+    last-field : lastScore (w .field) f′ d ≡ lastScore (w .field) f d
+    last-field = ap (w .field) (same-row d f f′ ef (d - 1) (omega arith))
 
-    first-trim : firstScore t′ ≡ firstScore t
-    first-trim = ap (λ r. r .score) (same-row e t t′ et 0 (omega arith))
+    first-trim : firstScore (w .trim) t′ ≡ firstScore (w .trim) t
+    first-trim = ap (w .trim) (same-row e t t′ et 0 (omega arith))
 
-    last-trim : lastScore t′ e ≡ lastScore t e
-    last-trim = ap (λ r. r .score) (same-row e t t′ et (e - 1) (omega arith))
+    last-trim : lastScore (w .trim) t′ e ≡ lastScore (w .trim) t e
+    last-trim = ap (w .trim) (same-row e t t′ et (e - 1) (omega arith))
 
     same-ceiling : ceiling f′ t′ s ≡ ceiling f t s
-    unfolding ceiling
+    unfolding ceilingBy
     same-ceiling = rw (first-field, last-field, first-trim, last-trim)
 
   some-field : aDepthIsZero s ≡ false → 1 ≤ d
@@ -140,7 +145,7 @@ module _ (f t f′ t′ : List ℤ) (s : Session) (ef : SameRows (s .depth .fiel
   some-trim z = let k = eqb-false e 0 (or-none-out (eqb d 0) (eqb e 0) z .1) in omega arith
 
   pub same-secured : aTableIsEmpty s ≡ false → (p : Pair) → secured f′ t′ s p ≡ secured f t s p
-  unfolding secured
+  unfolding securedBy
   same-secured live p = go (aDepthIsZero s) refl
     where
       judged : Bool → ℕ → Bool
@@ -151,7 +156,7 @@ module _ (f t f′ t′ : List ℤ) (s : Session) (ef : SameRows (s .depth .fiel
       go false z = ap (judged false) (same-ceiling (some-field z) (some-trim z))
 
   pub same-settled : settled f′ t′ s ≡ settled f t s
-  unfolding settled
+  unfolding settledBy
   same-settled = go (aTableIsEmpty s) refl
     where
       rule : Bool → Bool → Bool
@@ -166,7 +171,7 @@ module _ (f t f′ t′ : List ℤ) (s : Session) (ef : SameRows (s .depth .fiel
           (every-same (secured f′ t′ s) (secured f t s) (heldPairs s) (λ p m. same-secured z p))
 
   pub same-next : fieldNext f′ t′ s ≡ fieldNext f t s
-  unfolding fieldNext
+  unfolding fieldNextBy
   same-next = go (eqb d 0) (eqb e 0) refl refl
     where
       rule : Bool → Bool → ℕ → ℕ → Bool
@@ -177,7 +182,8 @@ module _ (f t f′ t′ : List ℤ) (s : Session) (ef : SameRows (s .depth .fiel
           (cond (fieldReadOut s) false (cond (ltb m n) true (cond (ltb n m) false (leb d e))))))
 
       go : (x y : Bool) → eqb d 0 ≡ x → eqb e 0 ≡ y
-          → rule x y (scoreDrop f′ d) (scoreDrop t′ e) ≡ rule x y (scoreDrop f d) (scoreDrop t e)
+          → rule x y (scoreDrop (w .field) f′ d) (scoreDrop (w .trim) t′ e)
+          ≡ rule x y (scoreDrop (w .field) f d) (scoreDrop (w .trim) t e)
       go true y p q = refl
       go false true p q = refl
       go false false p q =
@@ -190,7 +196,7 @@ module _ (f t f′ t′ : List ℤ) (s : Session) (ef : SameRows (s .depth .fiel
 
 same-blocks : (field : Bool) (s : Session) (new : Block) (t u : List ℤ) (depth n : ℕ) → SameRows depth t u
     → meetBlocks field s new u depth n ≡ meetBlocks field s new t depth n
-unfolding meetBlocks
+unfolding meetBlocksBy
 same-blocks field s new t u depth zero e = refl
 same-blocks field s new t u depth (suc n) e =
     ap₂ (λ r old. meet r (cond field new old) (cond field old new)) (same-blocks field s new t u depth n e)
@@ -223,7 +229,7 @@ module _ (field : Bool) (f t f′ t′ : List ℤ) (s : Session)
   same-old = same-other f t f′ t′ (newDepth field s) (s .depth .field .0) (s .depth .trim .0) field h k
 
   pub same-read : readTable field f′ t′ s ≡ readTable field f t s
-  unfolding readTable
+  unfolding readTableBy
   same-read =
       let c : ℕ = cond field (s .depth .trim .0) (s .depth .field .0) in
       let n : ℕ = blockCount (s .query .block) c in

@@ -21,7 +21,8 @@ use Rattle.rules.specs.Take.{firstHeld, givesPair, movedOut, finished}
 use Rattle.rules.specs.Numbers.{tableSize, badRecord, said, refusal}
 use Rattle.rules.specs.Checks.{first-out, unless-out}
 use Rattle.rules.specs.Calls.{queryCode, sizeCode, sameSizeCode, rowsCode, recordFits, recordCode, lentCode, callCode}
-use Rattle.rules.specs.Calls.{newBlockCode, step, openCode, openCall, readCall, takeCall}
+use Rattle.rules.specs.Calls.{newBlockCodeBy, newBlockCode, step, openCode, openCall, readCallBy, readCall, takeCallBy}
+use Rattle.rules.specs.Calls.{takeCall}
 use Rattle.rules.specs.Query.{wasRead, wasGiven}
 use Rattle.session_laws.specs.Tables.{Sized, size-out, size-in, RowFits, rows-out, rows-in, legal-out}
 use Rattle.session_laws.specs.Record.{RecordFits, record-out, record-in}
@@ -156,13 +157,13 @@ NewRowsFit field f t s = (i : ℕ) → oldDepth field s ≤ i → i < newDepth f
 
 module _ (f t : List ℤ) (s : Session) where
   pub new-block-out : newBlockCode f t s ≡ 0 → NewRowsFit (fieldNext f t s) f t s
-  unfolding newBlockCode
+  unfolding newBlockCodeBy
   new-block-out h i k l =
       let field = fieldNext f t s in
       rows-out (cond field f t) (oldDepth field s) (newDepth field s - oldDepth field s) h i k (omega arith)
 
   pub new-block-in : NewRowsFit (fieldNext f t s) f t s → newBlockCode f t s ≡ 0
-  unfolding newBlockCode
+  unfolding newBlockCodeBy
   new-block-in h =
       let field = fieldNext f t s in
       rows-in (cond field f t) (oldDepth field s) (newDepth field s - oldDepth field s) (λ i k l. h i k (omega arith))
@@ -213,23 +214,23 @@ module _ (f t : List ℤ) (s : Session) (g : legal f ≡ true) (h : legal t ≡ 
 
 module _ (f t : List ℤ) (s : Session) (a : callCode f t s ≡ 0) where
   pub read-settled : settled f t s ≡ true → readCall f t s ≡ step Settled s
-  unfolding readCall
+  unfolding readCallBy
   read-settled e = rw (eq-eqb (callCode f t s) 0 a, e)
 
   pub read-goes : settled f t s ≡ false → newBlockCode f t s ≡ 0 → readCall f t s ≡ step Read (readBlock f t s)
-  unfolding readCall
+  unfolding readCallBy
   read-goes e b = rw (eq-eqb (callCode f t s) 0 a, e, eq-eqb (newBlockCode f t s) 0 b)
 
   pub take-gives : givesPair f t s ≡ true → takeCall f t s ≡ step (Given (firstHeld s)) (movedOut s)
-  unfolding takeCall
+  unfolding takeCallBy
   take-gives e = rw (eq-eqb (callCode f t s) 0 a, e)
 
   pub take-finishes : givesPair f t s ≡ false → finished s ≡ true → takeCall f t s ≡ step Finished s
-  unfolding takeCall
+  unfolding takeCallBy
   take-finishes e b = rw (eq-eqb (callCode f t s) 0 a, e, b)
 
   pub take-waits : givesPair f t s ≡ false → finished s ≡ false → takeCall f t s ≡ step NotYet s
-  unfolding takeCall
+  unfolding takeCallBy
   take-waits e b = rw (eq-eqb (callCode f t s) 0 a, e, b)
 
 -- ---- What an answer says of the call
@@ -249,7 +250,7 @@ pub record Takes (f t : List ℤ) (s : Session) : Type 0 where
 
 module _ (f t : List ℤ) (s : Session) where
   pub was-read-out : wasRead (readCall f t s .answer) ≡ true → Reads f t s
-  unfolding readCall
+  unfolding readCallBy
   was-read-out h = go (eqb (callCode f t s) 0) (settled f t s) (eqb (newBlockCode f t s) 0) refl refl refl h
     where
       code : ℕ
@@ -273,7 +274,7 @@ module _ (f t : List ℤ) (s : Session) where
       go false b c i j l m = clash m refl
 
   pub was-given-out : wasGiven (takeCall f t s .answer) ≡ true → Takes f t s
-  unfolding takeCall
+  unfolding takeCallBy
   was-given-out h = go (eqb (callCode f t s) 0) (givesPair f t s) (finished s) refl refl h
     where
       code : ℕ

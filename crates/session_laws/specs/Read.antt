@@ -10,10 +10,13 @@ use borrow.Author.Tests.{eqb-true, eqb-false, eq-eqb, ne-eqb}
 use Rattle.lists.specs.Lists.{every}
 use Rattle.lists.specs.Bools.{clash, or-none-out}
 use Rattle.rules.specs.declared.Session.{Session}
-use Rattle.rules.specs.Tables.{rowCount, Block, qualifying}
-use Rattle.rules.specs.Session.{fieldReadOut, trimReadOut, bothReadOut, aTableIsEmpty, heldPairs, secured, settled}
-use Rattle.rules.specs.Read.{scoreDrop, fieldNext, rowsBetween, blockCount, blockAt, bestHeld, holding, skipped, meet}
-use Rattle.rules.specs.Read.{meetBlocks, readTo, oldDepth, newDepth, readTable, readBlock}
+use Rattle.rules.specs.Tables.{rowCount, terms, Block, qualifying}
+use Rattle.rules.specs.Session.{fieldReadOut, trimReadOut, bothReadOut, aTableIsEmpty, heldPairs, secured, settledBy}
+use Rattle.rules.specs.Session.{settled}
+use Rattle.rules.specs.Read.{scoreDrop, fieldNextBy, fieldNext, rowsBetween, blockCount, blockAt, bestHeld, holding}
+use Rattle.rules.specs.Read.{skipped, meetBy}
+use Rattle.rules.specs.Read.{meet}
+use Rattle.rules.specs.Read.{meetBlocksBy, meetBlocks, readTo, oldDepth, newDepth, readTableBy, readTable, readBlock}
 
 -- ---- A met block changes the pairs held and the joined count, and nothing else
 
@@ -37,30 +40,30 @@ keeps-trans h k =
     }
 
 pub meet-keeps : (s : Session) (x y : Block) → Kept s (meet s x y)
-unfolding meet holding
+unfolding meetBy holding
 meet-keeps s x y = go (skipped s x y)
   where
-    go : (b : Bool) → Kept s (cond b s (holding s (bestHeld s (qualifying (s .query .radius) x y))))
+    go : (b : Bool) → Kept s (cond b s (holding s (bestHeld s (qualifying (terms (s .query)) x y))))
     go true = keeps-refl s
     go false = record { query = refl; rows = refl; depth = refl; out = refl }
 
 -- each block pair adds one at most to the joined count
 meet-joined : (s : Session) (x y : Block) → meet s x y .joined ≤ s .joined + 1
-unfolding meet holding
+unfolding meetBy holding
 meet-joined s x y = go (skipped s x y)
   where
-    go : (b : Bool) → cond b s (holding s (bestHeld s (qualifying (s .query .radius) x y))) .joined ≤ s .joined + 1
+    go : (b : Bool) → cond b s (holding s (bestHeld s (qualifying (terms (s .query)) x y))) .joined ≤ s .joined + 1
     go true = omega arith
     go false = omega arith
 
 module _ (field : Bool) (s : Session) (new : Block) (t : List ℤ) (depth : ℕ) where
   pub blocks-keep : (n : ℕ) → Kept s (meetBlocks field s new t depth n)
-  unfolding meetBlocks
+  unfolding meetBlocksBy
   blocks-keep zero = keeps-refl s
   blocks-keep (suc n) = keeps-trans (blocks-keep n) (meet-keeps _ _ _)
 
   pub blocks-joined : (n : ℕ) → meetBlocks field s new t depth n .joined ≤ s .joined + n
-  unfolding meetBlocks
+  unfolding meetBlocksBy
   blocks-joined zero = omega arith
   blocks-joined (suc n) =
       let old = blockAt t (s .query .block) depth n in
@@ -81,19 +84,19 @@ module _ (field : Bool) (f t : List ℤ) (s : Session) where
   met-all-keeps = blocks-keep field s _ _ _ _
 
   pub read-query : readTable field f t s .query ≡ s .query
-  unfolding readTable readTo
+  unfolding readTableBy readTo
   read-query = met-all-keeps .query
 
   pub read-rows-kept : readTable field f t s .rows ≡ s .rows
-  unfolding readTable readTo
+  unfolding readTableBy readTo
   read-rows-kept = met-all-keeps .rows
 
   pub read-field : readTable field f t s .depth .field .0 ≡ cond field (newDepth field s) (s .depth .field .0)
-  unfolding readTable readTo
+  unfolding readTableBy readTo
   read-field = ap (λ c. cond field (newDepth field s) (c .field .0)) (met-all-keeps .depth)
 
   pub read-trim : readTable field f t s .depth .trim .0 ≡ cond field (s .depth .trim .0) (newDepth field s)
-  unfolding readTable readTo
+  unfolding readTableBy readTo
   read-trim = ap (λ c. cond field (c .trim .0) (newDepth field s)) (met-all-keeps .depth)
 
 -- of depths within the rows, those after a read
@@ -133,7 +136,7 @@ pub record Unsettled (f t : List ℤ) (s : Session) : Type 0 where
   pub unsecured : s .out + s .held ≡ s .query .k → every (secured f t s) (heldPairs s) ≡ true → ⊥
 
 pub unsettled-out : (f t : List ℤ) (s : Session) → settled f t s ≡ false → Unsettled f t s
-unfolding settled
+unfolding settledBy
 unsettled-out f t s h =
     let last = eqb (s .out + s .held) (s .query .k) && every (secured f t s) (heldPairs s) in
     let rest = eqb (s .out) (s .query .k) || last in
@@ -168,12 +171,14 @@ not-out depth rows h k = ne-eqb depth rows (λ e. h (sym e ∙ eqb-true depth 0 
 
 module _ (f t : List ℤ) (s : Session) (u : Unsettled f t s) where
   chosen-unread : cond (fieldNext f t s) (fieldReadOut s) (trimReadOut s) ≡ false
-  unfolding fieldNext
+  unfolding fieldNextBy
   chosen-unread =
       let d = s .depth .field .0 in
       let e = s .depth .trim .0 in
+      let x = scoreDrop (terms (s .query) .field) f d in
+      let y = scoreDrop (terms (s .query) .trim) t e in
       unread (eqb d 0) (eqb e 0) (trimReadOut s) (fieldReadOut s)
-      (cond (ltb (scoreDrop f d) (scoreDrop t e)) true (cond (ltb (scoreDrop t e) (scoreDrop f d)) false (leb d e)))
+      (cond (ltb x y) true (cond (ltb y x) false (leb d e)))
       (not-out d (s .rows .field .0) (u .field-some)) (not-out e (s .rows .trim .0) (u .trim-some)) (u .unread)
 
   module _ (m : s .depth .field .0 ≤ s .rows .field .0) (n : s .depth .trim .0 ≤ s .rows .trim .0) where

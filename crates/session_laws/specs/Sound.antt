@@ -19,10 +19,11 @@ use Rattle.rules.specs.declared.TrimRows.{TrimRows}
 use Rattle.rules.specs.declared.Query.{Query}
 use Rattle.rules.specs.declared.Pair.{Pair}
 use Rattle.rules.specs.declared.Session.{Session}
-use Rattle.rules.specs.Tables.{Block, qualifying}
+use Rattle.rules.specs.Tables.{terms, Block, qualifying}
 use Rattle.rules.specs.Session.{noPair, places, opened, heldPairs, settled}
-use Rattle.rules.specs.Read.{fieldNext, blockCount, blockAt, skipped, bestHeld, holding, meet, meetBlocks}
-use Rattle.rules.specs.Read.{readTo, oldDepth, newDepth, readTable, readBlock}
+use Rattle.rules.specs.Read.{fieldNext, blockCount, blockAt, skipped, bestHeld, holding, meetBy, meet, meetBlocksBy}
+use Rattle.rules.specs.Read.{meetBlocks}
+use Rattle.rules.specs.Read.{readTo, oldDepth, newDepth, readTableBy, readBlock}
 use Rattle.rules.specs.Take.{movedOut}
 use Rattle.rules.specs.Calls.{isZeros}
 use Rattle.session_laws.specs.Record.{WholeBlocks, MarkFits, mostJoined}
@@ -103,11 +104,11 @@ abbrev Cleared : Session → Type 0
 Cleared s = every isZeros (drop (s .held) (s .pairs)) ≡ true
 
 meet-cleared : (s : Session) (x y : Block) → Cleared s → Cleared (meet s x y)
-unfolding meet holding
+unfolding meetBy holding
 meet-cleared s x y h = go (skipped s x y)
   where
     l : List Pair
-    l = bestHeld s (qualifying (s .query .radius) x y)
+    l = bestHeld s (qualifying (terms (s .query)) x y)
 
     go : (b : Bool) → Cleared (cond b s (holding s l))
     go true = h
@@ -115,7 +116,7 @@ meet-cleared s x y h = go (skipped s x y)
 
 blocks-cleared : (field : Bool) (s : Session) (new : Block) (t : List ℤ) (depth n : ℕ) → Cleared s
     → Cleared (meetBlocks field s new t depth n)
-unfolding meetBlocks
+unfolding meetBlocksBy
 blocks-cleared field s new t depth zero h = h
 blocks-cleared field s new t depth (suc n) h =
     let old : Block = blockAt t (s .query .block) depth n in
@@ -223,7 +224,7 @@ module _ (s r : Session) (h : Sound s) (size : 1 ≤ s .query .block) (cleared :
 pub sound-read : (f t : List ℤ) (s : Session) → Sound s → 1 ≤ s .query .block
     → s .depth .field .0 ≤ s .rows .field .0 → s .depth .trim .0 ≤ s .rows .trim .0 → settled f t s ≡ false
     → Sound (readBlock f t s)
-unfolding readTable
+unfolding readTableBy
 sound-read f t s h size m n u =
     let field : Bool = fieldNext f t s in
     let r : Session = metAll field f t s in

@@ -15,18 +15,19 @@ use Rattle.lists.specs.Bools.{clash, and-out, or-none-out, or-true}
 use Rattle.lists.specs.Parts.{every-at, every-same}
 use Rattle.rules.specs.declared.Pair.{Pair}
 use Rattle.rules.specs.declared.Session.{Session}
-use Rattle.rules.specs.Session.{noPair, heldPairs, aTableIsEmpty, bothReadOut, ceiling, secured, settled}
-use Rattle.rules.specs.Take.{firstHeld, givesPair, movedOut, finished}
+use Rattle.rules.specs.Session.{noPair, heldPairs, aTableIsEmpty, bothReadOut, ceilingBy, securedBy, secured}
+use Rattle.rules.specs.Session.{settledBy, settled}
+use Rattle.rules.specs.Take.{firstHeld, givesPairBy, givesPair, movedOut, finished}
 
 -- ---- A pair is given while one is held, and secured
 
 module _ (f t : List ℤ) (s : Session) (e : givesPair f t s ≡ true) where
   pub gives-some : 1 ≤ s .held
-  unfolding givesPair
+  unfolding givesPairBy
   gives-some = ltb-true 0 (s .held) (and-out (ltb 0 (s .held)) (secured f t s (firstHeld s)) e .0)
 
   pub gives-secured : secured f t s (firstHeld s) ≡ true
-  unfolding givesPair
+  unfolding givesPairBy
   gives-secured = and-out (ltb 0 (s .held)) (secured f t s (firstHeld s)) e .1
 
 -- ---- The first of the places, and those after it when they move up
@@ -64,7 +65,7 @@ module _ (s : Session) (stored : length (heldPairs s) ≡ s .held) (some : 1 ≤
 -- read out, all is secured
 read-out-secured : (f t : List ℤ) (s : Session) (p : Pair) → aTableIsEmpty s ≡ false → bothReadOut s ≡ true
     → secured f t s p ≡ true
-unfolding secured
+unfolding securedBy
 read-out-secured f t s p e b =
     let rows = or-none-out (eqb (s .rows .field .0) 0) (eqb (s .rows .trim .0) 0) e in
     let field = eqb (s .depth .field .0) (s .rows .field .0) in
@@ -90,7 +91,7 @@ module _ (f t : List ℤ) (s : Session) (stored : length (heldPairs s) ≡ s .he
 
   -- a take has a secured pair to give, or the list is complete
   pub settled-take : settled f t s ≡ true → givesPair f t s ≡ false → finished s ≡ true
-  unfolding settled givesPair finished
+  unfolding settledBy givesPairBy finished
   settled-take =
       go (eqb (s .out) (s .query .k)) (aTableIsEmpty s) (bothReadOut s) (ltb 0 (s .held)) refl refl refl refl
     where
@@ -110,7 +111,7 @@ module _ (f t : List ℤ) (s : Session) (stored : length (heldPairs s) ≡ s .he
   -- and it stays settled
   pub settled-moves : 1 ≤ s .held → s .out + s .held ≤ s .query .k → settled f t s ≡ true
       → settled f t (movedOut s) ≡ true
-  unfolding settled movedOut
+  unfolding settledBy movedOut
   settled-moves some room e = go (aTableIsEmpty s) (bothReadOut s) (eqb (s .out) (s .query .k)) refl e
     where
       left : Bool
@@ -123,7 +124,7 @@ module _ (f t : List ℤ) (s : Session) (stored : length (heldPairs s) ≡ s .he
           let k = full-out w .0 in
           let l = heldPairs (movedOut s) in
           let same : every (secured f t (movedOut s)) l ≡ every (secured f t s) l =
-          every-same (secured f t (movedOut s)) (secured f t s) l (λ p m. unfold secured ceiling in refl) in
+          every-same (secured f t (movedOut s)) (secured f t s) l (λ p m. unfold securedBy ceilingBy in refl) in
           rw (eq-eqb (s .out + 1 + (s .held - 1)) (s .query .k) (omega arith))
           (same ∙ moved-every s stored some (secured f t s) (full-out w .1))
 

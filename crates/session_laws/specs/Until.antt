@@ -18,7 +18,9 @@ use Rattle.rules.specs.Session.{opened, zeros}
 use Rattle.rules.specs.Read.{fieldNext}
 use Rattle.rules.specs.Take.{movedOut}
 use Rattle.rules.specs.Calls.{step, openCode, openCall, readCall, takeCall}
-use Rattle.rules.specs.Query.{wasRead, given, wasGiven, readUntilSettled, takeUntilFinished, settledSession, list}
+use Rattle.rules.specs.Query.{wasRead, given, wasGiven, readUntilSettledBy, readUntilSettled, takeUntilFinishedBy}
+use Rattle.rules.specs.Query.{takeUntilFinished}
+use Rattle.rules.specs.Query.{settledSession, list}
 use Rattle.session_laws.specs.Calls.{call-out, was-read-out, was-given-out}
 use Rattle.session_laws.specs.Read.{unreadRows, read-fewer, read-query}
 use Rattle.session_laws.specs.Take.{gives-some}
@@ -41,7 +43,7 @@ module _ (f t : List ℤ) where
   -- the same record from any two bounds above the rows that are not read yet
   pub reads-end : (m n : ℕ) (s : Session) → unreadRows s < m → unreadRows s < n
       → readUntilSettled m f t s ≡ readUntilSettled n f t s
-  unfolding readUntilSettled
+  unfolding readUntilSettledBy
   reads-end zero n s h k = absurd (not-suc-le-zero h)
   reads-end (suc m) zero s h k = absurd (not-suc-le-zero k)
   reads-end (suc m) (suc n) s h k =
@@ -58,7 +60,7 @@ module _ (f t : List ℤ) where
       go false e ih = refl
 
   reads-keep-query : (n : ℕ) (s : Session) → readUntilSettled n f t s .query ≡ s .query
-  unfolding readUntilSettled
+  unfolding readUntilSettledBy
   reads-keep-query zero s = refl
   reads-keep-query (suc n) s =
       go (wasRead (readCall f t s .answer)) refl (reads-keep-query n (readCall f t s .session))
@@ -86,7 +88,7 @@ module _ (f t : List ℤ) where
   -- the same pairs from any two bounds above the number of pairs still wanted
   pub takes-end : (m n : ℕ) (s : Session) → wanted s < m → wanted s < n
       → takeUntilFinished m f t s ≡ takeUntilFinished n f t s
-  unfolding takeUntilFinished
+  unfolding takeUntilFinishedBy
   takes-end zero n s h k = absurd (not-suc-le-zero h)
   takes-end (suc m) zero s h k = absurd (not-suc-le-zero k)
   takes-end (suc m) (suc n) s h k =

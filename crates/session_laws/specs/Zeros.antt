@@ -9,14 +9,14 @@ use Rattle.rules.specs.declared.Answer.the-variants.{Refused}
 use Rattle.rules.specs.Session.{opened, zeros}
 use Rattle.rules.specs.Numbers.{badRecord}
 use Rattle.rules.specs.Calls.{queryCode, recordFits, recordCode, lentCode, callCode, step, openCode, openCall}
-use Rattle.rules.specs.Calls.{readCall, takeCall}
+use Rattle.rules.specs.Calls.{readCallBy, readCall, takeCallBy, takeCall}
 
 pub zeros-read : (f t : List ℤ) → readCall f t zeros ≡ step (Refused badRecord) zeros
-unfolding readCall callCode lentCode recordCode recordFits queryCode zeros opened
+unfolding readCallBy callCode lentCode recordCode recordFits queryCode zeros opened
 zeros-read f t = refl
 
 pub zeros-take : (f t : List ℤ) → takeCall f t zeros ≡ step (Refused badRecord) zeros
-unfolding takeCall callCode lentCode recordCode recordFits queryCode zeros opened
+unfolding takeCallBy callCode lentCode recordCode recordFits queryCode zeros opened
 zeros-take f t = refl
 
 -- and a refused opening gives them

@@ -16,19 +16,21 @@ use Rattle.lists.specs.Bools.{clash}
 use Rattle.lists.specs.Sorts.{all-at}
 use Rattle.lists.specs.Parts.{every-of}
 use Rattle.join.specs.Join as Join
-use Rattle.join.specs.Join.{sumsOf, weightAt, region}
+use Rattle.join.specs.Join.{Side, sumsOf, weightAt, region}
+use Rattle.join.specs.Plain.{plain}
 use Rattle.join.specs.Ceiling.{outside-low}
 use Rattle.join.specs.HeldLaws.{held-cover}
 use Rattle.rules.specs.declared.Pair.{Pair}
 use Rattle.rules.specs.declared.Query.{Query}
 use Rattle.rules.specs.declared.Session.{Session}
-use Rattle.rules.specs.Tables.{rowCount, legal, Row, row, part, pairSum, qualifying}
+use Rattle.rules.specs.Tables.{rowCount, legal, Row, row, part, terms, pairSum, qualifying}
 use Rattle.rules.specs.Session.{heldPairs, firstScore, lastScore, fieldReadOut, trimReadOut, bothReadOut, aTableIsEmpty}
-use Rattle.rules.specs.Session.{aDepthIsZero, ceiling, secured, settled}
+use Rattle.rules.specs.Session.{aDepthIsZero, ceilingBy, ceiling, securedBy, secured, settled}
 use Rattle.rules.specs.Read.{rowsBetween}
 use Rattle.rules.specs.Take.{firstHeld}
 use Rattle.session_laws.specs.Read.{unsettled-out}
-use Rattle.tables_join.specs.Rows.{rowsOf, rows, side, near, length-rows, rows-at, legal-rows, rows-take, laws}
+use Rattle.tables_join.specs.Rows.{rowsOf, rowsBy, fieldSide, trimSide, near, Rises, field-rises, trim-rises}
+use Rattle.tables_join.specs.Rows.{length-rows, rows-at, legal-rows, rows-take, laws}
 use Rattle.tables_join.specs.Sure.{sums-rows}
 use Rattle.tables_join.specs.Pairs.{QualifyingPair, Region, pair-rank, qualifying-distinct, mem-qualifying}
 use Rattle.tables_join.specs.Reached.{Reached, first-inside, first-best, read-out-region}
@@ -41,14 +43,15 @@ ended-is n rows depth e h = go (eqb depth rows) refl
     go true z = le-leb n depth (omega (arith, eqb-true depth rows z))
     go false z = lt-leb n depth (let k = eqb-false depth rows z in omega arith)
 
-weight-is : (t : List ℤ) (i : ℕ) → i < rowCount t → weightAt side (rowsOf t) i ≡ row t i .score
+weight-is : (weight : Row → ℕ) (t : List ℤ) (i : ℕ) → i < rowCount t
+    → weightAt (plain (rowsBy weight)) (rowsOf t) i ≡ weight (row t i)
 unfolding weightAt
-weight-is t i h = ap (λ r. r .score) (rows-at t i h)
+weight-is weight t i h = ap weight (rows-at t i h)
 
 -- what it takes to be secured
 secured-cases : (f t : List ℤ) (s : Session) (p : Pair) → secured f t s p ≡ true
     → (bothReadOut s ≡ true) ⊎ (ceiling f t s ≤ p .sum)
-unfolding secured
+unfolding securedBy
 secured-cases f t s p h = go (aDepthIsZero s && not (aTableIsEmpty s)) (bothReadOut s) h
   where
     go : (x y : Bool) → cond x false (cond y true (leb (ceiling f t s) (p .sum))) ≡ true
@@ -59,7 +62,7 @@ secured-cases f t s p h = go (aDepthIsZero s && not (aTableIsEmpty s)) (bothRead
 
 secured-high : (f t : List ℤ) (s : Session) (p : Pair) → 1 ≤ s .depth .field .0 → 1 ≤ s .depth .trim .0
     → ceiling f t s ≤ p .sum → secured f t s p ≡ true
-unfolding secured
+unfolding securedBy
 secured-high f t s p hd he h =
     rw (
       ne-eqb (s .depth .field .0) 0 (λ z. omega arith),
@@ -79,46 +82,63 @@ module _ {q : Query} {f t : List ℤ} {out : List Pair} {s : Session} (a : Reach
   abbrev e : ℕ
   e = s .depth .trim .0
 
+  abbrev S : Side Row
+  S = fieldSide q
+
+  abbrev U : Side Row
+  U = trimSide q
+
   abbrev F : List Row
   F = rowsOf f
 
   abbrev T : List Row
   T = rowsOf t
 
-  pub field-ended : side .ended F d ≡ fieldReadOut s
+  pub field-ended : S .ended F d ≡ fieldReadOut s
   field-ended =
       ended-is (length F) (s .rows .field .0) d (length-rows f ∙ sym (a .field-rows))
       (omega (arith, length-rows f, a .field-depth))
 
-  pub trim-ended : side .ended T e ≡ trimReadOut s
+  pub trim-ended : U .ended T e ≡ trimReadOut s
   trim-ended =
       ended-is (length T) (s .rows .trim .0) e (length-rows t ∙ sym (a .trim-rows))
       (omega (arith, length-rows t, a .trim-depth))
 
   module _ (hd : 1 ≤ d) (he : 1 ≤ e) where
-    pub first-field : weightAt side F 0 ≡ firstScore f
-    first-field = weight-is f 0 (omega (arith, a .field-depth))
+    field-at : (i : ℕ) → i < d → weightAt S F i ≡ terms (s .query) .field (row f i)
+    field-at i h =
+        weight-is (terms q .field) f i (omega (arith, a .field-depth))
+        ∙ ap (λ q. terms q .field (row f i)) (sym (a .query))
 
-    pub last-field : weightAt side F (d - 1) ≡ lastScore f d
-    last-field = weight-is f (d - 1) (omega (arith, a .field-depth))
+    trim-at : (i : ℕ) → i < e → weightAt U T i ≡ terms (s .query) .trim (row t i)
+    trim-at i h =
+        weight-is (terms q .trim) t i (omega (arith, a .trim-depth))
+        ∙ ap (λ q. terms q .trim (row t i)) (sym (a .query))
 
-    pub first-trim : weightAt side T 0 ≡ firstScore t
-    first-trim = weight-is t 0 (omega (arith, a .trim-depth))
+    pub first-field : weightAt S F 0 ≡ firstScore (terms (s .query) .field) f
+    first-field = field-at 0 (omega arith)
 
-    pub last-trim : weightAt side T (e - 1) ≡ lastScore t e
-    last-trim = weight-is t (e - 1) (omega (arith, a .trim-depth))
+    pub last-field : weightAt S F (d - 1) ≡ lastScore (terms (s .query) .field) f d
+    last-field = field-at (d - 1) (omega arith)
 
-    pub ceiling-rows : Join.ceiling side side F d T e ≡ ceiling f t s
-    unfolding ceiling Join.ceiling
+    pub first-trim : weightAt U T 0 ≡ firstScore (terms (s .query) .trim) t
+    first-trim = trim-at 0 (omega arith)
+
+    pub last-trim : weightAt U T (e - 1) ≡ lastScore (terms (s .query) .trim) t e
+    last-trim = trim-at (e - 1) (omega arith)
+
+    pub ceiling-rows : Join.ceiling S U F d T e ≡ ceiling f t s
+    unfolding ceilingBy Join.ceiling
     ceiling-rows = rw (field-ended, trim-ended, first-field, last-field, first-trim, last-trim)
 
   -- ---- What lies outside the depths is no higher than the ceiling
 
   module _ (g : legal f ≡ true) (h : legal t ≡ true) where
-    begins-itself : (n : ℕ) (u : List ℤ) → legal u ≡ true → Join.Begins side n (rowsOf u) (rowsOf u)
-    begins-itself n u l = record { legal = legal-rows u l; rows = refl; ends = λ k. refl }
+    begins-itself : {weight : Row → ℕ} → Rises weight → (n : ℕ) (u : List ℤ) → legal u ≡ true
+        → Join.Begins (plain (rowsBy weight)) n (rowsOf u) (rowsOf u)
+    begins-itself rises n u l = record { legal = legal-rows u l rises; rows = refl; ends = λ k. refl }
 
-    outside : 1 ≤ d → 1 ≤ e → (p : Pair) → QualifyingPair (q .radius) f t p → (d < p .field) ⊎ (e < p .trim)
+    outside : 1 ≤ d → 1 ≤ e → (p : Pair) → QualifyingPair q f t p → (d < p .field) ⊎ (e < p .trim)
         → p .sum ≤ ceiling f t s
     unfolding pairSum
     outside hd he p m o =
@@ -126,21 +146,29 @@ module _ {q : Query} {f t : List ℤ} {out : List Pair} {s : Session} (a : Reach
         let j : ℕ = p .trim - 1 in
         let hi : i < rowCount f = omega (arith, m .field-row) in
         let hj : j < rowCount t = omega (arith, m .trim-row) in
-        let meets : near (q .radius) (Join.rowAt side F i) (Join.rowAt side T j) ≡ true =
-        ap₂ (near (q .radius)) (rows-at f i hi) (rows-at t j hj) ∙ m .near in
+        let meets : near q (Join.rowAt S F i) (Join.rowAt U T j) ≡ true =
+        ap₂ (near q) (rows-at f i hi) (rows-at t j hj) ∙ m .near in
         let low =
-        outside-low side side (near (q .radius)) (laws (q .radius)) F F T T d e i j (legal-rows f g) (legal-rows t h)
-        hd he (begins-itself d f g) (begins-itself e t h)
+        outside-low S U (near q) (laws q (a .accepted)) F F T T d e i j (legal-rows f g (field-rises q (a .accepted)))
+        (legal-rows t h (trim-rises q (a .accepted))) hd he (begins-itself (field-rises q (a .accepted)) d f g)
+        (begins-itself (trim-rises q (a .accepted)) e t h)
         (⊎-elim (λ z. inl (omega arith)) (λ z. inr (omega arith)) o) (omega (arith, length-rows f))
         (omega (arith, length-rows t)) meets in
-        omega (arith, low, weight-is f i hi, weight-is t j hj, m .own-sum, ceiling-rows hd he)
+        omega (
+          arith,
+          low,
+          weight-is (terms q .field) f i hi,
+          weight-is (terms q .trim) t j hj,
+          m .own-sum,
+          ceiling-rows hd he,
+        )
 
     -- the first held pair, once secured: no pair that is not out has a higher sum
-    pub secured-best : 1 ≤ s .held → secured f t s (firstHeld s) ≡ true → (p : Pair) → QualifyingPair (q .radius) f t p
+    pub secured-best : 1 ≤ s .held → secured f t s (firstHeld s) ≡ true → (p : Pair) → QualifyingPair q f t p
         → (List·Memᴰ p out → ⊥) → p .sum ≤ firstHeld s .sum
     secured-best some z p m new = go (decLe (p .field) d) (decLe (p .trim) e)
       where
-        first : Region (q .radius) f t d e (firstHeld s)
+        first : Region q f t d e (firstHeld s)
         first = first-inside a some
 
         beyond : (d < p .field) ⊎ (e < p .trim) → p .sum ≤ firstHeld s .sum
@@ -166,15 +194,15 @@ module _ {q : Query} {f t : List ℤ} {out : List Pair} {s : Session} (a : Reach
         ap (λ m. rowsOf (part u 0 m)) z ∙ rows-take n u l
 
     abbrev pairs : List Pair
-    pairs = qualifying (q .radius) (rowsBetween f 0 d) (rowsBetween t 0 e)
+    pairs = qualifying (terms q) (rowsBetween f 0 d) (rowsBetween t 0 e)
 
     abbrev sums : List ℕ
-    sums = sumsOf side side (near (q .radius)) (take d F) (take e T)
+    sums = sumsOf S U (near q) (take d F) (take e T)
 
     region-sums : map (λ p. p .sum) pairs ≡ sums
     region-sums =
-        sums-rows (q .radius) (rowsBetween f 0 d) (rowsBetween t 0 e)
-        ∙ ap₂ (sumsOf side side (near (q .radius))) (part-rows d f g) (part-rows e t h)
+        sums-rows q (rowsBetween f 0 d) (rowsBetween t 0 e)
+        ∙ ap₂ (sumsOf S U (near q)) (part-rows d f g) (part-rows e t h)
 
     module _ (hd : 1 ≤ d) (he : 1 ≤ e) where
       covered : s .query .k ≤ atLeast (ceiling f t s) sums
@@ -182,8 +210,8 @@ module _ {q : Query} {f t : List ℤ} {out : List Pair} {s : Session} (a : Reach
       covered enough =
           let c =
           held-cover pair-rank (a .keeping .holds) (ceiling f t s) pairs
-          (qualifying-distinct (q .radius) (rowsBetween f 0 d) (rowsBetween t 0 e))
-          (λ p m. mem-qualifying (q .radius) f t 0 d 0 e (a .field-depth) (a .trim-depth) p .0 m)
+          (qualifying-distinct q (rowsBetween f 0 d) (rowsBetween t 0 e))
+          (λ p m. mem-qualifying q f t 0 d 0 e (a .field-depth) (a .trim-depth) p .0 m)
           (subst (λ m. s .query .k ≤ atLeast (ceiling f t s) m) (sym region-sums) enough) in (
             omega (arith, c .0, a .keeping .counted, a .keeping .stored),
             every-of (secured f t s) (heldPairs s)
@@ -193,7 +221,7 @@ module _ {q : Query} {f t : List ℤ} {out : List Pair} {s : Session} (a : Reach
           )
 
       pub unsettled-short : settled f t s ≡ false
-          → region side side (near (q .radius)) (Join.ceiling side side F d T e) F d T e < q .k
+          → region S U (near q) (Join.ceiling S U F d T e) F d T e < q .k
       unsettled-short u =
           subst₂ (λ c k. atLeast c sums < k) (sym (ceiling-rows hd he)) (ap (λ q. q .k) (a .query))
           (go (leb (s .query .k) (atLeast (ceiling f t s) sums)) refl)

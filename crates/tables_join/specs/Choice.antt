@@ -18,13 +18,14 @@ use Rattle.rules.specs.declared.TrimRows.{TrimRows}
 use Rattle.rules.specs.declared.Pair.{Pair}
 use Rattle.rules.specs.declared.Query.{Query}
 use Rattle.rules.specs.declared.Session.{Session}
-use Rattle.rules.specs.Tables.{legal}
+use Rattle.rules.specs.Tables.{terms, legal}
 use Rattle.rules.specs.Session.{fieldReadOut, trimReadOut, bothReadOut, settled}
-use Rattle.rules.specs.Read.{scoreDrop, fieldNext, readTable, readBlock}
+use Rattle.rules.specs.Read.{scoreDrop, fieldNextBy, fieldNext, readTable, readBlock}
 use Rattle.rules.specs.Sure.{Sure}
 use Rattle.session_laws.specs.Read.{read-field, read-trim, unsettled-out}
 use Rattle.session_laws.specs.Until.{wanted}
-use Rattle.tables_join.specs.Rows.{rowsOf, side, near, length-rows, legal-rows, laws}
+use Rattle.tables_join.specs.Rows.{rowsOf, fieldSide, trimSide, near, field-rises, trim-rises, length-rows}
+use Rattle.tables_join.specs.Rows.{legal-rows, laws}
 use Rattle.tables_join.specs.Sure.{sure-rows}
 use Rattle.tables_join.specs.Reached.{Reached}
 use Rattle.tables_join.specs.Ceiling.{field-ended, trim-ended, first-field, last-field, first-trim, last-trim}
@@ -38,6 +39,13 @@ module _ {q : Query} {f t : List ℤ} {out : List Pair} {s : Session} (a : Reach
   abbrev e : ℕ
   e = s .depth .trim .0
 
+  -- the drops of the two tables
+  abbrev u : ℕ
+  u = scoreDrop (terms (s .query) .field) f d
+
+  abbrev v : ℕ
+  v = scoreDrop (terms (s .query) .trim) t e
+
   abbrev next : Bool → Bool → Bool → Bool → Bool → Bool → Bool
   next d0 e0 trimOut fieldOut less greater =
       cond d0 true
@@ -47,13 +55,12 @@ module _ {q : Query} {f t : List ℤ} {out : List Pair} {s : Session} (a : Reach
   abbrev Choosing : (Bool → Type 0) → Type 0
   Choosing C =
       (z w x y l m : Bool) → eqb d 0 ≡ z → eqb e 0 ≡ w → trimReadOut s ≡ x → fieldReadOut s ≡ y
-      → ltb (scoreDrop f d) (scoreDrop t e) ≡ l → ltb (scoreDrop t e) (scoreDrop f d) ≡ m → C (next z w x y l m)
+      → ltb u v ≡ l → ltb v u ≡ m → C (next z w x y l m)
 
   by-tests : (C : Bool → Type 0) → Choosing C → C (fieldNext f t s)
-  unfolding fieldNext
+  unfolding fieldNextBy
   by-tests C go =
-      go (eqb d 0) (eqb e 0) (trimReadOut s) (fieldReadOut s) (ltb (scoreDrop f d) (scoreDrop t e))
-      (ltb (scoreDrop t e) (scoreDrop f d)) refl refl refl refl refl refl
+      go (eqb d 0) (eqb e 0) (trimReadOut s) (fieldReadOut s) (ltb u v) (ltb v u) refl refl refl refl refl refl
 
   module _ (d0 : eqb d 0 ≡ false) (e0 : eqb e 0 ≡ false) where
     field-some : 1 ≤ d
@@ -62,30 +69,31 @@ module _ {q : Query} {f t : List ℤ} {out : List Pair} {s : Session} (a : Reach
     trim-some : 1 ≤ e
     trim-some = let z = eqb-false e 0 e0 in omega arith
 
-    field-drop : dropAt side (rowsOf f) d ≡ scoreDrop f d
+    field-drop : dropAt (fieldSide q) (rowsOf f) d ≡ u
     field-drop = omega (arith, first-field a field-some trim-some, last-field a field-some trim-some)
 
-    trim-drop : dropAt side (rowsOf t) e ≡ scoreDrop t e
+    trim-drop : dropAt (trimSide q) (rowsOf t) e ≡ v
     trim-drop = omega (arith, first-trim a field-some trim-some, last-trim a field-some trim-some)
 
   -- the join's choice of the field table, or of the trim table
   abbrev Next : Bool → Type 0
-  Next true = Chosen side side (rowsOf f) d (rowsOf t) e
-  Next false = Chosen side side (rowsOf t) e (rowsOf f) d
+  Next true = Chosen (fieldSide q) (trimSide q) (rowsOf f) d (rowsOf t) e
+  Next false = Chosen (trimSide q) (fieldSide q) (rowsOf t) e (rowsOf f) d
 
   chosen : (field : Bool) → fieldNext f t s ≡ field → Next field
   chosen field n = subst Next n (by-tests Next go)
     where
       -- equal drops: the one with fewer rows read
-      fewer : ltb (scoreDrop f d) (scoreDrop t e) ≡ false → ltb (scoreDrop t e) (scoreDrop f d) ≡ false
-          → dropAt side (rowsOf f) d ≡ scoreDrop f d → dropAt side (rowsOf t) e ≡ scoreDrop t e → 1 ≤ d → 1 ≤ e
-          → side .ended (rowsOf f) d ≡ false → side .ended (rowsOf t) e ≡ false → (b : Bool) → leb d e ≡ b → Next b
-      fewer l m u v hd he x y true n =
-          let no-less = ltb-false (scoreDrop t e) (scoreDrop f d) m in
-          inr (he, x, inr (inr (omega (arith, u, v), leb-true d e n)))
-      fewer l m u v hd he x y false n =
-          let no-less = ltb-false (scoreDrop f d) (scoreDrop t e) l in
-          inr (hd, y, inr (inr (omega (arith, u, v), omega (arith, leb-false d e n))))
+      fewer : ltb u v ≡ false → ltb v u ≡ false
+          → dropAt (fieldSide q) (rowsOf f) d ≡ u → dropAt (trimSide q) (rowsOf t) e ≡ v → 1 ≤ d → 1 ≤ e
+          → fieldSide q .ended (rowsOf f) d ≡ false → trimSide q .ended (rowsOf t) e ≡ false → (b : Bool)
+          → leb d e ≡ b → Next b
+      fewer l m i j hd he x y true n =
+          let no-less = ltb-false v u m in
+          inr (he, x, inr (inr (omega (arith, i, j), leb-true d e n)))
+      fewer l m i j hd he x y false n =
+          let no-less = ltb-false u v l in
+          inr (hd, y, inr (inr (omega (arith, i, j), omega (arith, leb-false d e n))))
 
       go : Choosing Next
       go true w x y l m ez ew ex ey el em = inl (eqb-true d 0 ez)
@@ -96,14 +104,14 @@ module _ {q : Query} {f t : List ℤ} {out : List Pair} {s : Session} (a : Reach
       go false false false true l m ez ew ex ey el em =
           inr (field-some ez ew, trim-ended a ∙ ex, inl (field-ended a ∙ ey))
       go false false false false true m ez ew ex ey el em =
-          let less = ltb-true (scoreDrop f d) (scoreDrop t e) el in
+          let less = ltb-true u v el in
           inr (
             trim-some ez ew,
             field-ended a ∙ ey,
             inr (inl (omega (arith, field-drop ez ew, trim-drop ez ew))),
           )
       go false false false false false true ez ew ex ey el em =
-          let less = ltb-true (scoreDrop t e) (scoreDrop f d) em in
+          let less = ltb-true v u em in
           inr (
             field-some ez ew,
             trim-ended a ∙ ex,
@@ -116,7 +124,7 @@ module _ {q : Query} {f t : List ℤ} {out : List Pair} {s : Session} (a : Reach
 -- fact 5 of a session: an unsettled read goes on from a depth below every sure reading's
 module _ {q : Query} {f t : List ℤ} {out : List Pair} {s : Session} (a : Reached q f t out s) (g : legal f ≡ true)
     (h : legal t ≡ true) (wanted : 1 ≤ q .k) (u : settled f t s ≡ false) (m : FieldRows) (n : TrimRows)
-    (sure : Sure (q .k) (q .radius) f t m n) where
+    (sure : Sure q f t m n) where
   live : leb (length (rowsOf f)) 0 ≡ false
   live =
       let z = unsettled-out f t s u .field-some in
@@ -127,22 +135,25 @@ module _ {q : Query} {f t : List ℤ} {out : List Pair} {s : Session} (a : Reach
       let z = unsettled-out f t s u .trim-some in
       lt-leb (length (rowsOf t)) 0 (omega (arith, length-rows t, a .trim-rows))
 
-  unended : (side .ended (rowsOf f) (s .depth .field .0) && side .ended (rowsOf t) (s .depth .trim .0)) ≡ false
+  unended : (fieldSide q .ended (rowsOf f) (s .depth .field .0) && trimSide q .ended (rowsOf t) (s .depth .trim .0))
+      ≡ false
   unended = rw (field-ended a, trim-ended a) (unsettled-out f t s u .unread)
 
   field-limit : fieldNext f t s ≡ true → s .depth .field .0 < max (m .0) (n .0)
   field-limit c =
-      row-limit side side (near (q .radius)) (laws (q .radius)) (rowsOf f) (rowsOf t) (legal-rows f g) (legal-rows t h)
+      row-limit (fieldSide q) (trimSide q) (near q) (laws q (a .accepted)) (rowsOf f) (rowsOf t)
+      (legal-rows f g (field-rises q (a .accepted))) (legal-rows t h (trim-rises q (a .accepted)))
       (q .k) (m .0) (n .0) (s .depth .field .0) (s .depth .trim .0) wanted live live-trim unended
       (λ hd he. unsettled-short a g h hd he u) (chosen a (unsettled-out f t s u .unread) true c)
-      (sure-rows (q .k) (q .radius) f t m n g h .0 sure)
+      (sure-rows q (a .accepted) f t m n g h .0 sure)
 
   trim-limit : fieldNext f t s ≡ false → s .depth .trim .0 < max (m .0) (n .0)
   trim-limit c =
-      row-limit-trim side side (near (q .radius)) (laws (q .radius)) (rowsOf f) (rowsOf t) (legal-rows f g)
-      (legal-rows t h) (q .k) (m .0) (n .0) (s .depth .field .0) (s .depth .trim .0) wanted live live-trim unended
+      row-limit-trim (fieldSide q) (trimSide q) (near q) (laws q (a .accepted)) (rowsOf f) (rowsOf t)
+      (legal-rows f g (field-rises q (a .accepted))) (legal-rows t h (trim-rises q (a .accepted))) (q .k)
+      (m .0) (n .0) (s .depth .field .0) (s .depth .trim .0) wanted live live-trim unended
       (λ hd he. unsettled-short a g h hd he u) (chosen a (unsettled-out f t s u .unread) false c)
-      (sure-rows (q .k) (q .radius) f t m n g h .0 sure)
+      (sure-rows q (a .accepted) f t m n g h .0 sure)
 
   abbrev limit : ℕ
   limit = max (m .0) (n .0) + q .block - 1

@@ -18,10 +18,13 @@ use Rattle.lists.specs.Bools.{and-out}
 use Rattle.join.specs.Held.{Holds}
 use Rattle.join.specs.HeldLaws.{skip-same, holds-join, held-ranked, holds-same}
 use Rattle.rules.specs.declared.Pair.{Pair}
+use Rattle.rules.specs.declared.Query.{Query}
 use Rattle.rules.specs.declared.Session.{Session}
-use Rattle.rules.specs.Tables.{rowCount, ahead, Block, qualifying, legal}
+use Rattle.rules.specs.Tables.{rowCount, terms, ahead, Block, qualifying, legal}
 use Rattle.rules.specs.Session.{heldPairs, noPair, places, firstScore}
-use Rattle.rules.specs.Read.{lowest, skipped, bestHeld, holding, meet, rowsBetween, blockCount, meetBlocks}
+use Rattle.rules.specs.Read.{lowest, skippedBy, skipped, bestHeld, holding, meetBy, meet, rowsBetween, blockCount}
+use Rattle.rules.specs.Read.{meetBlocksBy}
+use Rattle.rules.specs.Read.{meetBlocks}
 use Rattle.session_laws.specs.Read.{meet-keeps, blocks-keep}
 use Rattle.tables_join.specs.Pairs.{ownRow, otherRow, Between, pair-rank, qualifying-distinct, mem-between}
 use Rattle.tables_join.specs.Pairs.{between-low}
@@ -61,17 +64,17 @@ held-holding s l = take-append-seam l (replicate (64 - length l) noPair)
 
 module _ (s : Session) (x y : Block) where
   abbrev met : List Pair
-  met = qualifying (s .query .radius) x y
+  met = qualifying (terms (s .query)) x y
 
   abbrev firstScores : ℕ
-  firstScores = firstScore (x .rows) + firstScore (y .rows)
+  firstScores = firstScore (terms (s .query) .field) (x .rows) + firstScore (terms (s .query) .trim) (y .rows)
 
   -- of any record whose held pairs are ranked and as many as it says
   module _ (stored : length (heldPairs s) ≡ s .held) (in-rank : ranked ahead (heldPairs s) ≡ true)
       (low : (p : Pair) → List·Memᴰ p met → p .sum ≤ firstScores) where
     -- "Skipping never changes them"
     skipped-same : skipped s x y ≡ true → bestHeld s met ≡ heldPairs s
-    unfolding skipped bestHeld
+    unfolding skippedBy bestHeld
     skipped-same e =
         let a = and-out (eqb (s .out + s .held) (s .query .k)) (ltb firstScores (lowest (heldPairs s))) e in
         let full : s .out + s .held ≡ s .query .k = eqb-true (s .out + s .held) (s .query .k) (a .0) in
@@ -81,7 +84,7 @@ module _ (s : Session) (x y : Block) where
 
     -- a block pair met holds the best of those held and its own, skipped or not
     pub meet-held : heldPairs (meet s x y) ≡ bestHeld s met
-    unfolding meet
+    unfolding meetBy
     meet-held = go (skipped s x y) refl
       where
         go : (b : Bool) → skipped s x y ≡ b → heldPairs (cond b s (holding s (bestHeld s met))) ≡ bestHeld s met
@@ -89,7 +92,7 @@ module _ (s : Session) (x y : Block) where
         go false e = held-holding s (bestHeld s met)
 
     pub meet-stored : length (heldPairs (meet s x y)) ≡ meet s x y .held
-    unfolding meet holding
+    unfolding meetBy holding
     meet-stored = go (skipped s x y)
       where
         l : List Pair
@@ -116,7 +119,7 @@ module _ (s : Session) (x y : Block) where
 
       joined : Holds ahead (s .query .k) R′ out (sort ahead (h .rest ++ met)) best
       joined =
-          holds-join pair-rank R′ met (h .holds) (qualifying-distinct (s .query .radius) x y)
+          holds-join pair-rank R′ met (h .holds) (qualifying-distinct (s .query) x y)
           (λ p m. new p (in-met p .0 m))
           (λ p. (
             λ r. ⊎-elim inl (λ m. inr (in-met p .1 m)) (more p .0 r),
@@ -134,17 +137,17 @@ module _ (s : Session) (x y : Block) where
 -- ---- A new block meets all blocks read of the other table
 
 -- the other table's rows up to m + size, of c, are those up to m and the next ones
-between-split : (field : Bool) (radius : ℕ) (f t : List ℤ) (a b m size c : ℕ) (p : Pair)
-    → Between field radius f t a b 0 (min (m + size) c) p
-    ↔ (Between field radius f t a b 0 (min m c) p ⊎ Between field radius f t a b m (min (m + size) c) p)
-between-split field radius f t a b m size c p = (
+between-split : (field : Bool) (query : Query) (f t : List ℤ) (a b m size c : ℕ) (p : Pair)
+    → Between field query f t a b 0 (min (m + size) c) p
+    ↔ (Between field query f t a b 0 (min m c) p ⊎ Between field query f t a b m (min (m + size) c) p)
+between-split field query f t a b m size c p = (
   λ h. go h (decLe (otherRow field p) m),
   ⊎-elim (λ h. record { fits = h .fits; own-part = h .own-part; other-part = omega (arith, h .other-part) })
       (λ h. record { fits = h .fits; own-part = h .own-part; other-part = omega (arith, h .other-part) }),
 )
   where
-    go : Between field radius f t a b 0 (min (m + size) c) p → Dec (otherRow field p ≤ m)
-        → Between field radius f t a b 0 (min m c) p ⊎ Between field radius f t a b m (min (m + size) c) p
+    go : Between field query f t a b 0 (min (m + size) c) p → Dec (otherRow field p ≤ m)
+        → Between field query f t a b 0 (min m c) p ⊎ Between field query f t a b m (min (m + size) c) p
     go h (yes k) = inl (record { fits = h .fits; own-part = h .own-part; other-part = omega (arith, h .other-part) })
     go h (no k) = inr (record { fits = h .fits; own-part = h .own-part; other-part = omega (arith, h .other-part) })
 
@@ -162,7 +165,7 @@ module _ (field : Bool) (f t : List ℤ) (g : legal f ≡ true) (h : legal t ≡
 
   -- the pairs of the new block and rows d + 1 to e of the other table
   abbrev New : ℕ → ℕ → Pair → Type 0
-  New d e = Between field (s .query .radius) f t a b d e
+  New d e = Between field (s .query) f t a b d e
 
   abbrev Joined : ℕ → Pair → Type 0
   Joined e p = R p ⊎ New 0 e p
@@ -170,10 +173,10 @@ module _ (field : Bool) (f t : List ℤ) (g : legal f ≡ true) (h : legal t ≡
   -- one block more
   block-holds : (n : ℕ) → Keeping (Joined (min (n * size) c)) out (after n)
       → Keeping (Joined (min (suc n * size) c)) out (after (suc n))
-  unfolding meetBlocks
+  unfolding meetBlocksBy
   block-holds n j =
       meet-holds (after n) (cond field x y) (cond field y x) (Joined low) (Joined (min (suc n * size) c))
-      (New (n * size) high) out j inside (between-low field (s .query .radius) f t a b (n * size) high g h) new more
+      (New (n * size) high) out j inside (between-low field (s .query) f t a b (n * size) high g h) new more
     where
       low : ℕ
       low = min (n * size) c
@@ -185,12 +188,12 @@ module _ (field : Bool) (f t : List ℤ) (g : legal f ≡ true) (h : legal t ≡
       y = rowsBetween (cond field t f) (n * size) high
 
       inside : (p : Pair)
-          → List·Memᴰ p (qualifying (after n .query .radius) (cond field x y) (cond field y x)) ↔ New (n * size) high p
+          → List·Memᴰ p (qualifying (terms (after n .query)) (cond field x y) (cond field y x)) ↔ New (n * size) high p
       inside p =
           subst
-          (λ q. List·Memᴰ p (qualifying (q .radius) (cond field x y) (cond field y x)) ↔ New (n * size) high p)
+          (λ q. List·Memᴰ p (qualifying (terms q) (cond field x y) (cond field y x)) ↔ New (n * size) high p)
           (sym (blocks-keep field s x (cond field t f) c n .query))
-          (mem-between field (s .query .radius) f t a b (n * size) high hb (omega arith) p)
+          (mem-between field (s .query) f t a b (n * size) high hb (omega arith) p)
 
       new : (p : Pair) → New (n * size) high p → Joined low p → ⊥
       new p m (inl r) = omega (arith, m .own-part, old p r)
@@ -205,10 +208,10 @@ module _ (field : Bool) (f t : List ℤ) (g : legal f ≡ true) (h : legal t ≡
           split : New 0 (min (suc n * size) c) p ↔ (New 0 low p ⊎ New (n * size) high p)
           split =
               subst (λ m. New 0 (min m c) p ↔ (New 0 low p ⊎ New (n * size) high p)) (sym (suc-mul n size))
-              (between-split field (s .query .radius) f t a b (n * size) size c p)
+              (between-split field (s .query) f t a b (n * size) size c p)
 
   blocks-hold : (n : ℕ) → Keeping (Joined (min (n * size) c)) out (after n)
-  unfolding meetBlocks
+  unfolding meetBlocksBy
   blocks-hold zero =
       keeping-same R (Joined (min (0 * size) c)) out s
       (λ p. (inl, ⊎-elim (λ r. r) (λ m. absurd (omega (arith, m .other-part))))) k

@@ -22,7 +22,7 @@ use Rattle.rules.specs.declared.Session.{Session}
 use Rattle.rules.specs.declared.Counts.{Counts}
 use Rattle.rules.specs.Tables.{rowCount, ahead, legal, pairSum}
 use Rattle.rules.specs.Session.{heldPairs, opened, bothReadOut, aTableIsEmpty, fieldReadOut, trimReadOut, settled}
-use Rattle.rules.specs.Read.{readTo, newDepth, readTable, readBlock}
+use Rattle.rules.specs.Read.{readTo, newDepth, readTableBy, readTable, readBlock}
 use Rattle.rules.specs.Take.{firstHeld, movedOut, finished}
 use Rattle.rules.specs.Calls.{queryCode, pairFits, recordFits}
 use Rattle.session_laws.specs.Tables.{legal-out}
@@ -37,19 +37,21 @@ use Rattle.tables_join.specs.Held.{Keeping, keeping-same, all-blocks-hol
 
 -- a record of a session over tables f and t, the pairs of `out` being out
 pub record Reached (q : Query) (f t : List ℤ) (out : List Pair) (s : Session) : Type 0 where
+  pub accepted : queryCode q ≡ 0
   pub query : s .query ≡ q
   pub field-rows : s .rows .field .0 ≡ rowCount f
   pub trim-rows : s .rows .trim .0 ≡ rowCount t
   pub field-depth : s .depth .field .0 ≤ rowCount f
   pub trim-depth : s .depth .trim .0 ≤ rowCount t
-  pub keeping : Keeping (Region (q .radius) f t (s .depth .field .0) (s .depth .trim .0)) out s
+  pub keeping : Keeping (Region q f t (s .depth .field .0) (s .depth .trim .0)) out s
 
 -- ---- Opening
 
-pub open-reached : (q : Query) (f t : List ℤ)
+pub open-reached : (q : Query) (f t : List ℤ) → queryCode q ≡ 0
     → Reached q f t [] (opened q (record { 0 = rowCount f }) (record { 0 = rowCount t }))
 unfolding opened
-open-reached q f t = record {
+open-reached q f t accepted = record {
+  accepted = accepted;
   query = refl;
   field-rows = refl;
   trim-rows = refl;
@@ -59,23 +61,23 @@ open-reached q f t = record {
     counted = refl;
     stored = refl;
     rest = [];
-    holds = holds-none pair-rank (q .k) (Region (q .radius) f t 0 0) (λ p h. omega (arith, h .own-part));
+    holds = holds-none pair-rank (q .k) (Region q f t 0 0) (λ p h. omega (arith, h .own-part));
   };
 }
 
 -- ---- Read
 
 -- the region down to new depths: the old one, and the new rows with the other table's
-between-more : (field : Bool) (radius : ℕ) (f t : List ℤ) (a b c : ℕ) (p : Pair) → a ≤ b
-    → (Between field radius f t 0 a 0 c p ⊎ Between field radius f t a b 0 c p) ↔ Between field radius f t 0 b 0 c p
-between-more field radius f t a b c p h = (
+between-more : (field : Bool) (query : Query) (f t : List ℤ) (a b c : ℕ) (p : Pair) → a ≤ b
+    → (Between field query f t 0 a 0 c p ⊎ Between field query f t a b 0 c p) ↔ Between field query f t 0 b 0 c p
+between-more field query f t a b c p h = (
   ⊎-elim (λ r. record { fits = r .fits; own-part = omega (arith, r .own-part); other-part = r .other-part })
       (λ r. record { fits = r .fits; own-part = omega (arith, r .own-part); other-part = r .other-part }),
   λ r. go r (decLe (ownRow field p) a),
 )
   where
-    go : Between field radius f t 0 b 0 c p → Dec (ownRow field p ≤ a)
-        → Between field radius f t 0 a 0 c p ⊎ Between field radius f t a b 0 c p
+    go : Between field query f t 0 b 0 c p → Dec (ownRow field p ≤ a)
+        → Between field query f t 0 a 0 c p ⊎ Between field query f t a b 0 c p
     go r (yes k) = inl (record { fits = r .fits; own-part = (r .own-part .0, k); other-part = r .other-part })
     go r (no k) = inr (record { fits = r .fits; own-part = omega (arith, r .own-part); other-part = r .other-part })
 
@@ -90,8 +92,8 @@ module _ (field : Bool) (f t : List ℤ) (g : legal f ≡ true) (h : legal t ≡
   abbrev b : ℕ
   b = newDepth field s
 
-  abbrev radius : ℕ
-  radius = s .query .radius
+  abbrev query : Query
+  query = s .query
 
   field-in : d ≤ s .rows .field .0
   field-in = omega (arith, a .field-depth, a .field-rows)
@@ -107,36 +109,37 @@ module _ (field : Bool) (f t : List ℤ) (g : legal f ≡ true) (h : legal t ≡
 
   -- the old region, and the new rows with the other table's
   abbrev Old : Pair → Type 0
-  Old = Between field radius f t 0 (cond field d e) 0 (cond field e d)
+  Old = Between field query f t 0 (cond field d e) 0 (cond field e d)
 
   abbrev New : Pair → Type 0
-  New = Between field radius f t (cond field d e) b 0 (cond field e d)
+  New = Between field query f t (cond field d e) b 0 (cond field e d)
 
   old-holds : Keeping Old out s
-  old-holds = keeping-same (Region radius f t d e) Old out s (region-between radius f t field d e) (a .keeping)
+  old-holds = keeping-same (Region query f t d e) Old out s (region-between query f t field d e) (a .keeping)
 
-  met-holds : Keeping (Region radius f t (cond field b d) (cond field e b)) out (metAll field f t s)
+  met-holds : Keeping (Region query f t (cond field b d) (cond field e b)) out (metAll field f t s)
   met-holds =
-      keeping-same (λ p. Old p ⊎ New p) (Region radius f t (cond field b d) (cond field e b)) out (metAll field f t s)
+      keeping-same (λ p. Old p ⊎ New p) (Region query f t (cond field b d) (cond field e b)) out (metAll field f t s)
       same-region
       (all-blocks-hold field f t g h s (cond field d e) b (cond field e d) (parts .0) (parts .1) Old
       (λ p r. r .own-part .1) out old-holds size)
     where
-      same-region : (p : Pair) → (Old p ⊎ New p) ↔ Region radius f t (cond field b d) (cond field e b) p
+      same-region : (p : Pair) → (Old p ⊎ New p) ↔ Region query f t (cond field b d) (cond field e b) p
       same-region p =
           let deeper = new-grows s field-in trim-in field in
-          let more = between-more field radius f t (cond field d e) b (cond field e d) p deeper in
-          let new = region-read radius f t field b d e p in
+          let more = between-more field query f t (cond field d e) b (cond field e d) p deeper in
+          let new = region-read query f t field b d e p in
           (λ r. new .1 (more .0 r), λ r. more .1 (new .0 r))
 
   read-same-query : Reached (s .query) f t out (readTable field f t s)
-  unfolding readTable readTo
+  unfolding readTableBy readTo
   read-same-query =
       let met : Session = metAll field f t s in
       let same : Kept s met = met-all-keeps field f t s in
       let deep : Counts → Pair → Type 0 =
-      λ c. Region radius f t (cond field b (c .field .0)) (cond field (c .trim .0) b) in
+      λ c. Region query f t (cond field b (c .field .0)) (cond field (c .trim .0) b) in
       record {
+        accepted = a .accepted;
         query = same .query;
         field-rows = ap (λ c. c .field .0) (same .rows) ∙ a .field-rows;
         trim-rows = ap (λ c. c .trim .0) (same .rows) ∙ a .trim-rows;
@@ -164,7 +167,7 @@ read-reached field {q} {f} {t} {out} {s} a g h size =
 
 module _ {q : Query} {f t : List ℤ} {out : List Pair} {s : Session} (a : Reached q f t out s) where
   abbrev R : Pair → Type 0
-  R = Region (q .radius) f t (s .depth .field .0) (s .depth .trim .0)
+  R = Region q f t (s .depth .field .0) (s .depth .trim .0)
 
   module _ (some : 1 ≤ s .held) where
     abbrev left : (m : List Pair) × (heldPairs s ≡ firstHeld s ∷ m) × (heldPairs (movedOut s) ≡ m)
@@ -191,6 +194,7 @@ module _ {q : Query} {f t : List ℤ} {out : List Pair} {s : Session} (a : Reach
     take-reached =
         let h = holds-out pair-rank first-holds in
         record {
+          accepted = a .accepted;
           query = a .query;
           field-rows = a .field-rows;
           trim-rows = a .trim-rows;
@@ -216,19 +220,19 @@ module _ {q : Query} {f t : List ℤ} {out : List Pair} {s : Session} (a : Reach
       )
 
   -- read out, the region has every pair
-  pub read-out-region : bothReadOut s ≡ true → (p : Pair) → QualifyingPair (q .radius) f t p → R p
+  pub read-out-region : bothReadOut s ≡ true → (p : Pair) → QualifyingPair q f t p → R p
   read-out-region e p h =
       let d = read-out e in
       record { fits = h; own-part = omega (arith, h .field-row); other-part = omega (arith, h .trim-row) }
 
-  pub empty-none : aTableIsEmpty s ≡ true → (p : Pair) → QualifyingPair (q .radius) f t p → ⊥
+  pub empty-none : aTableIsEmpty s ≡ true → (p : Pair) → QualifyingPair q f t p → ⊥
   empty-none e p h =
       ⊎-elim (λ z. omega (arith, eqb-true (s .rows .field .0) 0 z, a .field-rows, h .field-row))
       (λ z. omega (arith, eqb-true (s .rows .trim .0) 0 z, a .trim-rows, h .trim-row))
       (or-out (eqb (s .rows .field .0) 0) (eqb (s .rows .trim .0) 0) e)
 
   abbrev Complete : Type 0
-  Complete = (length out ≡ q .k) ⊎ ((p : Pair) → QualifyingPair (q .radius) f t p → List·Memᴰ p out)
+  Complete = (length out ≡ q .k) ⊎ ((p : Pair) → QualifyingPair q f t p → List·Memᴰ p out)
 
   pub finished-complete : finished s ≡ true → Complete
   unfolding finished
@@ -290,11 +294,11 @@ module _ {q : Query} {f t : List ℤ} {out : List Pair} {s : Session} (a : Reach
       })
 
   -- every ground of 5
-  pub reached-fits : Sound s → legal f ≡ true → legal t ≡ true → queryCode q ≡ 0 → recordFits s ≡ true
-  reached-fits h x y c =
+  pub reached-fits : Sound s → legal f ≡ true → legal t ≡ true → recordFits s ≡ true
+  reached-fits h x y =
       record-in s
       (record {
-        query = query-out (s .query) (ap queryCode (a .query) ∙ c);
+        query = query-out (s .query) (ap queryCode (a .query) ∙ a .accepted);
         field =
             record {
               few = omega (arith, legal-out f x .size .few, a .field-rows);

@@ -20,8 +20,11 @@ use Rattle.join.specs.Join.{Side, Laws, flip}
 use Rattle.join.specs.Plain.{Rows, plain, PlainLegal, Matches}
 use Rattle.join.specs.PlainLaws.{plain-laws}
 use Rattle.rules.specs.Tables.{mostRows, rowCount, inRange, Row, row, qualifies, num, within, rowInRange, rowInOrder}
+use Rattle.rules.specs.Tables.{terms}
 use Rattle.rules.specs.Tables.{legal}
 use Rattle.rules.specs.Tables.{natOf, gap, squaredDistance}
+use Rattle.rules.specs.declared.Query.{Query}
+use Rattle.rules.specs.Calls.{queryCode}
 use Rattle.session_laws.specs.Tables.{range-out, range-in, legal-out, legal-in}
 
 -- ---- Definitions
@@ -38,21 +41,48 @@ blankRow = record { pattern = 0; score = 0; shade = record { a = pos 0; b = pos 
 abbrev pub GoodRow : Row → Type 0
 GoodRow x = inRange (pos (x .pattern)) (pos (x .score)) (x .shade .a) (x .shade .b) ≡ true
 
-abbrev pub rows : Rows Row
-rows = record { blank = blankRow; weight = λ x. x .score; Good = GoodRow; most = mostRows }
+-- a table whose rows weigh so much
+abbrev pub rowsBy : (Row → ℕ) → Rows Row
+rowsBy weight = record { blank = blankRow; weight = weight; Good = GoodRow; most = mostRows }
 
--- both tables today: the weight of a row is its score
-abbrev pub side : Side Row
-side = plain rows
+-- the field table and the trim table of a query
+abbrev pub fieldSide : Query → Side Row
+fieldSide query = plain (rowsBy (terms query .field))
+
+abbrev pub trimSide : Query → Side Row
+trimSide query = plain (rowsBy (terms query .trim))
 
 -- the test on a field row and a trim row
-abbrev pub near : ℕ → Row → Row → Bool
-near radius x y = qualifies radius (x .shade) (y .shade)
+abbrev pub near : Query → Row → Row → Bool
+near query = terms query .near
+
+-- rows weigh more exactly if their scores are higher
+pub record Rises (weight : Row → ℕ) : Type 0 where
+  pub up : (x y : Row) → x .score ≤ y .score → weight x ≤ weight y
+  pub down : (x y : Row) → weight x ≤ weight y → x .score ≤ y .score
 
 -- rows written out, four numbers to each
 unfoldable pub flat : List Row → List ℤ
 flat [] = []
 flat (x ∷ l) = pos (x .pattern) ∷ pos (x .score) ∷ x .shade .a ∷ x .shade .b ∷ flat l
+
+-- ---- What rows weigh
+
+-- in any query's terms, no more than a row of a higher score
+module _ (query : Query) (x y : Row) (h : x .score ≤ y .score) where
+  pub field-up : terms query .field x ≤ terms query .field y
+  field-up = h
+
+  pub trim-up : terms query .trim x ≤ terms query .trim y
+  trim-up = h
+
+-- in those of an accepted one, less than it
+module _ (query : Query) (accepted : queryCode query ≡ 0) where
+  pub field-rises : Rises (terms query .field)
+  field-rises = record { up = field-up query; down = λ x y h. h }
+
+  pub trim-rises : Rises (terms query .trim)
+  trim-rises = record { up = trim-up query; down = λ x y h. h }
 
 -- ---- Their laws
 
@@ -115,8 +145,8 @@ module _ (t : List ℤ) (g : legal t ≡ true) where
       le-ind (λ j. j < rowCount t → row t j .score ≤ row t i .score) (λ k. omega arith)
       (λ j m ih k. omega (arith, ih (omega arith), score-falls j k)) j h
 
-  pub legal-rows : PlainLegal rows (rowsOf t)
-  legal-rows = record {
+  pub legal-rows : {weight : Row → ℕ} → Rises weight → PlainLegal (rowsBy weight) (rowsOf t)
+  legal-rows {weight} rises = record {
     short = omega (arith, length-rows t, legal-out t g .size .few);
     good =
         λ i h.
@@ -125,9 +155,8 @@ module _ (t : List ℤ) (g : legal t ≡ true) where
     falls =
         λ i h.
         let k : suc i < rowCount t = omega (arith, length-rows t) in
-        let x = ap (λ x. x .score) (rows-at t (suc i) k) in
-        let y = ap (λ x. x .score) (rows-at t i (omega arith)) in
-        omega (arith, x, y, score-falls i k);
+        subst₂ (λ x y. weight x ≤ weight y) (sym (rows-at t (suc i) k)) (sym (rows-at t i (omega arith)))
+        (rises .up (row t (suc i)) (row t i) (score-falls i k));
   }
 
 -- ---- Rows written out
@@ -221,18 +250,21 @@ rows-take n t g =
     ∙ ap rowsOf (flat-take n (rowsOf t))
     ∙ rows-flat (take n (rowsOf t))
 
-flat-order : (l : List Row) → PlainLegal rows l → (i : ℕ) → i < length l → rowInOrder (flat l) i ≡ true
+flat-order : {weight : Row → ℕ} → Rises weight → (l : List Row) → PlainLegal (rowsBy weight) l → (i : ℕ)
+    → i < length l → rowInOrder (flat l) i ≡ true
 unfolding rowInOrder cell
-flat-order l g zero h = refl
-flat-order l g (suc i) h =
+flat-order rises l g zero h = refl
+flat-order rises l g (suc i) h =
     let e : suc i - 1 ≡ i = omega arith in
     let before = ap (λ j. num (flat l) j 1) e ∙ num-flat l i 1 (lit≤ tt) in
     rw (ne-eqb (suc i) 0 (λ z. omega arith), num-flat l (suc i) 1 (lit≤ tt), before)
-    (le-leb (getD l (suc i) blankRow .score) (getD l i blankRow .score) (g .falls i h))
+    (le-leb (getD l (suc i) blankRow .score) (getD l i blankRow .score)
+    (rises .down (getD l (suc i) blankRow) (getD l i blankRow) (g .falls i h)))
 
-pub flat-legal : (l : List Row) → PlainLegal rows l → legal (flat l) ≡ true
+pub flat-legal : {weight : Row → ℕ} → Rises weight → (l : List Row) → PlainLegal (rowsBy weight) l
+    → legal (flat l) ≡ true
 unfolding rowInRange cell
-flat-legal l g =
+flat-legal rises l g =
     legal-in (flat l)
     (record {
       size =
@@ -246,7 +278,7 @@ flat-legal l g =
           let cells = num-flat l i in
           record {
             range = rw (cells 0 (lit≤ tt), cells 1 (lit≤ tt), cells 2 (lit≤ tt), cells 3 (lit≤ tt)) (g .good i k);
-            order = flat-order l g i k;
+            order = flat-order rises l g i k;
           };
     })
 
@@ -258,9 +290,11 @@ gap-same (pos zero) = refl
 gap-same (pos (suc n)) = rw (le-ltb (suc n) (suc n) (omega arith)) (omega arith)
 gap-same (negsuc n) = rw (le-ltb (suc n) (suc n) (omega arith)) (omega arith)
 
-same-place : (radius : ℕ) (x : Row) → near radius x x ≡ true
+same-place : (query : Query) (x : Row) → near query x x ≡ true
 unfolding qualifies squaredDistance
-same-place radius x = rw (gap-same (x .shade .a), gap-same (x .shade .b)) (le-leb 0 (radius * radius) (omega arith))
+same-place query x =
+    let r = query .radius in
+    rw (gap-same (x .shade .a), gap-same (x .shade .b)) (le-leb 0 (r * r) (omega arith))
 
 -- x at y's place
 abbrev moved : Row → Row → Row
@@ -273,14 +307,24 @@ moved-good x y g h =
     range-in (pos (x .pattern)) (pos (x .score)) (y .shade .a) (y .shade .b)
     (record { pattern = a .pattern; score = a .score; a = b .a; b = b .b })
 
-pub laws : (radius : ℕ) → Laws side side (near radius)
-laws radius = plain-laws rows rows (near radius) match match′ (lit≤ tt) (lit≤ tt) some some good good
+pub laws : (query : Query) → queryCode query ≡ 0 → Laws (fieldSide query) (trimSide query) (near query)
+laws query accepted =
+    plain-laws (rowsBy (terms query .field)) (rowsBy (terms query .trim)) (near query)
+    (match (field-rises query accepted) (λ x y. same-place query y))
+    (match (trim-rises query accepted) (λ x y. same-place query y)) (lit≤ tt) (lit≤ tt) some some good good
   where
-    match : Matches rows rows (near radius)
-    match = record { like = moved; good = moved-good; level = λ x y g h. refl; fits = λ x y g h. same-place radius y }
-
-    match′ : Matches rows rows (flip (near radius))
-    match′ = record { like = moved; good = moved-good; level = λ x y g h. refl; fits = λ x y g h. same-place radius y }
+    match : {weight other : Row → ℕ} {test : Row → Row → Bool} → Rises weight
+        → ((x y : Row) → test (moved x y) y ≡ true) → Matches (rowsBy weight) (rowsBy other) test
+    match rises same =
+        record {
+          like = moved;
+          good = moved-good;
+          level = λ x y g h.
+              let low = rises .up (moved x y) x (omega arith) in
+              let high = rises .up x (moved x y) (omega arith) in
+              omega arith;
+          fits = λ x y g h. same x y;
+        }
 
     some : Row
     some = record { pattern = 1; score = 0; shade = record { a = pos 0; b = pos 0 } }

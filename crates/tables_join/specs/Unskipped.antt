@@ -13,11 +13,12 @@ use Rattle.lists.specs.Lists.{sort, ranked}
 use Rattle.lists.specs.Parts.{append-distinct, every-at}
 use Rattle.lists.specs.Members.{mem-take, mem-sort, sort-ranked, ranked-take, ranked-distinct}
 use Rattle.rules.specs.declared.Pair.{Pair}
+use Rattle.rules.specs.declared.Query.{Query}
 use Rattle.rules.specs.declared.Session.{Session}
-use Rattle.rules.specs.Tables.{ahead, Block, qualifying, rowCount, legal}
+use Rattle.rules.specs.Tables.{terms, ahead, Block, qualifying, rowCount, legal}
 use Rattle.rules.specs.Session.{heldPairs, firstScore}
 use Rattle.rules.specs.Read.{rowsBetween, blockCount, blockAt, oldDepth, newDepth, fieldNext, bestHeld, meet}
-use Rattle.rules.specs.Read.{meetBlocks, readTo, readTable, readBlock}
+use Rattle.rules.specs.Read.{meetBlocksBy, meetBlocks, readTo, readTableBy, readTable, readBlock}
 use Rattle.rules.specs.Calls.{pairFits, callCode, newBlockCode}
 use Rattle.session_laws.specs.Record.{PairFits, pair-out, RecordFits}
 use Rattle.session_laws.specs.Calls.{Accepted, call-out, NewRowsFit, new-block-out, read-rows}
@@ -34,7 +35,7 @@ unfoldable pub heldUnskipped : Bool → Session → Block → List ℤ → ℕ �
 heldUnskipped field s new t depth zero = heldPairs s
 heldUnskipped field s new t depth (suc n) =
     let old = blockAt t (s .query .block) depth n in
-    let met = qualifying (s .query .radius) (cond field new old) (cond field old new) in
+    let met = qualifying (terms (s .query)) (cond field new old) (cond field old new) in
     take (s .query .k - s .out) (sort ahead (heldUnskipped field s new t depth n ++ met))
 
 -- after one block of the field table, or of the trim table
@@ -67,7 +68,7 @@ module _ (field : Bool) (f t : List ℤ) (g : legal f ≡ true) (h : legal t ≡
 
   block-unskipping : (n : ℕ) → Unskipping field a (n * s .query .block) (unskipped n) (after n)
       → Unskipping field a (suc n * s .query .block) (unskipped (suc n)) (after (suc n))
-  unfolding meetBlocks heldUnskipped bestHeld
+  unfolding meetBlocksBy heldUnskipped bestHeld
   block-unskipping n u = record {
     stored = meet-stored (after n) x y (u .stored) (u .in-rank) low;
     in-rank =
@@ -76,7 +77,7 @@ module _ (field : Bool) (f t : List ℤ) (g : legal f ≡ true) (h : legal t ≡
         (sort-ranked ahead (pair-rank .order) (heldPairs (after n) ++ met)
         (append-distinct (heldPairs (after n)) met
         (ranked-distinct ahead (pair-rank .order) (heldPairs (after n)) (u .in-rank))
-        (qualifying-distinct (after n .query .radius) x y) fresh)));
+        (qualifying-distinct (after n .query) x y) fresh)));
     seen =
         λ p m. ⊎-elim (λ k. ⊎-elim inl (λ z. inr (omega (arith, suc-mul n B))) (u .seen p k))
         (λ k. inr (omega (arith, suc-mul n B, inside p k .other-part)))
@@ -86,7 +87,7 @@ module _ (field : Bool) (f t : List ℤ) (g : legal f ≡ true) (h : legal t ≡
     same =
         held
         ∙ ap₂ (λ k l. take k (sort ahead l)) (ap₂ (λ q o. q .k - o) (kept .query) (kept .out))
-        (ap₂ (λ l radius. l ++ qualifying radius x y) (u .same) (ap (λ q. q .radius) (kept .query)));
+        (ap₂ (λ l query. l ++ qualifying (terms query) x y) (u .same) (kept .query));
   }
     where
       B : ℕ
@@ -105,19 +106,20 @@ module _ (field : Bool) (f t : List ℤ) (g : legal f ≡ true) (h : legal t ≡
       room = after n .query .k - after n .out
 
       met : List Pair
-      met = qualifying (after n .query .radius) x y
+      met = qualifying (terms (after n .query)) x y
 
       kept : Kept s (after n)
       kept = blocks-keep field s new (cond field t f) c n
 
-      radius : ℕ
-      radius = after n .query .radius
+      query : Query
+      query = after n .query
 
-      inside : (p : Pair) → List·Memᴰ p met → Between field radius f t a b (n * B) (min (n * B + B) c) p
-      inside p m = mem-between field radius f t a b (n * B) (min (n * B + B) c) hb (omega arith) p .0 m
+      inside : (p : Pair) → List·Memᴰ p met → Between field query f t a b (n * B) (min (n * B + B) c) p
+      inside p m = mem-between field query f t a b (n * B) (min (n * B + B) c) hb (omega arith) p .0 m
 
-      low : (p : Pair) → List·Memᴰ p met → p .sum ≤ firstScore (x .rows) + firstScore (y .rows)
-      low p m = between-low field radius f t a b (n * B) (min (n * B + B) c) g h p (inside p m)
+      low : (p : Pair) → List·Memᴰ p met
+          → p .sum ≤ firstScore (terms query .field) (x .rows) + firstScore (terms query .trim) (y .rows)
+      low p m = between-low field query f t a b (n * B) (min (n * B + B) c) g h p (inside p m)
 
       held : heldPairs (meet (after n) x y) ≡ take room (sort ahead (heldPairs (after n) ++ met))
       held = meet-held (after n) x y (u .stored) (u .in-rank) low
@@ -129,7 +131,7 @@ module _ (field : Bool) (f t : List ℤ) (g : legal f ≡ true) (h : legal t ≡
   module _ (stored : length (heldPairs s) ≡ s .held) (in-rank : ranked ahead (heldPairs s) ≡ true)
       (seen : (p : Pair) → List·Memᴰ p (heldPairs s) → ownRow field p ≤ a) where
     unskipping : (n : ℕ) → Unskipping field a (n * s .query .block) (unskipped n) (after n)
-    unfolding meetBlocks heldUnskipped
+    unfolding meetBlocksBy heldUnskipped
     unskipping zero = record { stored = stored; in-rank = in-rank; seen = λ p m. inl (seen p m); same = refl }
     unskipping (suc n) = block-unskipping n (unskipping n)
 
@@ -146,7 +148,7 @@ same-held-unskipped field s new t u depth (suc n) e =
     ap₂
     (λ l old.
     take (s .query .k - s .out)
-    (sort ahead (l ++ qualifying (s .query .radius) (cond field new old) (cond field old new))))
+    (sort ahead (l ++ qualifying (terms (s .query)) (cond field new old) (cond field old new))))
     (same-held-unskipped field s new t u depth n e)
     (same-part depth t u e (n * s .query .block) (min (n * s .query .block + s .query .block) depth) (omega arith))
 
@@ -195,7 +197,7 @@ module _ (field : Bool) (f t : List ℤ) (s : Session) (a : Accepted f t s) (new
   n-within = omega (arith, down, a .lent .trim .count)
 
   cut-unskipped : heldPairs (readTable field f′ t′ s) ≡ readUnskipped field f′ t′ s
-  unfolding readTable readTo readUnskipped
+  unfolding readTableBy readTo readUnskipped
   cut-unskipped =
       let good = read-rows field f t s a new in
       let d = s .depth .field .0 in

@@ -19,11 +19,13 @@ use Rattle.rules.specs.declared.Session.{Session}
 use Rattle.rules.specs.declared.Step.{Step}
 use Rattle.rules.specs.declared.Answer.the-variants.{Read, Settled, Given, Finished}
 use Rattle.rules.specs.Session.{settled, opened}
-use Rattle.rules.specs.Tables.{rowCount, legal, qualifying}
+use Rattle.rules.specs.Tables.{rowCount, legal, terms, qualifying}
 use Rattle.rules.specs.Read.{rowsBetween, fieldNext, readBlock}
 use Rattle.rules.specs.Take.{firstHeld, givesPair, movedOut, finished}
 use Rattle.rules.specs.Calls.{queryCode, callCode, newBlockCode, step, readCall, takeCall}
-use Rattle.rules.specs.Query.{given, wasGiven, readUntilSettled, takeUntilFinished, settledSession, list}
+use Rattle.rules.specs.Query.{given, wasGiven, readUntilSettledBy, readUntilSettled, takeUntilFinishedBy}
+use Rattle.rules.specs.Query.{takeUntilFinished, settledSession}
+use Rattle.rules.specs.Query.{list}
 use Rattle.rules.specs.Sure.{whole, qualifyingSums}
 use Rattle.session_laws.specs.Tables.{legal-out}
 use Rattle.session_laws.specs.Record.{query-out}
@@ -32,7 +34,6 @@ use Rattle.session_laws.specs.Calls.{take-gives, take-finishes}
 use Rattle.session_laws.specs.Read.{depths}
 use Rattle.session_laws.specs.Take.{gives-some, gives-secured, settled-take, settled-moves}
 use Rattle.session_laws.specs.Sound.{Sound, sound-open}
-use Rattle.tables_join.specs.Rows.{rows}
 use Rattle.tables_join.specs.Pairs.{QualifyingPair, pair-rank, qualifying-distinct, mem-qualifying}
 use Rattle.tables_join.specs.Reached.{Reached, open-reached, read-reached, take-reached, finished-complete}
 use Rattle.tables_join.specs.Reached.{reached-room, read-deepens, read-sound, take-sound, reached-fits}
@@ -46,28 +47,28 @@ pub record SettledAt (q : Query) (f t : List ℤ) (out : List Pair) (s : Session
 -- the pairs of `out` being out, those of l come out: each fits and comes once, the best of those left each time, until
 -- k are out or all are
 pub record Listed (q : Query) (f t : List ℤ) (out l : List Pair) : Type 0 where
-  pub fit : (p : Pair) → List·Memᴰ p (out ++ l) → QualifyingPair (q .radius) f t p
+  pub fit : (p : Pair) → List·Memᴰ p (out ++ l) → QualifyingPair q f t p
   pub once : Distinct (out ++ l)
   pub room : length (out ++ l) ≤ q .k
   pub complete : (length (out ++ l) ≡ q .k)
-      ⊎ ((p : Pair) → QualifyingPair (q .radius) f t p → List·Memᴰ p (out ++ l))
-  pub best-first : BestFirst (λ p. p .sum) (QualifyingPair (q .radius) f t) out l
+      ⊎ ((p : Pair) → QualifyingPair q f t p → List·Memᴰ p (out ++ l))
+  pub best-first : BestFirst (λ p. p .sum) (QualifyingPair q f t) out l
 
 -- ---- The loops
 
 module _ (n : ℕ) (f t : List ℤ) (s : Session) where
   until-settled : readCall f t s ≡ step Settled s → readUntilSettled (suc n) f t s ≡ s
-  unfolding readUntilSettled
-  until-settled e = rw (e, readUntilSettled)
+  unfolding readUntilSettledBy
+  until-settled e = rw (e, readUntilSettledBy)
 
   until-deeper : (r : Session) → readCall f t s ≡ step Read r
       → readUntilSettled (suc n) f t s ≡ readUntilSettled n f t r
-  unfolding readUntilSettled
-  until-deeper r e = rw (e, readUntilSettled) (ap (λ x. readUntilSettled n f t (x .session)) e)
+  unfolding readUntilSettledBy
+  until-deeper r e = rw (e, readUntilSettledBy) (ap (λ x. readUntilSettled n f t (x .session)) e)
 
   until-fewer : (r : Session) (p : Pair) → takeCall f t s ≡ step (Given p) r
       → takeUntilFinished (suc n) f t s ≡ p ∷ takeUntilFinished n f t r
-  unfolding takeUntilFinished
+  unfolding takeUntilFinishedBy
   until-fewer r p e = ap next e
     where
       next : Step → List Pair
@@ -78,8 +79,8 @@ module _ (n : ℕ) (f t : List ℤ) (s : Session) where
           ]
 
   until-finished : takeCall f t s ≡ step Finished s → takeUntilFinished (suc n) f t s ≡ []
-  unfolding takeUntilFinished
-  until-finished e = rw (e, takeUntilFinished)
+  unfolding takeUntilFinishedBy
+  until-finished e = rw (e, takeUntilFinishedBy)
 
 -- ---- Reading until settled
 
@@ -90,7 +91,7 @@ module _ (q : Query) (f t : List ℤ) (g : legal f ≡ true) (h : legal t ≡ tr
   call-passes : {out : List Pair} {s : Session} → Reached q f t out s → Sound s → callCode f t s ≡ 0
   call-passes {s = s} a b =
       call-accepted f t s g h (a .field-rows) (a .trim-rows) (a .field-depth) (a .trim-depth)
-      (reached-fits a b g h accepted)
+      (reached-fits a b g h)
 
   block-passes : {out : List Pair} {s : Session} → Reached q f t out s → newBlockCode f t s ≡ 0
   block-passes {s = s} a =
@@ -122,16 +123,16 @@ module _ (q : Query) (f t : List ℤ) (g : legal f ≡ true) (h : legal t ≡ tr
 
 -- one pair more in front
 listed-more : {q : Query} {f t : List ℤ} {out : List Pair} (p : Pair) (l : List Pair)
-    → ((x : Pair) → QualifyingPair (q .radius) f t x → (List·Memᴰ x out → ⊥) → x .sum ≤ p .sum)
+    → ((x : Pair) → QualifyingPair q f t x → (List·Memᴰ x out → ⊥) → x .sum ≤ p .sum)
     → Listed q f t (out ++ p ∷ []) l → Listed q f t out (p ∷ l)
 listed-more {q} {f} {t} {out} p l highest r =
     let e : (out ++ p ∷ []) ++ l ≡ out ++ p ∷ l = append-assoc out (p ∷ []) l in
     record {
-      fit = subst (λ m. (x : Pair) → List·Memᴰ x m → QualifyingPair (q .radius) f t x) e (r .fit);
+      fit = subst (λ m. (x : Pair) → List·Memᴰ x m → QualifyingPair q f t x) e (r .fit);
       once = subst Distinct e (r .once);
       room = subst (λ m. length m ≤ q .k) e (r .room);
       complete =
-          subst (λ m. (length m ≡ q .k) ⊎ ((x : Pair) → QualifyingPair (q .radius) f t x → List·Memᴰ x m)) e
+          subst (λ m. (length m ≡ q .k) ⊎ ((x : Pair) → QualifyingPair q f t x → List·Memᴰ x m)) e
           (r .complete);
       best-first = (highest, r .best-first);
     }
@@ -143,13 +144,13 @@ listed-none {q} {f} {t} {out} {s} a e =
     let z : out ++ [] ≡ out = append-nil out in
     record {
       fit =
-          subst (λ m. (x : Pair) → List·Memᴰ x m → QualifyingPair (q .radius) f t x) (sym z)
+          subst (λ m. (x : Pair) → List·Memᴰ x m → QualifyingPair q f t x) (sym z)
           (λ x m. a .keeping .holds .inside x (inl m) .fits);
       once = subst Distinct (sym z) (a .keeping .holds .once);
       room =
           subst (λ m. length m ≤ q .k) (sym z) (omega (arith, a .keeping .holds .room, ap (λ q. q .k) (a .query)));
       complete =
-          subst (λ m. (length m ≡ q .k) ⊎ ((x : Pair) → QualifyingPair (q .radius) f t x → List·Memᴰ x m)) (sym z)
+          subst (λ m. (length m ≡ q .k) ⊎ ((x : Pair) → QualifyingPair q f t x → List·Memᴰ x m)) (sym z)
           (finished-complete a e);
       best-first = tt;
     }
@@ -197,11 +198,11 @@ whole-part t g =
     (take-all (4 * (rowCount t - 0)) t (omega (arith, legal-out t g .size .whole)))
 
 -- every pair that qualifies, once
-pub all-qualify : (radius : ℕ) (f t : List ℤ) → legal f ≡ true → legal t ≡ true → (p : Pair)
-    → QualifyingPair radius f t p ↔ List·Memᴰ p (qualifying radius (whole f) (whole t))
-all-qualify radius f t g h p =
-    let m = mem-qualifying radius f t 0 (rowCount f) 0 (rowCount t) (omega arith) (omega arith) p in
-    subst₂ (λ x y. QualifyingPair radius f t p ↔ List·Memᴰ p (qualifying radius x y)) (whole-part f g)
+pub all-qualify : (query : Query) (f t : List ℤ) → legal f ≡ true → legal t ≡ true → (p : Pair)
+    → QualifyingPair query f t p ↔ List·Memᴰ p (qualifying (terms query) (whole f) (whole t))
+all-qualify query f t g h p =
+    let m = mem-qualifying query f t 0 (rowCount f) 0 (rowCount t) (omega arith) (omega arith) p in
+    subst₂ (λ x y. QualifyingPair query f t p ↔ List·Memᴰ p (qualifying (terms query) x y)) (whole-part f g)
     (whole-part t h) (
       λ k. m .1 (record { fits = k; own-part = omega (arith, k .field-row); other-part = omega (arith, k .trim-row) }),
       λ i. m .0 i .fits,
@@ -217,7 +218,7 @@ module _ (q : Query) (f t : List ℤ) (g : legal f ≡ true) (h : legal t ≡ tr
       let s = x .session in
       SettledAt q f t [] (readUntilSettled (s .rows .field .0 + s .rows .trim .0 + 1) f t s))
       (sym (legal-opened q f t accepted g h))
-      (settles q f t g h accepted (rowCount f + rowCount t + 1) (open-reached q f t)
+      (settles q f t g h accepted (rowCount f + rowCount t + 1) (open-reached q f t accepted)
       (sound-open q (record { 0 = rowCount f }) (record { 0 = rowCount t })) (omega arith))
 
   -- and takes until finished
@@ -226,9 +227,9 @@ module _ (q : Query) (f t : List ℤ) (g : legal f ≡ true) (h : legal t ≡ tr
   list-listed = finishes q f t g h accepted (q .k + 1) settled-session (omega arith)
 
   -- the sums of the list are the k highest of all pairs that qualify
-  pub list-best : map (λ p. p .sum) (list q f t) ≡ best (q .k) (qualifyingSums (q .radius) f t)
+  pub list-best : map (λ p. p .sum) (list q f t) ≡ best (q .k) (qualifyingSums q f t)
   unfolding qualifyingSums
   list-best =
-      best-first-sums pair-rank (QualifyingPair (q .radius) f t) (q .k) (qualifying (q .radius) (whole f) (whole t))
-      (list q f t) (qualifying-distinct (q .radius) (whole f) (whole t)) (all-qualify (q .radius) f t g h)
+      best-first-sums pair-rank (QualifyingPair q f t) (q .k) (qualifying (terms q) (whole f) (whole t))
+      (list q f t) (qualifying-distinct q (whole f) (whole t)) (all-qualify q f t g h)
       (list-listed .once) (list-listed .fit) (list-listed .best-first) (list-listed .room) (list-listed .complete)

@@ -13,7 +13,7 @@ use Rattle.rules.specs.declared.Answer.{Answer}
 use Rattle.rules.specs.declared.Answer.the-variants.{Refused, Given, NotYet, Finished}
 use Rattle.rules.specs.Take.{firstHeld, givesPair, movedOut, finished}
 use Rattle.rules.specs.Query.{wasGiven}
-use Rattle.rules.specs.Calls.{callCode, step, takeCall}
+use Rattle.rules.specs.Calls.{callCode, step, takeCallBy, takeCall}
 
 unfoldable pub takeAnswer : ℕ → List ℤ → List ℤ → Session → Answer
 takeAnswer code f t s =
@@ -25,7 +25,7 @@ module _ (f t : List ℤ) (s : Session) where
   afterTake a = cond (wasGiven a) (movedOut s) s
 
   take-is : step (takeAnswer (callCode f t s) f t s) (afterTake (takeAnswer (callCode f t s) f t s)) ≡ takeCall f t s
-  unfolding takeCall takeAnswer
+  unfolding takeCallBy takeAnswer
   take-is = go (callCode f t s) (eqb (callCode f t s) 0) (givesPair f t s) (finished s)
     where
       go : (code : ℕ) (a b c : Bool)

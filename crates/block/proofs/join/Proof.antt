@@ -10,19 +10,20 @@ use lib.ListN.{length, getD}
 use borrow.Author.Needs.{needs}
 use borrow.Author.Tests.{not-false, eqb-true}
 use Rattle.lists.specs.Bools.{and-out}
+use Rattle.rules.specs.Tables.{terms}
 use Rattle.block.specs.Block.{at}
 use Rattle.block.proofs.Turns as Turns
 use Rattle.block.proofs.join.Statement.{statement}
 use Rattle.block.proofs.join.Tie as tie
 
 abbrev Inv-loop : tie.InvT-loop
-Inv-loop radius room x a y c keys₀ held m n last small g₀ i₀ j₀ keys g i j =
-    (i ≤ m) × (j ≤ n) × (m ≤ i → j ≡ 0) × (g ≤ room) × (length keys ≡ 64) × Turns.Met radius room (at a x)
+Inv-loop q room x a y c keys₀ held m n last small g₀ i₀ j₀ keys g i j =
+    (i ≤ m) × (j ≤ n) × (m ≤ i → j ≡ 0) × (g ≤ room) × (length keys ≡ 64) × Turns.Met (terms q) room (at a x)
     (at c y) held keys₀ i j g keys
 
 -- the pairs of rows that are left, one more for the end of each row
 abbrev μ-loop : tie.MeasureT-loop
-μ-loop radius room x a y c keys₀ held m n last small g₀ i₀ j₀ keys g i j = (m - i) * (n + 1) + (n - j)
+μ-loop q room x a y c keys₀ held m n last small g₀ i₀ j₀ keys g i j = (m - i) * (n + 1) + (n - j)
 
 row-less : (m n i j : ℕ) → i < m → (m - (i + 1)) * (n + 1) + (n - 0) < (m - i) * (n + 1) + (n - j)
 row-less m n i j h =
@@ -45,7 +46,7 @@ loop-holds c =
       λ _. refl,
       s .pre .0 .0,
       s .pre .0 .2,
-      Turns.start (s .args .radius) (s .args .room) (at (s .args .a) (s .args .x .now))
+      Turns.start (terms (s .args .q)) (s .args .room) (at (s .args .a) (s .args .x .now))
           (at (s .args .c) (s .args .y .now)) (s .args .held) (s .args .keys .now),
     )
 
@@ -105,14 +106,14 @@ loop-again c =
     let h : near .result < length (s .args .y .now) / 4 = c .before .before .before .before .if1 .taken in
     let turn : v .i < length (s .args .x .now) / 4 = found .before .loop-test .taken in
     let here =
-    Turns.skipped (s .args .radius) (s .args .room) x y n a (v .i) (v .g) (v .keys) (v .j) (near .result)
+    Turns.skipped (terms (s .args .q)) (s .args .room) x y n a (v .i) (v .g) (v .keys) (v .j) (near .result)
     (near .ensures) (v .inv .5) in
-    let Met = Turns.Met (s .args .radius) (s .args .room) x y n a (v .i) (near .result + 1) in
+    let Met = Turns.Met (terms (s .args .q)) (s .args .room) x y n a (v .i) (near .result + 1) in
     let after : (c .if2 .g ≤ s .args .room) × (length (c .if2 .keys) ≡ 64) × Met (c .if2 .g) (c .if2 .keys) =
     ⊎-elim
     (λ w.
     let next : Met (w .2 .result) (w .2 .last .0) =
-    Turns.joined (s .args .radius) (s .args .room) x y n a (v .i) (v .g) (v .keys) (near .result) (w .2 .result)
+    Turns.joined (terms (s .args .q)) (s .args .room) x y n a (v .i) (v .g) (v .keys) (near .result) (w .2 .result)
     (w .2 .last .0) (p .result)
     here (near .ensures .found h) (p .ensures .0) (w .2 .ensures) in
     rw (w .3, w .4) (w .2 .ensures .few, w .2 .ensures .long, next))
@@ -121,7 +122,7 @@ loop-again c =
     let both = and-out (eqb (v .g) (s .args .room)) (ltb last (key .result)) (not-false _ (w .0 .left)) in
     let behind = ap (ltb last) (sym (key .ensures)) ∙ both .1 in
     let next : Met (v .g) (v .keys) =
-    Turns.fallen (s .args .radius) (s .args .room) x y n a (v .i) (v .g) (v .keys) (near .result) (p .result)
+    Turns.fallen (terms (s .args .q)) (s .args .room) x y n a (v .i) (v .g) (v .keys) (near .result) (p .result)
     here (near .ensures .found h) (p .ensures .0) (p .ensures .1) (v .inv .4) (s .pre .0 .1)
     (eqb-true (v .g) (s .args .room) (both .0)) behind in
     rw (w .1, w .2) (v .inv .3, v .inv .4, next))
@@ -147,14 +148,14 @@ loop-again-2 c =
     let n = s .args .held in
     let a = s .args .keys .now in
     let e : near .result ≡ length (s .args .y .now) / 4 = omega (arith, near .ensures .upto, c .if1 .left) in
-    let here = Turns.skipped (s .args .radius) (s .args .room) x y n a (v .i) (v .g) (v .keys) (v .j) (near .result)
+    let here = Turns.skipped (terms (s .args .q)) (s .args .room) x y n a (v .i) (v .g) (v .keys) (v .j) (near .result)
     (near .ensures) (v .inv .5) in (
       omega (arith, c .before .before .loop-test .taken),
       omega arith,
       λ _. refl,
       v .inv .3,
       v .inv .4,
-      Turns.next (s .args .radius) (s .args .room) x y n a (v .i) (v .g) (v .keys) (near .result) e here,
+      Turns.next (terms (s .args .q)) (s .args .room) x y n a (v .i) (v .g) (v .keys) (near .result) e here,
     )
 
 returns : tie.Need-returns Inv-loop μ-loop
@@ -168,8 +169,8 @@ returns c =
     let e : v .i ≡ length (s .args .x .now) / 4 = omega (arith, v .inv .0, c .loop-test .left) in
     let z : v .j ≡ 0 = v .inv .2 (omega (arith, c .loop-test .left)) in
     let met =
-    subst (λ (j : ℕ). Turns.Met (s .args .radius) (s .args .room) x y n a (v .i) j (v .g) (v .keys)) z (v .inv .5) in
-    Turns.all-met (s .args .radius) (s .args .room) x y n a (v .i) (v .g) (v .keys) e met (s .pre .0 .0) (v .inv .3)
+    subst (λ (j : ℕ). Turns.Met (terms (s .args .q)) (s .args .room) x y n a (v .i) j (v .g) (v .keys)) z (v .inv .5) in
+    Turns.all-met (terms (s .args .q)) (s .args .room) x y n a (v .i) (v .g) (v .keys) e met (s .pre .0 .0) (v .inv .3)
     (v .inv .4)
 
 pub join-spec : {M : Type 1} → statement M

@@ -4,17 +4,17 @@ use mathlib.Core.Bool.{false}
 use Prim.Native.Nat.{ℕ, _-_, _≤_, _<_, _/_}
 use native.Mathlib.Omega.{arith}
 use lib.ListN.{length}
-use Rattle.rules.specs.Tables.{row, qualifies}
+use Rattle.rules.specs.Tables.{row, terms}
 use Rattle.block.specs.Near.{none-more}
 use Rattle.block.proofs.next_near.Statement.{statement}
 use Rattle.block.proofs.next_near.Tie as tie
 
 abbrev Inv-loop : tie.InvT-loop
-Inv-loop small radius x i y j n k₀ k =
-    (j ≤ k) × (k ≤ n) × ((b : ℕ) → j ≤ b → b < k → qualifies radius (row x i .shade) (row y b .shade) ≡ false)
+Inv-loop small q x i y j n k₀ k =
+    (j ≤ k) × (k ≤ n) × ((b : ℕ) → j ≤ b → b < k → terms q .near (row x i) (row y b) ≡ false)
 
 abbrev μ-loop : tie.MeasureT-loop
-μ-loop small radius x i y j n k₀ k = n - k
+μ-loop small q x i y j n k₀ k = n - k
 
 loop-holds : tie.Need-loop-holds Inv-loop μ-loop
 loop-holds c = (omega arith, omega (arith, c .pre .0), λ b h k. absurd (omega (arith, h, k)))
@@ -48,7 +48,7 @@ loop-again c =
     let here = sym (c .before .near-by .ensures) ∙ c .if1 .left in (
       omega (arith, v .inv .0),
       omega (arith, c .before .before .loop-test .taken),
-      none-more (s .radius) (s .x .now) (s .i) (s .y .now) (s .j) (v .k) (v .inv .2) here,
+      none-more (terms (s .q)) (s .x .now) (s .i) (s .y .now) (s .j) (v .k) (v .inv .2) here,
     )
 
 returns-2 : tie.Need-returns-2 Inv-loop μ-loop

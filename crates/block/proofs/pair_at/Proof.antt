@@ -12,26 +12,26 @@ score-requires c κs = search needs
 score-requires-2 : tie.Need-score-requires-2
 score-requires-2 c κs = search needs
 
-add-t9 : tie.Need-add-t9
-add-t9 c = search needs
-
 add-t10 : tie.Need-add-t10
 add-t10 c = search needs
 
 add-t11 : tie.Need-add-t11
 add-t11 c = search needs
 
-cast-t12 : tie.Need-cast-t12
-cast-t12 c = search needs
+add-t12 : tie.Need-add-t12
+add-t12 c = search needs
 
-add-t13 : tie.Need-add-t13
-add-t13 c = search needs
+cast-t13 : tie.Need-cast-t13
+cast-t13 c = search needs
 
 add-t14 : tie.Need-add-t14
 add-t14 c = search needs
 
-cast-t15 : tie.Need-cast-t15
-cast-t15 c = search needs
+add-t15 : tie.Need-add-t15
+add-t15 c = search needs
+
+cast-t16 : tie.Need-cast-t16
+cast-t16 c = search needs
 
 returns : tie.Need-returns
 unfolding pairAt pairSum
@@ -46,11 +46,11 @@ pair-at-spec =
     (tie.spec
     score-requires
     score-requires-2
-    add-t9
     add-t10
     add-t11
-    cast-t12
-    add-t13
+    add-t12
+    cast-t13
     add-t14
-    cast-t15
+    add-t15
+    cast-t16
     returns)

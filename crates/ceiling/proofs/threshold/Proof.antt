@@ -1,5 +1,5 @@
 -- `threshold` meets its contract: the higher of the two parts. Assumes nothing.
-use Rattle.rules.specs.Session.{ceiling}
+use Rattle.rules.specs.Session.{ceilingBy}
 use borrow.Author.Needs.{needs}
 use Rattle.ceiling.proofs.threshold.Statement.{statement}
 use Rattle.ceiling.proofs.threshold.Tie as tie
@@ -44,7 +44,7 @@ higher-requires : tie.Need-higher-requires
 higher-requires c κs = search needs
 
 returns : tie.Need-returns
-unfolding ceiling
+unfolding ceilingBy
 returns c =
     let at = c .before .before .before .before .before in
     simp (

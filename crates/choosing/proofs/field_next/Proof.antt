@@ -2,21 +2,22 @@
 use mathlib.Core.Path.{refl}
 use native.Mathlib.Omega.{arith}
 use borrow.Author.Tests.{lt-ltb, le-ltb, eq-eqb, ne-eqb}
-use Rattle.rules.specs.Read.{scoreDrop, fieldNext}
+use Rattle.rules.specs.Tables.{terms}
+use Rattle.rules.specs.Read.{scoreDrop, fieldNextBy}
 use borrow.Author.Needs.{needs}
 use Rattle.choosing.proofs.field_next.Statement.{statement}
 use Rattle.choosing.proofs.field_next.Tie as tie
 
 returns : tie.Need-returns
-unfolding fieldNext
+unfolding fieldNextBy
 returns c = simp (eq-eqb _ _ (c .if1 .taken))
 
 returns-2 : tie.Need-returns-2
-unfolding fieldNext
+unfolding fieldNextBy
 returns-2 c = simp (ne-eqb _ _ (c .before .if1 .left), eq-eqb _ _ (c .if2 .taken))
 
 returns-3 : tie.Need-returns-3
-unfolding fieldNext
+unfolding fieldNextBy
 returns-3 c =
     simp (
       ne-eqb _ _ (c .before .before .before .if1 .left),
@@ -25,7 +26,7 @@ returns-3 c =
     )
 
 returns-4 : tie.Need-returns-4
-unfolding fieldNext
+unfolding fieldNextBy
 returns-4 c =
     simp (
       ne-eqb _ _ (c .before .before .before .before .before .if1 .left),
@@ -41,12 +42,13 @@ drop-of-requires-2 : tie.Need-drop-of-requires-2
 drop-of-requires-2 c κs = search needs
 
 returns-5 : tie.Need-returns-5
-unfolding fieldNext
+unfolding fieldNextBy
 returns-5 c =
     let at = c .before .before .before .before .before in
     let s = c .before .before .before .before .before .before .before .before .before .args in
-    let x = scoreDrop (s .f .now) (s .s .depth .field .0) in
-    let y = scoreDrop (s .t .now) (s .s .depth .trim .0) in
+    let w = terms (s .s .query) in
+    let x = scoreDrop (w .field) (s .f .now) (s .s .depth .field .0) in
+    let y = scoreDrop (w .trim) (s .t .now) (s .s .depth .trim .0) in
     simp (
       ne-eqb _ _ (at .before .before .before .if1 .left),
       ne-eqb _ _ (at .before .before .if2 .left),
@@ -56,12 +58,13 @@ returns-5 c =
     )
 
 returns-6 : tie.Need-returns-6
-unfolding fieldNext
+unfolding fieldNextBy
 returns-6 c =
     let at = c .before .before .before .before .before in
     let s = c .before .before .before .before .before .before .before .before .before .before .args in
-    let x = scoreDrop (s .f .now) (s .s .depth .field .0) in
-    let y = scoreDrop (s .t .now) (s .s .depth .trim .0) in
+    let w = terms (s .s .query) in
+    let x = scoreDrop (w .field) (s .f .now) (s .s .depth .field .0) in
+    let y = scoreDrop (w .trim) (s .t .now) (s .s .depth .trim .0) in
     simp (
       ne-eqb _ _ (at .before .before .before .before .if1 .left),
       ne-eqb _ _ (at .before .before .before .if2 .left),
@@ -80,12 +83,13 @@ returns-6 c =
     )
 
 returns-7 : tie.Need-returns-7
-unfolding fieldNext
+unfolding fieldNextBy
 returns-7 c =
     let at = c .before .before .before .before .before in
     let s = c .before .before .before .before .before .before .before .before .before .before .args in
-    let x = scoreDrop (s .f .now) (s .s .depth .field .0) in
-    let y = scoreDrop (s .t .now) (s .s .depth .trim .0) in
+    let w = terms (s .s .query) in
+    let x = scoreDrop (w .field) (s .f .now) (s .s .depth .field .0) in
+    let y = scoreDrop (w .trim) (s .t .now) (s .s .depth .trim .0) in
     simp (
       ne-eqb _ _ (at .before .before .before .before .if1 .left),
       ne-eqb _ _ (at .before .before .before .if2 .left),

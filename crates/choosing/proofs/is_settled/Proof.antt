@@ -5,7 +5,7 @@ use Prim.Native.Nat.{_<_, _≤_}
 use native.Mathlib.Omega.{arith}
 use lib.ListN.{length, length-map}
 use borrow.Author.Tests.{eq-eqb, ne-eqb}
-use Rattle.rules.specs.Session.{aTableIsEmpty, settled}
+use Rattle.rules.specs.Session.{aTableIsEmpty, settledBy}
 use Rattle.ceiling.specs.Last.{held-then-read, held-secured}
 use borrow.Author.Needs.{needs}
 use Rattle.choosing.proofs.is_settled.Statement.{statement}
@@ -21,17 +21,17 @@ some : (c : tie.Else4) → let at = c .before .before .before .before .before in
 some c = omega (arith, c .if4 .left, c .before .before .before .if3 .left)
 
 returns : tie.Need-returns
-unfolding settled
+unfolding settledBy
 returns c =
     let none : aTableIsEmpty (c .before .args .s) ≡ true = c .if1 .taken in
     simp none refl
 
 returns-2 : tie.Need-returns-2
-unfolding settled
+unfolding settledBy
 returns-2 c = simp (c .before .before .before .if1 .left, c .if2 .taken) refl
 
 returns-3 : tie.Need-returns-3
-unfolding settled
+unfolding settledBy
 returns-3 c =
     simp (
       c .before .before .before .before .before .if1 .left,
@@ -44,7 +44,7 @@ add-if4 : tie.Need-add-if4
 add-if4 c = search needs
 
 returns-4 : tie.Need-returns-4
-unfolding settled
+unfolding settledBy
 returns-4 c =
     let at = c .before .before .before .before .before in
     simp (
@@ -61,7 +61,7 @@ is-secured-requires c κs =
     held-then-read (s .args .f .now) (s .args .t .now) (s .args .s) (s .pre .0) (omega (arith, long s)) (some c)
 
 returns-5 : tie.Need-returns-5
-unfolding settled
+unfolding settledBy
 returns-5 c =
     let at = c .before .before .before .before .before in
     let s = c .before .before .before .before .before .before .before .before .before .before in

@@ -17,14 +17,14 @@ add-if1 c = search needs
 returns : tie.Need-returns
 returns c =
     effect-skip (c .before .before .before .args .full) (c .before .before .before .args .low)
-    (c .before .before .before .args .radius) (c .before .before .before .args .x .now)
+    (c .before .before .before .args .q) (c .before .before .before .args .x .now)
     (c .before .before .before .args .y .now)
     (simp (c .before .before .score .ensures .0, c .before .score2 .ensures .0) at (c .if1 .taken))
 
 returns-2 : tie.Need-returns-2
 returns-2 c =
     effect-open (c .before .before .before .before .args .full) (c .before .before .before .before .args .low)
-    (c .before .before .before .before .args .radius) (c .before .before .before .before .args .x .now)
+    (c .before .before .before .before .args .q) (c .before .before .before .before .args .x .now)
     (c .before .before .before .before .args .y .now)
     (simp (c .before .before .before .score .ensures .0, c .before .before .score2 .ensures .0) at
     (c .before .if1 .left))
@@ -37,7 +37,7 @@ returns-3 c =
     let at = c .before .before .before .before .before in
     effect-open (at .before .args .full)
     (at .before .args .low)
-    (at .before .args .radius)
+    (at .before .args .q)
     (at .before .args .x .now)
     (at .before .args .y .now)
     (simp (
@@ -50,7 +50,7 @@ returns-4 c =
     let at = c .before .before .before .before .before in
     effect-quiet (at .before .args .full)
     (at .before .args .low)
-    (at .before .args .radius)
+    (at .before .args .q)
     (at .before .args .x .now)
     (at .before .args .y .now)
     (simp (

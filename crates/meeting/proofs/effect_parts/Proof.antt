@@ -56,9 +56,9 @@ returns c =
     let y = s .y in
     let cut = take (4 * x .to - 4 * x .from) (drop (4 * x .from) (s .f .now)) in
     subst
-    (λ (b : Block). Effect (s .full) (s .low) (s .radius) (b .rows) (spanBlock (s .t .now) y .rows) (c .effect .result))
+    (λ (b : Block). Effect (s .full) (s .low) (s .q) (b .rows) (spanBlock (s .t .now) y .rows) (c .effect .result))
     (part-is (s .f .now) (x .from) (x .to))
-    (subst (λ (b : Block). Effect (s .full) (s .low) (s .radius) cut (b .rows) (c .effect .result))
+    (subst (λ (b : Block). Effect (s .full) (s .low) (s .q) cut (b .rows) (c .effect .result))
     (part-is (s .t .now) (y .from) (y .to)) (c .effect .ensures))
 
 pub effect-parts-spec : {M : Type 1} → statement M

@@ -9,7 +9,7 @@ use native.Mathlib.Omega.{arith}
 use borrow.Author.Needs.{needs}
 use Rattle.rules.specs.declared.Query.{Query}
 use Rattle.rules.specs.declared.Session.{Session}
-use Rattle.rules.specs.Read.{meet, meetBlocks}
+use Rattle.rules.specs.Read.{meet, meetBlocksBy, meetBlocks}
 use Rattle.session_laws.specs.Read.{blocks-keep, blocks-joined}
 use Rattle.meeting.specs.declared.Span.{Span}
 use Rattle.choosing.specs.Ready.{Ready}
@@ -112,7 +112,7 @@ cast-t19 : tie.Need-cast-t19 Inv-loop μ-loop
 cast-t19 c = search needs
 
 loop-holds : tie.Need-loop-holds Inv-loop μ-loop
-unfolding meetBlocks
+unfolding meetBlocksBy
 loop-holds c =
     let s = c .before .before .before in (
       omega arith,
@@ -182,7 +182,7 @@ loop-again c =
     let left : r .query .k - r .out ≡ s .s .query .k - s .s .out =
     ap₂ (λ (q : Query) (out : ℕ). q .k - out) (kept .query) (kept .out) in
     let met =
-    c .meet-parts .ensures .meets r (ready start (v .i)) (ap (λ (q : Query). q .radius) (kept .query)) left
+    c .meet-parts .ensures .meets r (ready start (v .i)) (kept .query) left
     (v .inv .5) in
     let as-rule : meet r (spanBlock (s .f .now) (x .result)) (spanBlock (s .t .now) (y .result)) ≡ after start
     (v .i + 1) =

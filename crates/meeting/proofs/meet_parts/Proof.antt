@@ -34,14 +34,14 @@ add-t20 c = search needs
 
 -- the effect, of the last key's sum
 effect : (c : tie.After-effect-parts) → let a = c .before .before .before .before .before .args in
-    Effect (eqb (a .m .held) (a .room)) (pairOf (getD (a .keys .now) ((a .m .held + 63) % 64) 0) .sum) (a .radius)
+    Effect (eqb (a .m .held) (a .room)) (pairOf (getD (a .keys .now) ((a .m .held + 63) % 64) 0) .sum) (a .q)
     (spanBlock (a .f .now) (a .x) .rows) (spanBlock (a .t .now) (a .y) .rows) (c .effect-parts .result)
 effect c = rw (sym (c .before .pair .ensures)) (c .effect-parts .ensures)
 
 returns : tie.Need-returns
 returns c =
     let a = c .before .before .before .before .before .before .before .before .before .args in
-    meets-joined (a .radius) (a .room) (spanBlock (a .f .now) (a .x)) (spanBlock (a .t .now) (a .y)) (a .m)
+    meets-joined (a .q) (a .room) (spanBlock (a .f .now) (a .x)) (spanBlock (a .t .now) (a .y)) (a .m)
     (a .keys .now) (c .before .before .before .before .effect-parts .result)
     (effect (c .before .before .before .before)) (c .before .before .before .if1 .taken)
     (c .before .join-parts .result) _ (c .before .join-parts .ensures)
@@ -53,7 +53,7 @@ returns-2 : tie.Need-returns-2
 returns-2 c =
     let s = c .before .before .before .before .before .before .before in
     let a = s .args in
-    meets-counted (a .radius) (a .room) (spanBlock (a .f .now) (a .x)) (spanBlock (a .t .now) (a .y)) (a .m)
+    meets-counted (a .q) (a .room) (spanBlock (a .f .now) (a .x)) (spanBlock (a .t .now) (a .y)) (a .m)
     (a .keys .now) (c .before .before .effect-parts .result)
     (effect (c .before .before)) (c .before .if1 .left) (s .pre .0 .0) (s .pre .0 .3)
 

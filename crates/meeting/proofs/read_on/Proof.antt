@@ -4,7 +4,7 @@ use Prim.Native.Nat.{_+_, _*_, _-_, _<_, _≤_}
 use native.Mathlib.Nat.{div-mul-le-self}
 use native.Mathlib.Omega.{arith}
 use Rattle.rules.specs.declared.Session.{Session}
-use Rattle.rules.specs.Read.{meetBlocks, rowsBetween, oldDepth, newDepth, blockCount, readTable}
+use Rattle.rules.specs.Read.{meetBlocks, rowsBetween, oldDepth, newDepth, blockCount, readTableBy}
 use Rattle.session_laws.specs.Read.{blocks-keep}
 use Rattle.choosing.specs.Ready.{Ready}
 use Rattle.choosing.specs.Due.{otherDepth}
@@ -106,7 +106,7 @@ cast-t19 : tie.Need-cast-t19
 cast-t19 c = record { fits = omega (arith, few (c .before .before .before)) }
 
 returns : tie.Need-returns
-unfolding readTable
+unfolding readTableBy
 returns c =
     let m = c .before .before .before in
     let s = m .before .before .before .before .before .before .before in

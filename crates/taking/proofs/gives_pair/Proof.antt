@@ -4,14 +4,14 @@ use Prim.Native.Nat.{_<_}
 use native.Mathlib.Omega.{arith}
 use lib.ListN.{length, length-map}
 use borrow.Author.Tests.{lt-ltb}
-use Rattle.rules.specs.Take.{givesPair}
+use Rattle.rules.specs.Take.{givesPairBy}
 use Rattle.ceiling.specs.Last.{held-then-read}
 use borrow.Author.Needs.{needs}
 use Rattle.taking.proofs.gives_pair.Statement.{statement}
 use Rattle.taking.proofs.gives_pair.Tie as tie
 
 returns : tie.Need-returns
-unfolding givesPair
+unfolding givesPairBy
 returns c = simp (c .if1 .taken) refl
 
 element-copy-out-p : tie.Need-element-copy-out-p
@@ -26,7 +26,7 @@ is-secured-requires c κs =
     (omega (arith, c .before .if1 .left))
 
 returns-2 : tie.Need-returns-2
-unfolding givesPair
+unfolding givesPairBy
 returns-2 c =
     let s = c .before .before .before .args .t3 in
     let some : 0 < s .held = omega (arith, c .before .before .if1 .left) in

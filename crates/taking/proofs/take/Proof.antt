@@ -9,7 +9,7 @@ use lib.ListN.{length, length-map}
 use borrow.Author.Tests.{ltb-true}
 use Rattle.rules.specs.declared.Session.{Session}
 use Rattle.rules.specs.Session.{secured}
-use Rattle.rules.specs.Take.{firstHeld, givesPair}
+use Rattle.rules.specs.Take.{firstHeld, givesPairBy}
 use Rattle.rules.specs.Query.{wasGiven}
 use Rattle.rules.specs.Calls.{recordFits, step, takeCall}
 use Rattle.lists.specs.Bools.{and-left}
@@ -116,7 +116,7 @@ told c = ap wasGiven (c .enum-told .given .1)
 gives : (c : tie.After-enum-told Inv-loop μ-loop Inv-loop2 μ-loop2)
     → let at = c .before .before .before .before .before in
     let s = given (at .before) .args .s in (0 < s .held) × (s .out ≤ 64)
-unfolding givesPair
+unfolding givesPairBy
 gives c =
     let call = c .before .before .before in
     let a = given (call .before .before .before) .args in
