@@ -28,7 +28,8 @@ enum furzeladle_refusal {
     FURZELADLE_CUT_FILE = 8,
     FURZELADLE_BAD_COLUMN = 9,
     FURZELADLE_KIND = 10,
-    FURZELADLE_SHORT_SLICE = 11
+    FURZELADLE_SHORT_SLICE = 11,
+    FURZELADLE_WEIGHT = 12
 };
 
 /* A strict file's `len` bytes, checked alone. `kind` is the wanted one: 1 field, 2 trim.
@@ -45,8 +46,14 @@ int32_t furzeladle_load(const uint8_t *bytes, size_t len, int32_t kind, int32_t 
  * A table is `len` numbers, four to a row: pattern number 1 to 999,999, score 0 to 9,999 (never above the row before),
  * a and b -12,800 to 12,700; at most 65,535 rows. f is the field table, t the trim table: the same two in every call.
  *
- * A session's record is FURZELADLE_RECORD_SIZE numbers that belong to the caller. It may be kept, copied, stored and
- * taken up again later. Any numbers may come in: a record that no session can have is refused by 5. */
+ * A query is `query_len` numbers: k (1 to 64), block (1 to 1,024), radius (0 to 40,000); then, if they are lent, the field
+ * weight and the trim weight (1 to 9 each). A weight that is not lent is 1: k, block and radius alone ask for weights 1
+ * and 1. A pair's sum is field weight × score of its field row + trim weight × score of its trim row, at most 179,982. */
+enum { FURZELADLE_QUERY_LEAST = 3, FURZELADLE_QUERY_MOST = 5 };
+
+/* A session's record is FURZELADLE_RECORD_SIZE numbers that belong to the caller. It may be kept, copied, stored and
+ * taken up again later. Any numbers may come in: a record that no session can have is refused by 5. One of 204 numbers,
+ * stored before there were weights, goes on once 1 and 1 are written behind them. */
 enum furzeladle_record {
     FURZELADLE_K = 0,           /* the query: list length, 1 to 64 */
     FURZELADLE_BLOCK_ROWS = 1,  /* block size in rows, 1 to 1,024 */
@@ -61,7 +68,9 @@ enum furzeladle_record {
     FURZELADLE_JOINED = 10,     /* block pairs joined, at most 4,294,836,225: this number .. */
     FURZELADLE_JOINED_HIGH = 11, /* .. and its upper 32 bits, 0 in every session's record */
     FURZELADLE_PAIRS = 12,      /* 64 places of three numbers each: sum, field row, trim row; zeros beyond those held */
-    FURZELADLE_RECORD_SIZE = 204
+    FURZELADLE_FIELD_WEIGHT = 204, /* the query's weights, 1 to 9 */
+    FURZELADLE_TRIM_WEIGHT = 205,
+    FURZELADLE_RECORD_SIZE = 206
 };
 
 /* What a call answers where it does not refuse. A refusal is minus its number. */
@@ -76,7 +85,7 @@ enum furzeladle_answer {
 /* Too short a slice (query, session, pair or place) is -11. It is looked at before anything else, because no record can
  * be seen then. A refused call changes nothing that is lent. Numbers behind those named here are never read or changed. */
 
-/* Opens a session: `query` is k, block and radius. Refused by 1, 2, 3, 4: `session` is as it was, so that a record that
+/* Opens a session of a query. Refused by 1, 2, 3, 12, 4, in this order: `session` is as it was, so that a record that
  * stood there is not lost, and one that was never written holds whatever the caller put there. */
 int32_t furzeladle_open(const uint32_t *query, size_t query_len, const int32_t *f, size_t f_len, const int32_t *t,
                         size_t t_len, uint32_t *session, size_t session_len);
@@ -97,19 +106,19 @@ int32_t furzeladle_show(const int32_t *f, size_t f_len, const int32_t *t, size_t
 
 /* ---- One whole query over two tables of up to 65,535 rows each
  *
- * `query` is k, block and radius. From the front of `out`: field rows read, trim rows read, block pairs joined; then six
+ * `query` is as at opening. From the front of `out`: field rows read, trim rows read, block pairs joined; then six
  * numbers a pair, best first: sum, field row, trim row (from 1), field pattern number, trim pattern number, squared
- * distance. The answer is how many pairs there are (0 to 64), or minus the refusal: first 11, fewer than 3 numbers of a
- * query; 1, 2, 3, 4 at opening; 6 or 7 of a row that was read; and 11 for the place of the answer comes last, fewer than
- * FURZELADLE_QUERY_SIZE lent. Refused, `out` is as it was; accepted, so are the numbers behind the last pair. Rows that
- * were not read were not looked at. */
+ * distance. The answer is how many pairs there are (0 to 64), or minus the refusal: first 11, fewer than
+ * FURZELADLE_QUERY_LEAST numbers of a query; 1, 2, 3, 12, 4 at opening; 6 or 7 of a row that was read; and 11 for the
+ * place of the answer comes last, fewer than FURZELADLE_QUERY_SIZE lent. Refused, `out` is as it was; accepted, so are
+ * the numbers behind the last pair. Rows that were not read were not looked at. */
 enum { FURZELADLE_QUERY_SIZE = 387 };
 
 int32_t furzeladle_query(const uint32_t *query, size_t query_len, const int32_t *f, size_t f_len, const int32_t *t,
                          size_t t_len, uint64_t *out, size_t out_len);
 
-/* The same query, its listing as the pairing program prints it: how many bytes, or minus the refusal. 11 for the place of
- * the answer, last, is fewer than FURZELADLE_LISTING_SIZE bytes lent. */
+/* The same query, its listing as the pairing program prints it, the weights left out: how many bytes, or minus the
+ * refusal. 11 for the place of the answer, last, is fewer than FURZELADLE_LISTING_SIZE bytes lent. */
 enum { FURZELADLE_LISTING_SIZE = 2412 };
 
 int32_t furzeladle_listing(const uint32_t *query, size_t query_len, const int32_t *f, size_t f_len, const int32_t *t,

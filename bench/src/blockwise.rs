@@ -3,7 +3,7 @@ use crate::checks::{call_fits, rows_legal};
 use crate::held::Held;
 use crate::outcome::Outcome;
 use crate::rows::{count, near, part, score, square};
-use furzeladle::{Pair, Query};
+use furzeladle::{Asked, Pair, Query};
 
 /// Which checks the join makes.
 #[derive(Clone, Copy, PartialEq)]
@@ -16,6 +16,8 @@ pub enum Checks {
 
 pub struct Join<'a> {
     pub query: Query,
+    /// Of the field table, then of the trim table.
+    pub weights: [u32; 2],
     pub tables: [&'a [i32]; 2],
     pub rows: [u32; 2],
     pub depths: [u32; 2],
@@ -28,15 +30,16 @@ pub struct Join<'a> {
 }
 
 impl<'a> Join<'a> {
-    pub fn open(query: Query, field: &'a [i32], trim: &'a [i32], checks: Checks) -> Join<'a> {
+    pub fn open(asked: Asked, field: &'a [i32], trim: &'a [i32], checks: Checks) -> Join<'a> {
         Join {
-            query,
+            query: asked.query,
+            weights: [asked.field_weight.0, asked.trim_weight.0],
             tables: [field, trim],
             rows: [count(field), count(trim)],
             depths: [0; 2],
             last: 0,
             out: 0,
-            held: Held::new(query.k),
+            held: Held::new(asked.query.k),
             joined: 0,
             tests: 0,
             checks,
@@ -45,6 +48,11 @@ impl<'a> Join<'a> {
 
     fn refused(&self) -> bool {
         self.checks == Checks::EveryCall && !call_fits(self)
+    }
+
+    /// What a row adds to a sum.
+    fn worth(&self, i: usize, row: u32) -> u32 {
+        self.weights[i] * score(self.tables[i], row)
     }
 
     fn read_out(&self, i: usize) -> bool {
@@ -56,7 +64,7 @@ impl<'a> Join<'a> {
             if self.read_out(i) {
                 return 0;
             }
-            score(self.tables[1 - i], 0) + score(self.tables[i], self.depths[i] - 1)
+            self.worth(1 - i, 0) + self.worth(i, self.depths[i] - 1)
         };
         if self.depths.contains(&0) {
             return self.rows.contains(&0);
@@ -79,19 +87,20 @@ impl<'a> Join<'a> {
         if self.depths[1] == 0 || self.read_out(0) {
             return 1;
         }
-        let drop = |i: usize| score(self.tables[i], 0) - score(self.tables[i], self.depths[i] - 1);
+        let drop = |i: usize| self.worth(i, 0) - self.worth(i, self.depths[i] - 1);
         usize::from((drop(1), self.depths[1]) < (drop(0), self.depths[0]))
     }
 
     /// Joins field rows and trim rows, each from one number to before another.
     fn join(&mut self, [f, f_end]: [u32; 2], [t, t_end]: [u32; 2]) {
         let square = square(self.query);
+        let [v, w] = self.weights.map(|weight| weight as i32);
         let x = part(self.tables[0], f, f_end);
         let y = part(self.tables[1], t, t_end);
         for (i, r) in x.chunks_exact(4).enumerate() {
             for (j, s) in y.chunks_exact(4).enumerate() {
                 if near(r, s, square) {
-                    let sum = (r[1] + s[1]) as u32;
+                    let sum = (v * r[1] + w * s[1]) as u32;
                     let (field, trim) = (f + i as u32 + 1, t + j as u32 + 1);
                     self.held.put(Pair { sum, field, trim });
                 }
@@ -107,7 +116,7 @@ impl<'a> Join<'a> {
         let mut start = 0;
         while start < self.depths[old] {
             let end = (start + self.query.block).min(self.depths[old]);
-            let first = score(self.tables[new], from) + score(self.tables[old], start);
+            let first = self.worth(new, from) + self.worth(old, start);
             if first as i32 >= self.held.bound() {
                 let (here, there) = ([from, to], [start, end]);
                 let (f, t) = if new == 0 {
@@ -151,8 +160,8 @@ impl<'a> Join<'a> {
     }
 }
 
-fn run(query: Query, field: &[i32], trim: &[i32], checks: Checks) -> Outcome {
-    let mut join = Join::open(query, field, trim, checks);
+fn run(asked: Asked, field: &[i32], trim: &[i32], checks: Checks) -> Outcome {
+    let mut join = Join::open(asked, field, trim, checks);
     while join.read() == Some(true) {}
     let mut sums = Vec::new();
     while let Some(pair) = join.take() {
@@ -166,10 +175,10 @@ fn run(query: Query, field: &[i32], trim: &[i32], checks: Checks) -> Outcome {
     }
 }
 
-pub fn same_checks(query: Query, field: &[i32], trim: &[i32]) -> Outcome {
-    run(query, field, trim, Checks::EveryCall)
+pub fn same_checks(asked: Asked, field: &[i32], trim: &[i32]) -> Outcome {
+    run(asked, field, trim, Checks::EveryCall)
 }
 
-pub fn rows_checked_once(query: Query, field: &[i32], trim: &[i32]) -> Outcome {
-    run(query, field, trim, Checks::EachRowOnce)
+pub fn rows_checked_once(asked: Asked, field: &[i32], trim: &[i32]) -> Outcome {
+    run(asked, field, trim, Checks::EachRowOnce)
 }

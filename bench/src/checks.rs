@@ -1,7 +1,7 @@
 //! The rules' checks of a call, for the blockwise baseline.
 use crate::blockwise::Join;
 use crate::held::ahead;
-use furzeladle::{Pair, Query};
+use furzeladle::Pair;
 
 /// 6 and 7 of rows from one number to before another.
 pub fn rows_legal(t: &[i32], from: u32, to: u32) -> bool {
@@ -23,8 +23,12 @@ pub fn rows_legal(t: &[i32], from: u32, to: u32) -> bool {
     true
 }
 
-fn query_fits(q: Query) -> bool {
-    (1..=64).contains(&q.k) && (1..=1_024).contains(&q.block) && q.radius <= 40_000
+fn query_fits(join: &Join) -> bool {
+    let q = join.query;
+    (1..=64).contains(&q.k)
+        && (1..=1_024).contains(&q.block)
+        && q.radius <= 40_000
+        && join.weights.iter().all(|w| (1..=9).contains(w))
 }
 
 fn depth_fits(block: u32, rows: u32, depth: u32) -> bool {
@@ -34,7 +38,7 @@ fn depth_fits(block: u32, rows: u32, depth: u32) -> bool {
 fn held_fits(join: &Join) -> bool {
     let [p, q] = join.depths;
     let pair_fits = |pair: &Pair| {
-        (1..=p).contains(&pair.field) && (1..=q).contains(&pair.trim) && pair.sum <= 19_998
+        (1..=p).contains(&pair.field) && (1..=q).contains(&pair.trim) && pair.sum <= 179_982
     };
     let held = join.held.pairs();
     join.out as usize + held.len() <= join.query.k as usize
@@ -56,7 +60,7 @@ fn mark_fits(join: &Join) -> bool {
 fn record_fits(join: &Join) -> bool {
     let block = join.query.block;
     let blocks = |depth: u32| u64::from(depth.div_ceil(block));
-    query_fits(join.query)
+    query_fits(join)
         && (0..2).all(|i| depth_fits(block, join.rows[i], join.depths[i]))
         && held_fits(join)
         && mark_fits(join)

@@ -1,11 +1,30 @@
 //! Who is measured: the library, and what one would use instead.
 use crate::outcome::Outcome;
+use crate::tables::Weighed;
 use crate::{block_printed, blockwise, join_first, library, score_first};
-use furzeladle::Query;
+use furzeladle::{Asked, Query};
+use Join::{Plain, Weighing};
 
 pub struct Contender {
     pub name: &'static str,
-    pub run: fn(Query, &[i32], &[i32]) -> Outcome,
+    join: Join,
+}
+
+enum Join {
+    /// Weighs the scores itself.
+    Weighing(fn(Asked, &[i32], &[i32]) -> Outcome),
+    /// Knows no weights and checks nothing: it joins tables whose scores were weighed before, which at weights 1 and 1
+    /// are the tables themselves.
+    Plain(fn(Query, &[i32], &[i32]) -> Outcome),
+}
+
+impl Contender {
+    pub fn run(&self, asked: Asked, tables: &Weighed) -> Outcome {
+        match self.join {
+            Weighing(join) => join(asked, &tables.scores.field, &tables.scores.trim),
+            Plain(join) => join(asked.query, &tables.worth.field, &tables.worth.trim),
+        }
+    }
 }
 
 /// Places in the list below.
@@ -19,17 +38,17 @@ pub const SCORE_FIRST: usize = 6;
 pub const BLOCK_PRINTED: usize = 7;
 pub const COUNT: usize = 8;
 
-const fn contender(name: &'static str, run: fn(Query, &[i32], &[i32]) -> Outcome) -> Contender {
-    Contender { name, run }
+const fn contender(name: &'static str, join: Join) -> Contender {
+    Contender { name, join }
 }
 
 pub const CONTENDERS: [Contender; COUNT] = [
-    contender("library", library::session),
-    contender("in one call", library::whole_query),
-    contender("same checks", blockwise::same_checks),
-    contender("each row once", blockwise::rows_checked_once),
-    contender("all pairs, sorted", join_first::all_pairs_sorted),
-    contender("plane sweep", join_first::plane_sweep),
-    contender("source's SFA, scan", score_first::scan),
-    contender("source's BA, sweep", block_printed::swept),
+    contender("library", Weighing(library::session)),
+    contender("in one call", Weighing(library::whole_query)),
+    contender("same checks", Weighing(blockwise::same_checks)),
+    contender("each row once", Weighing(blockwise::rows_checked_once)),
+    contender("all pairs, sorted", Plain(join_first::all_pairs_sorted)),
+    contender("plane sweep", Plain(join_first::plane_sweep)),
+    contender("source's SFA, scan", Plain(score_first::scan)),
+    contender("source's BA, sweep", Plain(block_printed::swept)),
 ];

@@ -1,10 +1,10 @@
 //! The proved library: call by call, and as one whole query.
 use crate::outcome::Outcome;
-use furzeladle::{Progress, Query, Session, Taken};
+use furzeladle::{Asked, Progress, Session, Taken};
 
 /// Opened, read until settled, taken until finished: every call checks what it is given.
-pub fn session(query: Query, field: &[i32], trim: &[i32]) -> Outcome {
-    let mut s = Session::open(query, field, trim).unwrap();
+pub fn session(asked: Asked, field: &[i32], trim: &[i32]) -> Outcome {
+    let mut s = Session::open(asked, field, trim).unwrap();
     while s.read(field, trim) == Ok(Progress::Read) {}
     let mut sums = Vec::new();
     while let Ok(Taken::Given(pair)) = s.take(field, trim) {
@@ -19,8 +19,8 @@ pub fn session(query: Query, field: &[i32], trim: &[i32]) -> Outcome {
 }
 
 /// The same in one call.
-pub fn whole_query(query: Query, field: &[i32], trim: &[i32]) -> Outcome {
-    let list = furzeladle::list(query, field, trim).unwrap();
+pub fn whole_query(asked: Asked, field: &[i32], trim: &[i32]) -> Outcome {
+    let list = furzeladle::list(asked, field, trim).unwrap();
     Outcome {
         sums: list.pairs.iter().map(|listed| listed.pair.sum).collect(),
         depths: list.depths.into(),

@@ -5,8 +5,8 @@ use crate::contenders::{
 };
 use crate::outcome::Outcome;
 use crate::sure::least_sure;
-use crate::tables::{tables, Shape, Tables};
-use furzeladle::Query;
+use crate::tables::{tables, Shape, Weighed};
+use furzeladle::Asked;
 use furzeladle_tests::judge;
 use std::hint::black_box;
 
@@ -20,7 +20,7 @@ const ENOUGH_MS: f64 = 200.0;
 pub struct Case {
     pub shape: Shape,
     pub rows: (u32, u32),
-    pub query: Query,
+    pub asked: Asked,
 }
 
 /// One seed: each contender's milliseconds and outcome, and the least sure reading.
@@ -75,14 +75,8 @@ impl Measured {
 }
 
 /// Milliseconds of a run, of twice as many as before until they fill some milliseconds.
-fn timed(contender: &Contender, query: Query, t: &Tables) -> (f64, Outcome) {
-    let run = || {
-        black_box((contender.run)(
-            query,
-            black_box(&t.field),
-            black_box(&t.trim),
-        ))
-    };
+fn timed(contender: &Contender, asked: Asked, t: &Weighed) -> (f64, Outcome) {
+    let run = || black_box(contender.run(asked, black_box(t)));
     let mut runs = 1;
     loop {
         let mut outcome = None;
@@ -95,7 +89,7 @@ fn timed(contender: &Contender, query: Query, t: &Tables) -> (f64, Outcome) {
 }
 
 /// Rounds alternate between the contenders; the least time counts, which other work disturbs least.
-fn least_times(query: Query, t: &Tables) -> ([f64; COUNT], Vec<Outcome>) {
+fn least_times(asked: Asked, t: &Weighed) -> ([f64; COUNT], Vec<Outcome>) {
     let mut least = [f64::INFINITY; COUNT];
     let mut spent = [0.0; COUNT];
     let mut outcomes = Vec::new();
@@ -104,7 +98,7 @@ fn least_times(query: Query, t: &Tables) -> ([f64; COUNT], Vec<Outcome>) {
             if spent[i] > ENOUGH_MS {
                 continue;
             }
-            let (ms, outcome) = timed(contender, query, t);
+            let (ms, outcome) = timed(contender, asked, t);
             least[i] = least[i].min(ms);
             spent[i] += ms;
             if round == 0 {
@@ -128,13 +122,13 @@ fn assert_agreed(outcomes: &[Outcome]) {
 }
 
 fn seeded(case: &Case, seed: u64) -> Seeded {
-    let t = tables(case.shape, case.rows, seed);
-    let (ms, outcomes) = least_times(case.query, &t);
+    let t = Weighed::new(case.asked, tables(case.shape, case.rows, seed));
+    let (ms, outcomes) = least_times(case.asked, &t);
     assert_agreed(&outcomes);
     let lent = judge::Tables {
-        query: case.query,
-        field: &t.field,
-        trim: &t.trim,
+        asked: case.asked,
+        field: &t.scores.field,
+        trim: &t.scores.trim,
     };
     let least_sure = least_sure(&lent, outcomes[LIBRARY].deepest());
     Seeded {

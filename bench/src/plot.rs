@@ -197,7 +197,7 @@ fn panel(svg: &mut String, left: f64, title: &str, series: &[Series]) {
 }
 
 fn points(measured: &[Measured], value: impl Fn(&Measured) -> f64) -> Vec<(f64, f64)> {
-    let point = |m: &Measured| (f64::from(m.case.query.radius), value(m));
+    let point = |m: &Measured| (f64::from(m.case.asked.query.radius), value(m));
     measured.iter().map(point).collect()
 }
 
@@ -260,8 +260,8 @@ pub fn svg(measured: &[Measured]) -> String {
         "{} field rows, {} trim rows, uniform shades; k {}, block {}; medians of {} seeds",
         grouped(f.into()),
         grouped(t.into()),
-        case.query.k,
-        case.query.block,
+        case.asked.query.k,
+        case.asked.query.block,
         measured[0].seeds.len(),
     );
     text(

@@ -1,7 +1,7 @@
 //! One query again and again by one contender, for a profiler.
 use crate::contenders::CONTENDERS;
-use crate::tables::{tables, Shape};
-use furzeladle::Query;
+use crate::tables::{tables, Shape, Weighed};
+use furzeladle::{Asked, Query};
 use std::hint::black_box;
 
 /// The words are the contender's place in the list, radius, k, block and how many runs.
@@ -10,11 +10,9 @@ pub fn run(words: &[&str]) {
     let [contender, radius, k, block, runs] = numbers[..] else {
         panic!("five numbers are wanted");
     };
-    let query = Query { k, block, radius };
-    let t = tables(Shape::Uniform, (38_000, 12_000), 1);
+    let asked = Asked::from(Query { k, block, radius });
+    let t = Weighed::new(asked, tables(Shape::Uniform, (38_000, 12_000), 1));
     for _ in 0..runs {
-        black_box((CONTENDERS[contender as usize].run)(
-            query, &t.field, &t.trim,
-        ));
+        black_box(CONTENDERS[contender as usize].run(asked, &t));
     }
 }

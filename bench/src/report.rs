@@ -1,6 +1,7 @@
 //! What was measured, as Markdown tables: counts first, then times.
 use crate::contenders::{BLOCK_PRINTED, CONTENDERS, LIBRARY, SAME_CHECKS, SCORE_FIRST, SWEEP};
 use crate::measure::{Measured, Spread};
+use furzeladle::Asked;
 
 /// With commas between thousands.
 pub fn grouped(n: u64) -> String {
@@ -45,15 +46,24 @@ fn head(titles: &[&str]) {
     println!("|{}", "---|".repeat(titles.len()));
 }
 
+/// The weights, where they are not 1 and 1.
+fn weights(asked: Asked) -> String {
+    match (asked.field_weight.0, asked.trim_weight.0) {
+        (1, 1) => String::new(),
+        (v, w) => format!(", weights {v} and {w}"),
+    }
+}
+
 /// What every row of a table begins with.
 fn query(m: &Measured) -> Vec<String> {
-    let (case, q) = (m.case, m.case.query);
+    let (case, q) = (m.case, m.case.asked.query);
     let (f, t) = case.rows;
     let tables = format!(
-        "{}, {} × {}",
+        "{}, {} × {}{}",
         case.shape.name(),
         grouped(f.into()),
-        grouped(t.into())
+        grouped(t.into()),
+        weights(case.asked)
     );
     let number = |n: u32| grouped(n.into());
     vec![tables, number(q.radius), number(q.k), number(q.block)]

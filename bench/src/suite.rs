@@ -1,12 +1,14 @@
 //! Which cases a mode measures: one thing varied around a middle query, or in full every combination.
 use crate::measure::Case;
 use crate::tables::Shape;
-use furzeladle::Query;
+use furzeladle::{Asked, FieldWeight, Query, TrimWeight};
 
 const ARCHIVE: (u32, u32) = (38_000, 12_000);
 const RADII: [u32; 6] = [3, 13, 26, 128, 255, 1_000];
 const LENGTHS: [u32; 3] = [1, 10, 64];
 const BLOCKS: [u32; 4] = [1, 16, 128, 1_024];
+/// Field and trim weights of the cases that have others than 1 and 1.
+const WEIGHTS: [(u32, u32); 2] = [(1, 3), (9, 2)];
 const GROWTH: [u32; 5] = [6_000, 12_000, 24_000, 48_000, 65_535];
 /// Those of them that a short run measures, and the radii of its clustered and adversarial tables.
 const FEW_GROWTH: [u32; 3] = [6_000, 24_000, 65_535];
@@ -22,11 +24,11 @@ pub struct Section {
     pub cases: Vec<Case>,
 }
 
-fn archive(shape: Shape, query: Query) -> Case {
+fn archive(shape: Shape, asked: impl Into<Asked>) -> Case {
     Case {
         shape,
         rows: ARCHIVE,
-        query,
+        asked: asked.into(),
     }
 }
 
@@ -62,9 +64,15 @@ fn growth(sizes: &[u32]) -> Vec<Case> {
     let case = |&rows| Case {
         shape: Shape::Uniform,
         rows: (rows, rows),
-        query: MIDDLE,
+        asked: MIDDLE.into(),
     };
     sizes.iter().map(case).collect()
+}
+
+fn weights() -> Vec<Case> {
+    let asked = |&(v, w)| MIDDLE.weights(FieldWeight(v), TrimWeight(w));
+    let case = |weights| archive(Shape::Uniform, asked(weights));
+    WEIGHTS.iter().map(case).collect()
 }
 
 /// The radii come first: the plot is drawn from them.
@@ -87,5 +95,6 @@ pub fn sections(full: bool) -> Vec<Section> {
         section("Clustered shades", radii(Shape::Clustered, chosen)),
         section("Adversarial scores", adversarial),
         section("Growth at a fixed share of qualifying pairs", growth(sizes)),
+        section("Weights", weights()),
     ]
 }

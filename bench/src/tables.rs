@@ -1,4 +1,5 @@
 //! The tables that are joined, always the same ones from the same seed.
+use furzeladle::Asked;
 use furzeladle_tests::cases::Dice;
 
 const LOWEST_SHADE: i32 = -12_800;
@@ -43,6 +44,30 @@ impl Shape {
 pub struct Tables {
     pub field: Vec<i32>,
     pub trim: Vec<i32>,
+}
+
+/// Two tables, and the same with weighted scores, for those who know no weights.
+pub struct Weighed {
+    pub scores: Tables,
+    pub worth: Tables,
+}
+
+impl Weighed {
+    pub fn new(asked: Asked, scores: Tables) -> Weighed {
+        let worth = Tables {
+            field: times(&scores.field, asked.field_weight.0),
+            trim: times(&scores.trim, asked.trim_weight.0),
+        };
+        Weighed { scores, worth }
+    }
+}
+
+/// A table with its scores multiplied.
+fn times(t: &[i32], weight: u32) -> Vec<i32> {
+    let mut t = t.to_vec();
+    t.chunks_exact_mut(4)
+        .for_each(|row| row[1] *= weight as i32);
+    t
 }
 
 fn anywhere(dice: &mut Dice) -> [i32; 2] {

@@ -1,5 +1,6 @@
-//! The archive's command: beside the pairing program's stored cases, and beyond 512 rows beside the model.
-use furzeladle::Query;
+//! The archive's command: beside the pairing program's stored cases, beside its own with weights, and beyond 512 rows
+//! beside the model.
+use furzeladle::{Asked, FieldWeight, Query, TrimWeight};
 use furzeladle_tests::cases::{table, Dice, Spread};
 use furzeladle_tests::model::{self, Said};
 use furzeladle_tests::{file, spelled};
@@ -55,10 +56,11 @@ fn assert_refused(output: &Output, number: u32, place: &str, what: &str) {
 }
 
 /// The listing by the model and by Rust's own formatting.
-fn modelled(query: Query, f: &[i32], t: &[i32]) -> Vec<u8> {
-    let (_, mut record) = model::open(query, f, t);
+fn modelled(asked: Asked, f: &[i32], t: &[i32]) -> Vec<u8> {
+    let (_, mut record) = model::open(asked, f, t);
     while model::read(f, t, &mut record) == Said::Read {}
-    let mut text = format!("{:>6}{:>6}{:>6}\n", query.k, query.block, query.radius);
+    let Query { k, block, radius } = asked.query;
+    let mut text = format!("{k:>6}{block:>6}{radius:>6}\n");
     let mut rank = 1;
     while let Said::Given(pair) = model::take(f, t, &mut record) {
         let (x, y) = (
@@ -114,8 +116,8 @@ fn beyond_the_program(output: &Output, files: &[PathBuf; 2], numbers: &[String],
     }
     let rows = |i: usize| spelled::rows(&fs::read(&files[i]).unwrap(), i as i32 + 1).unwrap();
     let number = |i: usize| numbers[i].parse().unwrap();
-    let query = query(number(0), number(1), number(2));
-    let listing = modelled(query, &rows(0).concat(), &rows(1).concat());
+    let asked = query(number(0), number(1), number(2)).into();
+    let listing = modelled(asked, &rows(0).concat(), &rows(1).concat());
     assert_listed(output, &listing, what);
 }
 
@@ -128,22 +130,45 @@ enum Used {
     NotForTheCommand,
 }
 
+fn files(case: &Path) -> [PathBuf; 2] {
+    ["FIELD.TAB", "TRIM.TAB"].map(|name| case.join(name))
+}
+
+/// A case of the program. Weights 1 and 1, given as well, change nothing.
 fn stored_case(case: &Path) -> Used {
-    let what = case.display().to_string();
-    let files = ["FIELD.TAB", "TRIM.TAB"].map(|name| case.join(name));
-    let stdout = fs::read(case.join("stdout")).unwrap();
+    let files = files(case);
     let numbers = query_numbers(&fs::read(case.join("stdin")).unwrap());
     let (Some(numbers), true) = (numbers, files.iter().all(|f| f.exists())) else {
         return Used::NotForTheCommand;
     };
-    let output = pair(&files[0], &files[1], &numbers);
+    let ones = [numbers.as_slice(), &["1", "1"].map(String::from)].concat();
+    assert_eq!(
+        pair(&files[0], &files[1], &ones),
+        pair(&files[0], &files[1], &numbers)
+    );
+    answered(case, &numbers)
+}
+
+/// A case with weights, whose numbers stand in args.
+fn weighted_case(case: &Path) -> Used {
+    let numbers = fs::read_to_string(case.join("args")).unwrap();
+    let numbers: Vec<String> = numbers.split_whitespace().map(String::from).collect();
+    answered(case, &numbers)
+}
+
+/// What the command answers to these numbers is what stands in the case's stdout.
+fn answered(case: &Path, numbers: &[String]) -> Used {
+    let what = case.display().to_string();
+    let files = files(case);
+    let stdout = fs::read(case.join("stdout")).unwrap();
+    let output = pair(&files[0], &files[1], numbers);
     if stdout.len() > 7 {
         assert_listed(&output, &stdout, &what);
         return Used::Listed;
     }
     let too_long = |f: &PathBuf| fs::metadata(f).unwrap().len() > PROGRAM_BYTES;
     if files.iter().any(too_long) {
-        beyond_the_program(&output, &files, &numbers, &what);
+        beyond_the_program(&output, &files, numbers, &what);
         return Used::TooLongForTheProgram;
     }
     let program = std::str::from_utf8(&stdout)
@@ -158,16 +183,23 @@ fn stored_case(case: &Path) -> Used {
     Used::Refused
 }
 
+/// The cases of a folder of tests, each tried.
+fn all_of(folder: &str, case: fn(&Path) -> Used) -> Vec<Used> {
+    fs::read_dir(tests().join(folder))
+        .unwrap()
+        .map(|entry| entry.unwrap().path())
+        .filter(|path| path.is_dir())
+        .map(|path| case(&path))
+        .collect()
+}
+
+fn tests() -> PathBuf {
+    Path::new(env!("CARGO_MANIFEST_DIR")).join("../../tests")
+}
+
 #[test]
 fn stored_cases() {
-    let folder = Path::new(env!("CARGO_MANIFEST_DIR")).join("../../tests/cases");
-    let cases = fs::read_dir(folder)
-        .unwrap()
-        .map(|entry| entry.unwrap().path());
-    let used: Vec<Used> = cases
-        .filter(|path| path.is_dir())
-        .map(|case| stored_case(&case))
-        .collect();
+    let used = all_of("cases", stored_case);
     let count = |wanted| used.iter().filter(|u| **u == wanted).count();
     println!(
         "{} listed, {} refused, as the program did",
@@ -176,6 +208,16 @@ fn stored_cases() {
     );
     assert!(count(Used::Listed) >= 20 && count(Used::Refused) >= 25);
     assert!(count(Used::TooLongForTheProgram) >= 2);
+}
+
+#[test]
+fn stored_cases_with_weights() {
+    let used = all_of("weights", weighted_case);
+    let count = |wanted| used.iter().filter(|u| **u == wanted).count();
+    assert!(count(Used::Listed) >= 8 && count(Used::Refused) >= 3);
+    let [ones, program] = ["weights/ones", "cases/ties-plateau"]
+        .map(|case| fs::read(tests().join(case).join("stdout")).unwrap());
+    assert_eq!(ones, program);
 }
 
 /// A folder of this test's own, gone when it ends.
@@ -206,8 +248,10 @@ fn strict(kind: u32, t: &[i32]) -> Vec<u8> {
     file(kind, &rows)
 }
 
-fn numbers(query: Query) -> [String; 3] {
-    [query.k, query.block, query.radius].map(|n| n.to_string())
+fn numbers(asked: Asked) -> [String; 5] {
+    let Query { k, block, radius } = asked.query;
+    let (FieldWeight(v), TrimWeight(w)) = (asked.field_weight, asked.trim_weight);
+    [k, block, radius, v, w].map(|n| n.to_string())
 }
 
 fn query(k: u32, block: u32, radius: u32) -> Query {
@@ -215,14 +259,15 @@ fn query(k: u32, block: u32, radius: u32) -> Query {
 }
 
 /// Tables of these row counts from a seed: the command's listing is the model's, and has pairs.
-fn beside_the_model(folder: &Folder, (m, n): (u32, u32), spread: Spread, query: Query) {
+fn beside_the_model(folder: &Folder, (m, n): (u32, u32), spread: Spread, asked: impl Into<Asked>) {
+    let asked = asked.into();
     let mut dice = Dice::new(u64::from(m));
     let (f, t) = (table(&mut dice, m, spread), table(&mut dice, n, spread));
     let field = folder.file("FIELD.TAB", &strict(1, &f));
     let trim = folder.file("TRIM.TAB", &strict(2, &t));
-    let output = pair(&field, &trim, &numbers(query));
+    let output = pair(&field, &trim, &numbers(asked));
     let what = format!("{m} and {n} rows");
-    assert_listed(&output, &modelled(query, &f, &t), &what);
+    assert_listed(&output, &modelled(asked, &f, &t), &what);
     assert!(
         output.stdout.split(|b| *b == b'\n').count() > 3,
         "no pairs at {what}"
@@ -253,6 +298,20 @@ fn more_rows_than_the_program_takes() {
     beside_the_model(&folder, (6_000, 700), tied, query(64, 7, 9));
     beside_the_model(&folder, (38_000, 12_000), steep, query(10, 128, 128));
     beside_the_model(&folder, (65_535, 65_535), near, query(64, 1_024, 5));
+    let weighted = |query: Query, v, w| query.weights(FieldWeight(v), TrimWeight(w));
+    beside_the_model(
+        &folder,
+        (3_000, 2_000),
+        steep,
+        weighted(query(64, 100, 400), 1, 3),
+    );
+    beside_the_model(&folder, (6_000, 700), tied, weighted(query(64, 7, 9), 2, 3));
+    beside_the_model(
+        &folder,
+        (38_000, 12_000),
+        steep,
+        weighted(query(10, 128, 128), 9, 4),
+    );
 }
 
 /// Of equal sums those come out that were read: rows 2 and 1, not 1 and 2.
@@ -264,7 +323,7 @@ fn two_rows_of_equal_score() {
     let trim = folder.file("TRIM.TAB", &strict(2, &rows));
     let listing = "     2     1     0\n     1     2     1     1           0\n\
                    \x20    2     2     2     1           0\n     2     1           2\n";
-    let output = pair(&field, &trim, &numbers(query(2, 1, 0)));
+    let output = pair(&field, &trim, &numbers(query(2, 1, 0).into()));
     assert_listed(&output, listing.as_bytes(), "equal sums");
 }
 
@@ -295,25 +354,37 @@ fn numbers_outside_their_range() {
     let field = folder.file("FIELD.TAB", &strict(1, &[1, 5, 0, 0]));
     let trim = folder.file("TRIM.TAB", &strict(2, &[1, 5, 0, 0]));
     let huge = "9".repeat(60);
-    let cases = [
-        (["0", "1", "0"], 1),
-        (["65", "0", "0"], 1),
-        (["-3", "1", "0"], 1),
-        ([huge.as_str(), "1", "0"], 1),
-        (["1", "1025", "40001"], 2),
-        (["1", "4294967297", "0"], 2),
-        (["1", "1", "40001"], 3),
-        (["1", "1", "-1"], 3),
+    let cases: [(&[&str], u32); 14] = [
+        (&["0", "1", "0"], 1),
+        (&["65", "0", "0"], 1),
+        (&["-3", "1", "0"], 1),
+        (&[&huge, "1", "0"], 1),
+        (&["1", "1025", "40001"], 2),
+        (&["1", "4294967297", "0"], 2),
+        (&["1", "1", "40001"], 3),
+        (&["1", "1", "-1"], 3),
+        (&["1", "1", "40001", "0", "10"], 3),
+        (&["1", "1", "0", "0", "1"], 12),
+        (&["1", "1", "0", "1", "0"], 12),
+        (&["1", "1", "0", "10", "1"], 12),
+        (&["1", "1", "0", "-1", "1"], 12),
+        (&["1", "1", "0", "9", &huge], 12),
     ];
     for (given, number) in cases {
-        let output = pair(&field, &trim, &given.map(String::from));
+        let strings: Vec<String> = given.iter().map(|word| word.to_string()).collect();
+        let output = pair(&field, &trim, &strings);
         assert_refused(&output, number, "query: ", &format!("{given:?}"));
     }
+    let output = pair(&field, &trim, &["1", "1", "0", "0", "1"].map(String::from));
+    assert_eq!(
+        words(&output),
+        "furzeladle: query: refused by 12, weight: a weight outside 1 to 9\n"
+    );
 }
 
 #[test]
 fn arguments_that_are_none() {
-    let wrong: [&[&str]; 7] = [
+    let wrong: [&[&str]; 9] = [
         &[],
         &["F", "T", "1", "1"],
         &["F", "T", "1", "1", "5", "6"],
@@ -321,6 +392,8 @@ fn arguments_that_are_none() {
         &["F", "T", "1", "1.5", "5"],
         &["F", "T", "1", "1", ""],
         &["F", "T", "1", "+1", "5"],
+        &["F", "T", "1", "1", "5", "1", "one"],
+        &["F", "T", "1", "1", "5", "1", "1", "1"],
     ];
     for given in wrong {
         let output = run(given);

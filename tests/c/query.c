@@ -1,4 +1,5 @@
-/* furzeladle_query from C: the rules' worked query, the refusals that a whole query can give, and what is left alone. */
+/* furzeladle_query from C: the rules' worked query, at other weights too, the refusals that a whole query can give, and
+ * what is left alone. */
 #include "furzeladle.h"
 
 #include <stdio.h>
@@ -19,6 +20,48 @@ static void expect(const char *what, long got, long want) {
 static int32_t ask(uint32_t k, uint32_t block, uint32_t radius, const int32_t *f, size_t m, uint64_t *out, size_t room) {
     uint32_t q[3] = {k, block, radius};
     return furzeladle_query(q, 3, f, m, T, 20, out, room);
+}
+
+/* The worked query with weights: five numbers are lent, or the front ones. */
+static int32_t weigh(uint32_t v, uint32_t w, size_t count, const int32_t *f, size_t m, uint64_t *out) {
+    const uint32_t q[FURZELADLE_QUERY_MOST] = {2, 1, 5, v, w};
+    return furzeladle_query(q, count, f, m, T, 20, out, FURZELADLE_QUERY_SIZE);
+}
+
+static void weights(void) {
+    static const uint64_t plainly[15] = {4, 4, 10, 140, 1, 2, 101, 202, 25, 110, 2, 3, 102, 203, 25};
+    static const uint64_t by_field[15] = {3, 5, 8, 320, 1, 2, 101, 202, 25, 270, 2, 3, 102, 203, 25};
+    static const uint64_t by_trim[15] = {5, 4, 12, 240, 1, 2, 101, 202, 25, 170, 2, 3, 102, 203, 25};
+    static const uint32_t bad[4][2] = {{0, 1}, {10, 1}, {1, 0}, {1, 10}};
+    const uint32_t far[5] = {2, 1, 40001, 0, 10};
+    uint64_t out[FURZELADLE_QUERY_SIZE];
+
+    expect("1 and 1", weigh(1, 1, 5, F, 20, out), 2);
+    expect("as three numbers", memcmp(out, plainly, sizeof plainly), 0);
+    expect("not lent", weigh(9, 9, 3, F, 20, out), 2);
+    expect("as 1 and 1", memcmp(out, plainly, sizeof plainly), 0);
+    expect("3 and 1", weigh(3, 1, 5, F, 20, out), 2);
+    expect("its pairs", memcmp(out, by_field, sizeof by_field), 0);
+    expect("3 alone", weigh(3, 9, 4, F, 20, out), 2);
+    expect("as 3 and 1", memcmp(out, by_field, sizeof by_field), 0);
+    expect("1 and 3", weigh(1, 3, 5, F, 20, out), 2);
+    expect("its pairs", memcmp(out, by_trim, sizeof by_trim), 0);
+    for (int i = 0; i < 4; i++) {
+        expect("weight", weigh(bad[i][0], bad[i][1], 5, F, 20, out), -FURZELADLE_WEIGHT);
+        expect("before 4", weigh(bad[i][0], bad[i][1], 5, F, 19, out), -FURZELADLE_WEIGHT);
+    }
+    expect("after 3", furzeladle_query(far, 5, F, 20, T, 20, out, FURZELADLE_QUERY_SIZE), -FURZELADLE_RADIUS);
+    expect("left alone", memcmp(out, by_trim, sizeof by_trim), 0);
+}
+
+/* A row of the highest score each: 9 times 9,999, twice. */
+static void highest(void) {
+    static const int32_t row[4] = {1, 9999, 0, 0};
+    static const char listing[] = "     1     1     0\n     1179982     1     1           0\n     1     1           1\n";
+    static const uint32_t q[5] = {1, 1, 0, 9, 9};
+    uint8_t text[FURZELADLE_LISTING_SIZE];
+    expect("highest", furzeladle_listing(q, 5, row, 4, row, 4, text, sizeof text), (long)strlen(listing));
+    expect("its text", memcmp(text, listing, strlen(listing)), 0);
 }
 
 int main(void) {
@@ -65,6 +108,8 @@ int main(void) {
     expect("listing", furzeladle_listing(q, 3, F, 20, T, 20, text, FURZELADLE_LISTING_SIZE), (long)strlen(listing));
     expect("text", memcmp(text, listing, strlen(listing)), 0);
     expect("text behind", text[strlen(listing)], 'x');
+    weights();
+    highest();
     printf("query.c: %d of %d\n", tried - failed, tried);
     return failed != 0;
 }

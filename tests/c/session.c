@@ -1,4 +1,5 @@
-/* The rules' worked query through the C functions, and calls that must be refused. Exit status 0: all as it must be. */
+/* The rules' worked query through the C functions, at other weights too, and calls that must be refused. Exit status 0:
+ * all as it must be. */
 #include <stdio.h>
 #include <string.h>
 
@@ -97,8 +98,22 @@ static void damaged(void)
     s[FURZELADLE_JOINED_HIGH] = 1;
     refused("joined", s, field, 20, -FURZELADLE_RECORD);
     memcpy(s, good, sizeof s);
-    s[SIZE - 1] = 1;
+    s[FURZELADLE_FIELD_WEIGHT - 1] = 1;
     refused("last place", s, field, 20, -FURZELADLE_RECORD);
+    for (i = FURZELADLE_FIELD_WEIGHT; i <= FURZELADLE_TRIM_WEIGHT; i++) {
+        memcpy(s, good, sizeof s);
+        s[i] = 0;
+        refused("weight 0", s, field, 20, -FURZELADLE_RECORD);
+        s[i] = 10;
+        refused("weight 10", s, field, 20, -FURZELADLE_RECORD);
+    }
+    memcpy(s, good, sizeof s);
+    s[FURZELADLE_PAIRS] = 179983;
+    refused("held sum", s, field, 20, -FURZELADLE_RECORD);
+    s[FURZELADLE_PAIRS] = 179982;
+    expect("the largest held sum", takes(s, pair), FURZELADLE_GIVEN);
+    expect_pair("is believed", pair, 179982, 1, 2);
+    pair[0] = pair[1] = pair[2] = 7;
     refused("zeros", zeros, field, 20, -FURZELADLE_RECORD);
     refused("fewer rows", good, field, 16, -FURZELADLE_TABLE_SIZE);
     refused("no whole row", good, field, 19, -FURZELADLE_TABLE_SIZE);
@@ -120,6 +135,66 @@ static void damaged(void)
     expect("short place", furzeladle_show(field, 20, trim, 20, s, SIZE, pair, 2), -FURZELADLE_SHORT_SLICE);
     expect("nothing changed", memcmp(s, good, sizeof s), 0);
     expect_pair("nor the pair", pair, 7, 7, 7);
+}
+
+/* A session of a query's numbers, to its end: its pairs' sums, depths and block pairs joined. */
+static void listed(const char *what, const uint32_t *numbers, size_t count, const uint32_t wanted[5])
+{
+    uint32_t s[SIZE], pair[3];
+    int i;
+
+    expect(what, furzeladle_open(numbers, count, field, 20, trim, 20, s, SIZE), FURZELADLE_DONE);
+    while (reads(s) == FURZELADLE_DONE)
+        ;
+    for (i = 0; i < 2; i++) {
+        expect(what, takes(s, pair), FURZELADLE_GIVEN);
+        expect(what, pair[0], wanted[i]);
+    }
+    expect(what, takes(s, pair), FURZELADLE_FINISHED);
+    expect(what, s[FURZELADLE_FIELD_DEPTH], wanted[2]);
+    expect(what, s[FURZELADLE_TRIM_DEPTH], wanted[3]);
+    expect(what, s[FURZELADLE_JOINED], wanted[4]);
+}
+
+/* A weight that is not lent is 1. */
+static void weighted(void)
+{
+    const uint32_t ones[FURZELADLE_QUERY_MOST] = {2, 1, 5, 1, 1};
+    const uint32_t field_more[5] = {2, 1, 5, 3, 1}, trim_more[5] = {2, 1, 5, 1, 3};
+    const uint32_t plainly[5] = {140, 110, 4, 4, 10};
+    const uint32_t by_field[5] = {320, 270, 3, 5, 8}, by_trim[5] = {240, 170, 5, 4, 12};
+    uint32_t three[SIZE], five[SIZE];
+
+    listed("three numbers", query, FURZELADLE_QUERY_LEAST, plainly);
+    listed("weights 1 and 1", ones, FURZELADLE_QUERY_MOST, plainly);
+    listed("weights 3 and 1", field_more, 5, by_field);
+    listed("weight 3", field_more, 4, by_field);
+    listed("weights 1 and 3", trim_more, 5, by_trim);
+    listed("weight 1", trim_more, 4, plainly);
+    furzeladle_open(query, 3, field, 20, trim, 20, three, SIZE);
+    furzeladle_open(ones, 5, field, 20, trim, 20, five, SIZE);
+    expect("the same record", memcmp(three, five, sizeof three), 0);
+    furzeladle_open(field_more, 5, field, 20, trim, 20, five, SIZE);
+    expect("field weight", five[FURZELADLE_FIELD_WEIGHT], 3);
+    expect("trim weight", five[FURZELADLE_TRIM_WEIGHT], 1);
+}
+
+/* 12 after 3 and before 4; nothing changes. */
+static void weights_refused(void)
+{
+    const uint32_t bad[4][5] = {{2, 1, 5, 0, 1}, {2, 1, 5, 10, 1}, {2, 1, 5, 1, 0}, {2, 1, 5, 1, 10}};
+    const uint32_t far[5] = {2, 1, 40001, 0, 10};
+    uint32_t s[SIZE] = {0}, zeros[SIZE] = {0}, other[SIZE];
+    int i;
+
+    for (i = 0; i < 4; i++) {
+        expect("bad weight", furzeladle_open(bad[i], 5, field, 20, trim, 20, s, SIZE), -FURZELADLE_WEIGHT);
+        expect("before 4", furzeladle_open(bad[i], 5, field, 19, trim, 19, s, SIZE), -FURZELADLE_WEIGHT);
+        expect("not lent", furzeladle_open(bad[i], 3, field, 20, trim, 20, other, SIZE), FURZELADLE_DONE);
+    }
+    expect("field weight alone", furzeladle_open(bad[0], 4, field, 20, trim, 20, s, SIZE), -FURZELADLE_WEIGHT);
+    expect("after 3", furzeladle_open(far, 5, field, 20, trim, 20, s, SIZE), -FURZELADLE_RADIUS);
+    expect("left alone", memcmp(s, zeros, sizeof s), 0);
 }
 
 /* Refused openings over a live record: it stands, and its session goes on to the end. */
@@ -146,6 +221,8 @@ static void survives(void)
 int main(void)
 {
     worked();
+    weighted();
+    weights_refused();
     survives();
     damaged();
     if (failures == 0)

@@ -1,9 +1,11 @@
 #!/usr/bin/env python3
 """Writes the stored cases of the pairing program: a folder each, with FIELD.TAB, TRIM.TAB (absent: not there), stdin and
-the stdout that the program must give. The expected bytes come from the model below, written from the rules alone; it
-shares nothing with the program.
+the stdout that the program must give. The program takes no weights, so that cases with them are the archive's command's:
+folders in tests/weights, with args (k, block, radius, field weight, trim weight) in place of stdin; a refusal stands there
+as the program would print it. The expected bytes come from the model below, written from the rules alone; it shares
+nothing with the program.
 
-usage: tests/cases/make.py            writes the folders beside itself
+usage: tests/cases/make.py            writes the folders, beside itself and in tests/weights
        tests/cases/make.py --check    compares them with what stands there
 """
 import os
@@ -11,6 +13,7 @@ import re
 import sys
 
 HERE = os.path.dirname(os.path.abspath(__file__))
+WEIGHTS = os.path.join(os.path.dirname(HERE), "weights")
 
 
 # ---- The model: the rules' strict file, session and listing
@@ -65,19 +68,36 @@ def rank(pair):
     return (-pair[0], pair[1], pair[2])
 
 
-def query(field, trim, raw):
-    f, t = load(field, 1), load(trim, 2)
+def columns(raw):
+    """The program's input: k, block and radius; its weights are 1 and 1."""
     if len(raw) != 19:
         raise Refused(8)
-    k, block, radius = (column(raw[i:i + 6], False) for i in (0, 6, 12))
+    numbers = [column(raw[i:i + 6], False) for i in (0, 6, 12)]
     if raw[18:19] != b"\n":
         raise Refused(9)
+    return numbers + [1, 1]
+
+
+def arguments(raw):
+    """The command's five numbers."""
+    return [int(n) for n in raw.split()]
+
+
+def query(field, trim, raw, numbers):
+    f, t = load(field, 1), load(trim, 2)
+    k, block, radius, wf, wt = numbers(raw)
     if not 1 <= k <= 64:
         raise Refused(1)
     if not 1 <= block <= 1024:
         raise Refused(2)
     if radius > 40000:
         raise Refused(3)
+    if not (1 <= wf <= 9 and 1 <= wt <= 9):
+        raise Refused(12)
+
+    def total(x, y):
+        """The sum of a field row and a trim row."""
+        return wf * x[1] + wt * y[1]
 
     df = dt = joined = 0
     held = []  # (sum, field row, trim row), rows from 1
@@ -90,9 +110,9 @@ def query(field, trim, raw):
             return False
         parts = []
         if dt < len(t):
-            parts.append(f[0][1] + t[dt - 1][1])
+            parts.append(total(f[0], t[dt - 1]))
         if df < len(f):
-            parts.append(f[df - 1][1] + t[0][1])
+            parts.append(total(f[df - 1], t[0]))
         return pair[0] >= max(parts)
 
     def settled():
@@ -108,7 +128,7 @@ def query(field, trim, raw):
         elif dt == len(t):
             side = "f"
         else:
-            drop_f, drop_t = f[0][1] - f[df - 1][1], t[0][1] - t[dt - 1][1]
+            drop_f, drop_t = wf * (f[0][1] - f[df - 1][1]), wt * (t[0][1] - t[dt - 1][1])
             side = "f" if (drop_f, df) <= (drop_t, dt) else "t"
         if side == "f":
             new = (df, min(df + block, len(f)))
@@ -118,32 +138,32 @@ def query(field, trim, raw):
             dt = new[1]
         for old in read["t" if side == "f" else "f"]:
             x, y = (new, old) if side == "f" else (old, new)
-            if len(held) == k and f[x[0]][1] + t[y[0]][1] < held[-1][0]:
+            if len(held) == k and total(f[x[0]], t[y[0]]) < held[-1][0]:
                 continue
             joined += 1
             for i in range(*x):
                 for j in range(*y):
                     if distance(f[i], t[j]) <= radius * radius:
-                        held.append((f[i][1] + t[j][1], i + 1, j + 1))
+                        held.append((total(f[i], t[j]), i + 1, j + 1))
             held.sort(key=rank)
             del held[k:]
         read[side].append(new)
 
     text = "%6d%6d%6d\n" % (k, block, radius)
-    for i, (total, x, y) in enumerate(held):
+    for i, (its_sum, x, y) in enumerate(held):
         x, y = f[x - 1], t[y - 1]
-        text += "%6d%6d%6d%6d%12d\n" % (i + 1, total, x[0], y[0], distance(x, y))
+        text += "%6d%6d%6d%6d%12d\n" % (i + 1, its_sum, x[0], y[0], distance(x, y))
     # when it is settled every held pair is secured, so takes bring out all that is held
     assert not f or not t or all(map(secured, held))
     # and it is the k highest of all sums
-    every = sorted((-x[1] - y[1] for x in f for y in t if distance(x, y) <= radius * radius))
+    every = sorted((-total(x, y) for x in f for y in t if distance(x, y) <= radius * radius))
     assert [-p[0] for p in held] == every[:k], "the model disagrees with the plain double loop"
     return text + "%6d%6d%12d\n" % (df, dt, joined)
 
 
-def printed(field, trim, raw):
+def printed(field, trim, raw, numbers):
     try:
-        return query(field or b"", trim or b"", raw).encode()
+        return query(field or b"", trim or b"", raw, numbers).encode()
     except Refused as r:
         return b"%6d\n" % r.number
 
@@ -156,6 +176,10 @@ def table(kind, rows, count=None):
 
 def ask(k, block, radius):
     return b"%6d%6d%6d\n" % (k, block, radius)
+
+
+def weigh(*numbers):
+    return b"%d %d %d %d %d\n" % numbers
 
 
 class Dice:
@@ -264,14 +288,44 @@ def cases():
         yield "random-%d" % i, table(1, dice.rows(n, top, spread)), table(2, dice.rows(m, top, spread)), q
 
 
+def weighted_cases():
+    yield "field-counts-more", F, T, weigh(2, 1, 5, 3, 1)
+    yield "trim-counts-more", F, T, weigh(2, 1, 5, 1, 3)
+    # two pairs of scores 9 and 2, 6 and 4: the first is better without weights; both are 24 at 2 and 3; the second is 42
+    # and the first 27 at 1 and 9
+    two = table(1, [(1, 9, 0, 0), (2, 6, 50, 0)]), table(2, [(3, 4, 50, 0), (4, 2, 0, 0)])
+    yield "tie-by-weights", *two, weigh(2, 1, 5, 2, 3)
+    yield "turned-by-weights", *two, weigh(1, 1, 5, 1, 9)
+    # the highest sum, 179,982, fills its six columns
+    top = [(i, 9999, 0, 0) for i in range(1, 6)]
+    yield "nines-at-9999", table(1, top), table(2, top), weigh(4, 2, 0, 9, 9)
+    # cases of the program: one as it is there, and one where a drop of trim scores counts nine times
+    program = {name: (field, trim, raw) for name, field, trim, raw in cases()}
+    field, trim, raw = program["ties-plateau"]
+    yield "ones", field, trim, weigh(*columns(raw))
+    field, trim, raw = program["scores-apart"]
+    yield "drops-by-weights", field, trim, weigh(*columns(raw)[:4], 9)
+    dice = Dice(8)
+    yield "random-unlike", table(1, dice.rows(40, 300, 20)), table(2, dice.rows(40, 300, 20)), weigh(12, 3, 4, 2, 7)
+    yield "no-12-zero", F, T, weigh(2, 1, 5, 0, 1)
+    yield "no-12-ten", F, T, weigh(2, 1, 5, 1, 10)
+    yield "no-3-before-12", F, T, weigh(2, 1, 40001, 0, 10)
+
+
+def stored():
+    """Folder and files of every case."""
+    for home, name_of_input, numbers, all_cases in (HERE, "stdin", columns, cases()), (WEIGHTS, "args", arguments, weighted_cases()):
+        for name, field, trim, raw in all_cases:
+            files = {"FIELD.TAB": field, "TRIM.TAB": trim, name_of_input: raw, "stdout": printed(field, trim, raw, numbers)}
+            yield os.path.join(home, name), files
+
+
 def main():
     check = "--check" in sys.argv
-    names, differ = set(), 0
-    for name, field, trim, raw in cases():
-        assert name not in names, name
-        names.add(name)
-        folder = os.path.join(HERE, name)
-        files = {"FIELD.TAB": field, "TRIM.TAB": trim, "stdin": raw, "stdout": printed(field, trim, raw)}
+    folders, differ = set(), 0
+    for folder, files in stored():
+        assert folder not in folders, folder
+        folders.add(folder)
         if not check:
             os.makedirs(folder, exist_ok=True)
         for file, data in files.items():
@@ -287,7 +341,7 @@ def main():
             else:
                 with open(path, "wb") as out:
                     out.write(data)
-    print("%d cases%s" % (len(names), ", %d files differ" % differ if check else ""))
+    print("%d cases%s" % (len(folders), ", %d files differ" % differ if check else ""))
     return 1 if differ else 0
 
 

@@ -13,30 +13,36 @@ use Rattle.rules.specs.Tables.{rowCount, rowInRange, rowInOrder, sizeFits}
 use Rattle.rules.specs.Session.{opened, zeros, settled}
 use Rattle.rules.specs.Read.{readBlock}
 use Rattle.rules.specs.Take.{firstHeld, movedOut, givesPair, finished}
-use Rattle.rules.specs.Numbers.{listLength, blockSize, radiusRange, tableSize, badRecord, rowLimit, rowOrder}
-use Rattle.rules.specs.Numbers.{IsRefusal, unless, first, said, refusal}
+use Rattle.rules.specs.Numbers.{listLength, blockSize, radiusRange, weightRange, tableSize, badRecord, rowLimit}
+use Rattle.rules.specs.Numbers.{rowOrder, IsRefusal, unless, first, said, refusal}
 use Rattle.rules.specs.Calls.{step, between, queryCode, sizeCode, sameSizeCode, rowCode, rowsCode, recordFits}
 use Rattle.rules.specs.Calls.{recordCode, lentCode, callCode, newBlockCodeBy, newBlockCode, openCode, openCall}
-use Rattle.rules.specs.Calls.{readCallBy, readCall, takeCallBy}
-use Rattle.rules.specs.Calls.{takeCall}
+use Rattle.rules.specs.Calls.{readCallBy, readCall, takeCallBy, takeCall}
 use Rattle.rules.specs.Checks.{unless-refusal, first-refusal}
 
 -- ---- The codes
 
--- of two and of three checks
+-- of two, three and five checks
 first-of-two : (c d : ℕ) → IsRefusal c → IsRefusal d → IsRefusal (first (c ∷ d ∷ []))
 first-of-two c d h k = first-refusal c (d ∷ []) h k
 
 first-of-three : (c d e : ℕ) → IsRefusal c → IsRefusal d → IsRefusal e → IsRefusal (first (c ∷ d ∷ e ∷ []))
 first-of-three c d e h k l = first-refusal c (d ∷ e ∷ []) h (first-of-two d e k l)
 
+first-of-five : (c d e f g : ℕ) → IsRefusal c → IsRefusal d → IsRefusal e → IsRefusal f → IsRefusal g
+    → IsRefusal (first (c ∷ d ∷ e ∷ f ∷ g ∷ []))
+first-of-five c d e f g h k l m n =
+    first-refusal c (d ∷ e ∷ f ∷ g ∷ []) h (first-refusal d (e ∷ f ∷ g ∷ []) k (first-of-three e f g l m n))
+
 query-refusal : (q : Query) → IsRefusal (queryCode q)
 unfolding queryCode
 query-refusal q =
-    first-of-three _ _ _
+    first-of-five _ _ _ _ _
     (unless-refusal (between 1 64 (q .k)) listLength (omega arith))
     (unless-refusal (between 1 1024 (q .block)) blockSize (omega arith))
     (unless-refusal (leb (q .radius) 40000) radiusRange (omega arith))
+    (unless-refusal (between 1 9 (q .weights .field .0)) weightRange (omega arith))
+    (unless-refusal (between 1 9 (q .weights .trim .0)) weightRange (omega arith))
 
 size-refusal : (t : List ℤ) → IsRefusal (sizeCode t)
 unfolding sizeCode

@@ -1,25 +1,26 @@
 -- The block join: what it makes of the pairs held, and the same in the code's own shape, pair by pair. Definitions
 -- only. Assumes nothing.
-use Prim.Native.Nat.{ℕ, zero, suc, _+_, _*_, _≤_}
+use Prim.Native.Nat.{ℕ, zero, suc, _+_, _*_, _≤_, _<_}
 use mathlib.Core.Path.{_≡_}
-use mathlib.Core.Bool.{Bool, cond}
+use mathlib.Core.Bool.{Bool, true, cond}
 use mathlib.Core.List.{List, _++_}
 use lib.IntN.{ℤ}
 use lib.ListN.{length, take}
 use Rattle.lists.specs.Lists.{ins, sort}
 use Rattle.lists.specs.Words.{Ordered}
 use Rattle.rules.specs.declared.Pair.{Pair}
-use Rattle.rules.specs.Tables.{Terms, mostRows, Block, row, pairAt, qualifying, ahead, rowCount}
+use Rattle.rules.specs.Tables.{Terms, mostRows, rowInRange, Block, row, pairAt, qualifying, ahead, rowCount}
 use Rattle.keys.specs.Held.{Keyed}
 
 -- a part of a table, a rows standing before it
 abbrev pub at : ℕ → List ℤ → Block
 at a rows = record { start = a; rows = rows }
 
--- a part of n whole rows within a table's 65,535
+-- a part of n whole rows within a table's 65,535, each of which passed 6
 pub record Rows (a : ℕ) (rows : List ℤ) : Type 0 where
   pub whole : 4 * rowCount rows ≡ length rows
   pub few : a + rowCount rows ≤ mostRows
+  pub range : (i : ℕ) → i < rowCount rows → rowInRange rows i ≡ true
 
 -- the pairs of x and y that qualify among the n pairs that a holds, of which at most `room` are kept: r of them, which
 -- a′ holds

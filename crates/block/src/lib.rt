@@ -6,10 +6,11 @@ ghost use mathlib.Core.Path.{_≡_};
 ghost use mathlib.Core.Bool.{true};
 ghost use Prim.Native.Nat.{_+_, _*_, _≤_, _<_, _/_, _%_};
 ghost use lib.ListN.{length};
-ghost use Rattle.rules.specs.Tables.{mostRows, row, terms, pairAt};
+ghost use Rattle.rules.specs.Tables.{mostRows, rowInRange, row, terms, pairAt};
+ghost use Rattle.session_laws.specs.Record.{QueryFits};
 ghost use Rattle.keys.specs.Held.{Narrow};
 ghost use Rattle.block.specs.Block.{at, Rows, Joined};
-ghost use Rattle.block.specs.Small.{SmallRows, SmallPairs};
+ghost use Rattle.block.specs.Small.{SmallPairs};
 ghost use Rattle.block.specs.Near.{rowNear, anyNear, NextNear};
 
 // Whether row i + 1 of x and row j + 1 of y lie within the radius.
@@ -53,57 +54,27 @@ pub fn any_near(q: Query, x: &[i32], y: &[i32]) -> bool
     seen
 }
 
-// The pair of row i + 1 of x and row j + 1 of y; a and c rows stand before x and y in their tables.
+// The pair of row i + 1 of x and row j + 1 of y, each score by its table's weight; a and c rows stand before x and y in
+// their tables. Two weighted scores of rows that passed 6 add up to a small sum.
 fn pair_at(q: Query, x: &[i32], a: usize, i: usize, y: &[i32], c: usize, j: usize) -> Pair
+    requires { ⌜ QueryFits q × (rowInRange (now x) i ≡ true) × (rowInRange (now y) j ≡ true) ⌝ }
     requires { ⌜ (4 * i + 4 ≤ length (now x)) × (4 * j + 4 ≤ length (now y))
         × (a + i < mostRows) × (c + j < mostRows) ⌝ }
     ensures { λ r. ⌜ (r ≡ pairAt (terms q) (at a (now (x .entry))) (at c (now (y .entry))) i j) × Narrow r ⌝ }
 {
-    let s = tables::score(x, i);
-    let t = tables::score(y, j);
+    let s = tables::weighted(q.weights.field.0, x, i);
+    let t = tables::weighted(q.weights.trim.0, y, j);
     Pair {
-        sum: s + t,
+        sum: (s + t) as u32,
         field: (a + i + 1) as u32,
         trim: (c + j + 1) as u32,
     }
 }
 
-// Whether every shade of a block is small.
-fn all_small(x: &[i32]) -> bool
-    ensures { λ r. ⌜ (r ≡ true → SmallRows (now (x .entry))) ⌝ }
-{
-    let n = x.len() / 4;
-    let mut i: usize = 0;
-    while i < n {
-        let p = tables::shade(x, i);
-        if !distance::is_small(p) {
-            return false;
-        }
-        i += 1;
-    }
-    true
-}
-
-// Whether the pairs of two blocks are to be tested at 32 bits. Rows that passed 6 may be; it is asked where it pays: of
-// long blocks, and of a radius at which a first gap within it is not rare, so that the branch on it is hard to foresee.
-fn both_small(q: Query, x: &[i32], y: &[i32]) -> bool
-    ensures { λ r. ⌜ (r ≡ true → SmallPairs (q .radius) (now (x .entry)) (now (y .entry))) ⌝ }
-{
-    if (x.len() <= 128) | (q.radius < 64) {
-        return false;
-    }
-    if 40000 < q.radius {
-        return false;
-    }
-    let first = all_small(x);
-    let second = all_small(y);
-    first & second
-}
-
-// Whether row i + 1 of x and row j + 1 of y lie within the radius, tested at 32 bits where they may be.
+// Whether row i + 1 of x and row j + 1 of y lie within the radius, tested at 32 bits where the flag says so.
 fn near_by(small: bool, q: Query, x: &[i32], i: usize, y: &[i32], j: usize) -> bool
     requires { ⌜ (4 * i + 4 ≤ length (now x)) × (4 * j + 4 ≤ length (now y)) ⌝ }
-    requires { ⌜ (small ≡ true → SmallPairs (q .radius) (now x) (now y)) ⌝ }
+    requires { ⌜ SmallPairs (q .radius) (now x) (now y) ⌝ }
     ensures { λ r. ⌜ r ≡ terms q .near (row (now (x .entry)) i) (row (now (y .entry)) j) ⌝ }
 {
     if !small {
@@ -117,7 +88,7 @@ fn near_by(small: bool, q: Query, x: &[i32], i: usize, y: &[i32], j: usize) -> b
 // The first row of y from row j + 1 on that lies near row i + 1 of x, counted from 0; y's row count where none does.
 fn next_near(small: bool, q: Query, x: &[i32], i: usize, y: &[i32], j: usize) -> usize
     requires { ⌜ (4 * i + 4 ≤ length (now x)) × (j ≤ length (now y) / 4) ⌝ }
-    requires { ⌜ (small ≡ true → SmallPairs (q .radius) (now x) (now y)) ⌝ }
+    requires { ⌜ SmallPairs (q .radius) (now x) (now y) ⌝ }
     ensures { λ r. ⌜ NextNear (terms q) (now (x .entry)) i (now (y .entry)) j r ⌝ }
 {
     let n = y.len() / 4;
@@ -133,6 +104,8 @@ fn next_near(small: bool, q: Query, x: &[i32], i: usize, y: &[i32], j: usize) ->
 
 // The block join: of the pairs held and the qualifying pairs of x and y the best-ranked, at most room: how many are
 // held then. It goes from one near pair to the next; where the room is used up, a pair that would fall off is not put.
+// Rows that passed 6 may be tested at 32 bits. They are where it pays: in long blocks, and at a radius at which a first
+// gap within it is not rare, so that the branch on it is hard to foresee.
 pub fn join(
     q: Query,
     room: usize,
@@ -144,14 +117,14 @@ pub fn join(
     held: usize,
 ) -> usize
     requires { ⌜ (held ≤ room) × (room ≤ 64) × (length (now keys) ≡ 64) ⌝ }
-    requires { ⌜ Rows a (now x) × Rows c (now y) ⌝ }
+    requires { ⌜ QueryFits q × Rows a (now x) × Rows c (now y) ⌝ }
     ensures { λ r. ⌜ Joined (terms q) room (at a (now (x .entry))) (at c (now (y .entry))) held
         (now (keys .entry)) r (now (keys .exit)) ⌝ }
 {
     let m = x.len() / 4;
     let n = y.len() / 4;
     let last = (room + 63) % 64;
-    let small = both_small(q, x, y);
+    let small = (128 < x.len()) & (64 <= q.radius);
     let mut g = held;
     let mut i: usize = 0;
     let mut j: usize = 0;

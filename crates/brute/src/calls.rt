@@ -8,10 +8,13 @@ use crate::plain::Sums;
 use crate::plain::Table;
 use crate::plain::pair;
 use rules::Counts;
+use rules::FieldWeight;
 use rules::Pair;
 use rules::Query;
 use rules::Session;
 use rules::Step;
+use rules::TrimWeight;
+use rules::Weights;
 use std::num::wrapping_add_u32;
 use std::num::wrapping_add_u64;
 use std::num::wrapping_sub_u32;
@@ -84,14 +87,14 @@ pub fn kept(step: Step, s: Session, code: u32) -> u32 {
 const NONE: u32 = 40;
 
 // Kinds of harm to a record.
-pub const HARMS: u32 = 22;
+pub const HARMS: u32 = 24;
 
 // A record that 5 refuses, made of one that it does not. The first pair place is harmed whether a pair is held there or
 // none is; a harm that needs a longer block, a second row or a held pair is another where there is none.
 pub fn harmed(s: Session, kind: u32) -> Session {
     let mut r = s;
     match kind {
-        0 => r.pairs[0] = pair(19999, 1, 1),
+        0 => r.pairs[0] = pair(179983, 1, 1),
         1 => r.pairs[0] = pair(5, 0, 1),
         2 => r.pairs[0] = pair(5, 1, 0),
         3 => r.pairs[0] = pair(5, wrapping_add_u32(s.depth.field.0, 1), 1),
@@ -112,6 +115,8 @@ pub fn harmed(s: Session, kind: u32) -> Session {
         18 => return harmed_depth(s),
         19 => r.joined = 1099511627776,
         20 => r.pairs[1] = held_twice(s),
+        21 => r.query.weights.field.0 = 0,
+        22 => r.query.weights.trim.0 = 10,
         _ => r.pairs[63] = pair(20000, 0, 0),
     }
     r
@@ -240,11 +245,32 @@ fn harmed_block(c: Case, m: &Sums, l: Lent, s: Session, kind: u32) -> u32 {
 
 // The record of a refused opening.
 fn zeros() -> Session {
-    due::opened(query(0, 0, 0), due::counts(0, 0))
+    due::opened(weighing(0, 0, query(0, 0, 0)), due::counts(0, 0))
 }
 
+// A query with these weights.
+fn weighing(field: u32, trim: u32, q: Query) -> Query {
+    let weights = Weights {
+        field: FieldWeight(field),
+        trim: TrimWeight(trim),
+    };
+    let mut r = q;
+    r.weights = weights;
+    r
+}
+
+// A query of weights 1 and 1.
 pub fn query(k: u32, block: u32, radius: u32) -> Query {
-    Query { k, block, radius }
+    let weights = Weights {
+        field: FieldWeight(1),
+        trim: TrimWeight(1),
+    };
+    Query {
+        k,
+        block,
+        radius,
+        weights,
+    }
 }
 
 // An opening that must be refused by a number, and its record by 5.
@@ -254,7 +280,8 @@ fn opening(l: Lent, q: Query, code: u32) -> u32 {
     judge::when(next == 5, kept(open(l, q), z, code), 0)
 }
 
-// An opening with a number of the query out of range, or a table of a part of a row.
+// An opening with a number of the query out of range, or a table of a part of a row; some with two, the first of which
+// it is refused by.
 fn harmed_opening(l: Lent, q: Query, kind: u32) -> u32 {
     let mut part = l;
     match kind {
@@ -262,11 +289,16 @@ fn harmed_opening(l: Lent, q: Query, kind: u32) -> u32 {
         1 => opening(l, query(65, q.block, q.radius), 1),
         2 => opening(l, query(q.k, 0, q.radius), 2),
         3 => opening(l, query(q.k, 1025, q.radius), 2),
-        4 => opening(l, query(q.k, q.block, 40001), 3),
+        4 => opening(l, weighing(0, 10, query(q.k, q.block, 40001)), 3),
         5 => {
             part.fields = 7;
             opening(part, q, 4)
         }
+        6 => {
+            part.trims = 7;
+            opening(part, weighing(10, 1, q), 12)
+        }
+        7 => opening(l, weighing(1, 0, q), 12),
         _ => {
             part.trims = 7;
             opening(part, q, 4)
@@ -277,7 +309,7 @@ fn harmed_opening(l: Lent, q: Query, kind: u32) -> u32 {
 // The list of calls that must be refused: one of them, chosen by the seed.
 pub fn some(c: Case, m: &Sums, l: Lent, s: Session, seed: u64, place: u64) -> u32 {
     let is_read = dice::one_in(seed, wrapping_add_u64(place, 40000), 2);
-    let any = dice::below(seed, wrapping_add_u64(place, 10000), 176);
+    let any = dice::below(seed, wrapping_add_u64(place, 10000), 720);
     let kind = any % 16;
     let row = wrapping_add_u32(dice::below(seed, wrapping_add_u64(place, 20000), 12), 1);
     match dice::below(seed, wrapping_add_u64(place, 30000), 8) {
@@ -286,7 +318,7 @@ pub fn some(c: Case, m: &Sums, l: Lent, s: Session, seed: u64, place: u64) -> u3
         3 => harmed_range(l, s, kind, row, is_read),
         4 | 5 => harmed_order(l, s, kind, row, is_read),
         6 => harmed_block(c, m, l, s, kind),
-        _ => harmed_opening(l, s.query, kind % 7),
+        _ => harmed_opening(l, s.query, kind % 9),
     }
 }
 

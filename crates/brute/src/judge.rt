@@ -97,7 +97,10 @@ pub fn differs(a: Session, b: Session) -> u32 {
     let p = a.pairs;
     let q = b.pairs;
     let sizes = (a.query.block == b.query.block) & (a.query.radius == b.query.radius);
-    let query = (a.query.k == b.query.k) & sizes;
+    let v = a.query.weights;
+    let w = b.query.weights;
+    let weights = (v.field.0 == w.field.0) & (v.trim.0 == w.trim.0);
+    let query = (a.query.k == b.query.k) & (sizes & weights);
     let kept = query & (same_counts(a.rows, b.rows) & (a.out == b.out));
     let read = same_counts(a.depth, b.depth) & (a.last == b.last);
     let held = (a.held == b.held) & same_pairs(p, q);

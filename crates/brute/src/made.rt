@@ -1,7 +1,10 @@
 // Tables and queries made from a seed: ties, plateaus, zero scores, empty tables, extreme shades.
 use crate::dice;
 use crate::plain::Table;
+use rules::FieldWeight;
 use rules::Query;
+use rules::TrimWeight;
+use rules::Weights;
 use std::num::wrapping_add_u32;
 
 // How scores and shades are spread.
@@ -26,11 +29,19 @@ fn spread_of(seed: u64) -> Spread {
     }
 }
 
+// Equal weights often, so that ties are; and some that make ties of unlike scores.
 pub fn query(seed: u64) -> Query {
+    let field = dice::pick(seed, 12, [1, 1, 1, 1, 2, 3, 9, 9]);
+    let trim = dice::pick(seed, 13, [1, 1, 1, 2, 3, 4, 9, 9]);
+    let weights = Weights {
+        field: FieldWeight(field),
+        trim: TrimWeight(trim),
+    };
     Query {
         k: dice::pick(seed, 6, [1, 2, 3, 4, 5, 8, 8, 64]),
         block: dice::pick(seed, 7, [1, 1, 2, 2, 3, 4, 4, 1024]),
         radius: dice::pick(seed, 8, [0, 1, 2, 5, 13, 40, 25500, 40000]),
+        weights,
     }
 }
 

@@ -75,6 +75,7 @@ fn refusals(a: [u64; 48]) {
     line(a, 5, b"refused by 5: ");
     line(a, 6, b"refused by 6: ");
     line(a, 7, b"refused by 7: ");
+    line(a, 12, b"refused by 12: ");
     line(a, 0, b"not refused so, or changed: ");
 }
 

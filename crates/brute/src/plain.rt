@@ -24,9 +24,14 @@ pub fn apart(x: u32, y: u32) -> u32 {
     if x < y { y - x } else { x - y }
 }
 
+fn product(m: u32, n: u32) -> u64 {
+    let x = m as u64;
+    let y = n as u64;
+    x * y
+}
+
 fn square(n: u32) -> u64 {
-    let m = n as u64;
-    m * m
+    product(n, n)
 }
 
 // 20,000 more, so that it is not negative; 0 of a number that no legal row has.
@@ -45,10 +50,15 @@ fn number(t: &Table, row: u32, c: u32) -> u32 {
     raised(t[(4 * i + c % 4) as usize])
 }
 
+// A row's score by its table's weight.
+fn weighted(weight: u32, t: &Table, row: u32) -> u32 {
+    (product(weight, apart(number(t, row, 1), 20000)) % 4294967296) as u32
+}
+
 // The sum of a pair.
-fn sum(f: &Table, i: u32, t: &Table, j: u32) -> u32 {
-    let field = apart(number(f, i, 1), 20000);
-    wrapping_add_u32(field, apart(number(t, j, 1), 20000))
+fn sum(query: Query, f: &Table, i: u32, t: &Table, j: u32) -> u32 {
+    let field = weighted(query.weights.field.0, f, i);
+    wrapping_add_u32(field, weighted(query.weights.trim.0, t, j))
 }
 
 // Whether a pair qualifies.
@@ -63,7 +73,7 @@ fn put(m: &mut Sums, query: Query, f: &Table, i: u32, t: &Table, j: u32) {
     if (i == 0) | (j == 0) {
         return;
     }
-    let s = sum(f, i, t, j);
+    let s = sum(query, f, i, t, j);
     let fits = qualifies(query, f, i, t, j) as u32;
     m[(13 * (i % 13) + j % 13) as usize] = wrapping_add_u32(wrapping_add_u32(s, s), fits);
 }

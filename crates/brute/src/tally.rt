@@ -1,4 +1,5 @@
-// Counters. Places 1 to 7 count refusals by their number, 20 to 25 answers by theirs, 0 calls that were not refused so.
+// Counters. Places 1 to 12 count refusals by their number, 20 to 25 answers by theirs, 0 calls that were not refused
+// so.
 
 pub const CASES: u32 = 30;
 

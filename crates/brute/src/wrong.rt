@@ -179,7 +179,7 @@ fn wrong_records() {
 // How many kinds of harm to a record are seen as a change.
 fn harms_seen(s: Session) -> u32 {
     let mut n = 0;
-    for kind in 0u32..22 {
+    for kind in 0u32..24 {
         let fault = judge::differs(s, calls::harmed(s, kind));
         n = wrapping_add_u32(n, (fault != 0) as u32);
     }
@@ -201,7 +201,7 @@ fn wrong_refusals() {
         !passes(Answer::Refused(5), 3),
     );
     let seen = harms_seen(reads(3));
-    line(b"22 kinds of harm to a record, each a change", seen == 22);
+    line(b"24 kinds of harm to a record, each a change", seen == 24);
 }
 
 pub fn all() {

@@ -1,5 +1,5 @@
-// What calls are refused by: 1 to 3 of a query, 5 of a record (any record may come in), 4 of the lent slices, then 6
-// and 7 of the rows read.
+// What calls are refused by: 1 to 3 and 12 of a query, 5 of a record (any record may come in), 4 of the lent slices,
+// then 6 and 7 of the rows read.
 use rules::Counts;
 use rules::Pair;
 use rules::Query;
@@ -9,21 +9,32 @@ ghost use mathlib.Core.Bool.{true, cond};
 ghost use Prim.Native.Nat.{_+_, _*_, _-_, _≤_, _<_, _/_, _%_};
 ghost use Rattle.rules.specs.Tables.{mostRows, sizeFits};
 ghost use Rattle.rules.specs.Read.{blockCount};
-ghost use Rattle.rules.specs.Calls.{queryCode, countsFit, isZeros, recordFits, sameSizeCode};
+ghost use Rattle.rules.specs.Numbers.{weightRange, unless};
+ghost use Rattle.rules.specs.Calls.{between, queryCode, countsFit, isZeros, recordFits, sameSizeCode};
 ghost use Rattle.checks.specs.Grounds.{Shallow, pairWithin, markOf, numbersFit, placeKey};
 ghost use Rattle.checks.specs.Codes.{DepthsFit, lentOf, callOf};
 
 // The rows of the longest table, as a length.
 const MOST_ROWS: usize = rules::MOST_ROWS as usize;
 
-// What a query is refused by, 1 to 3 in this order; 0 where it is not.
+// 12 where a weight is outside 1 to 9.
+fn weight_code(weight: u32) -> u32
+    ensures { λ r. ⌜ r ≡ unless (between 1 9 weight) weightRange ⌝ }
+{
+    tables::unless((1 <= weight) & (weight <= 9), rules::WEIGHT_RANGE)
+}
+
+// What a query is refused by, 1, 2, 3, then 12 of either weight; 0 where it is not.
 pub fn query_code(q: Query) -> u32
     ensures { λ r. ⌜ r ≡ queryCode q ⌝ }
 {
     let length = tables::unless((1 <= q.k) & (q.k <= 64), rules::LIST_LENGTH);
     let block = tables::unless((1 <= q.block) & (q.block <= 1024), rules::BLOCK_SIZE);
     let radius = tables::unless(q.radius <= 40000, rules::RADIUS_RANGE);
-    tables::first(length, tables::first(block, radius))
+    let field = weight_code(q.weights.field.0);
+    let trim = weight_code(q.weights.trim.0);
+    let weights = tables::first(field, trim);
+    tables::first(length, tables::first(block, tables::first(radius, weights)))
 }
 
 // A table's row count and depth: at most 65,535 rows, of which the depth is a number of whole blocks, or all.

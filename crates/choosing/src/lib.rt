@@ -6,20 +6,20 @@ ghost use mathlib.Core.Path.{_≡_};
 ghost use mathlib.Core.Bool.{false, cond};
 ghost use Prim.Native.Nat.{_+_, _*_, _-_, _≤_, _<_};
 ghost use lib.ListN.{length};
-ghost use Rattle.rules.specs.Tables.{mostRows};
+ghost use Rattle.rules.specs.Tables.{mostRows, weighted};
 ghost use Rattle.rules.specs.Session.{settled};
 ghost use Rattle.rules.specs.Read.{scoreDrop, fieldNext, nextDepth};
 ghost use Rattle.rules.specs.Calls.{newBlockCode};
 ghost use Rattle.session_laws.specs.Calls.{Lent};
 ghost use Rattle.checks.specs.Codes.{LastHeld};
 
-// How far a table's score has dropped from its first row to the last row read.
-fn drop_of(t: &[i32], depth: u32) -> u32
+// How far a table's score, by its weight, has dropped from its first row to the last row read.
+fn drop_of(weight: u32, t: &[i32], depth: u32) -> u64
     requires { ⌜ (0 < depth) × (4 * depth ≤ length (now t)) ⌝ }
-    ensures { λ r. ⌜ r ≡ scoreDrop (λ x. x .score) (now (t .entry)) depth ⌝ }
+    ensures { λ r. ⌜ r ≡ scoreDrop (weighted weight) (now (t .entry)) depth ⌝ }
 {
-    let high = tables::score(t, 0);
-    let low = tables::score(t, depth as usize - 1);
+    let high = tables::weighted(weight, t, 0);
+    let low = tables::weighted(weight, t, depth as usize - 1);
     if high <= low {
         return 0;
     }
@@ -45,8 +45,8 @@ pub fn field_next(f: &[i32], t: &[i32], s: Session) -> bool
     if d == s.rows.field.0 {
         return false;
     }
-    let x = drop_of(f, d);
-    let y = drop_of(t, e);
+    let x = drop_of(s.query.weights.field.0, f, d);
+    let y = drop_of(s.query.weights.trim.0, t, e);
     if x < y {
         return true;
     }

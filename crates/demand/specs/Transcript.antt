@@ -10,6 +10,7 @@ use Rattle.rules.specs.declared.FieldRows.{FieldRows}
 use Rattle.rules.specs.declared.TrimRows.{TrimRows}
 use Rattle.rules.specs.declared.Query.{Query}
 use Rattle.rules.specs.declared.Session.{Session}
+use Rattle.rules.specs.Session.{weights}
 use Rattle.demand.specs.Demand.{Call, Line, promised, isAccepted, Follows, byRules}
 
 -- ---- Small tables and queries
@@ -20,7 +21,7 @@ rowThen score a rest = pos 1 ∷ score ∷ a ∷ pos 0 ∷ rest
 
 -- the best pair of rows at one place, by blocks of so many rows
 abbrev pub topOne : ℕ → Query
-topOne block = record { k = 1; block = block; radius = 0 }
+topOne block = record { k = 1; block = block; radius = 0; weights = weights 1 1 }
 
 abbrev pub fieldRows : ℕ → FieldRows
 fieldRows n = record { 0 = n }

@@ -17,6 +17,7 @@ use Rattle.rules.specs.declared.Step.{Step}
 use Rattle.rules.specs.declared.Answer.{Answer}
 use Rattle.rules.specs.declared.Answer.the-variants.{Refused, Opened, Read, Given, Finished}
 use Rattle.rules.specs.Tables.{natOf, row, qualifies}
+use Rattle.rules.specs.Session.{weights}
 use Rattle.rules.specs.Sure.{Sure, qualifyingSums}
 use Rattle.rules.specs.Calls.{openCall}
 use Rattle.rules.specs.Run.{run}
@@ -57,7 +58,7 @@ unfolding run
 same-tables = (refl, refl)
 
 abbrev pub query : Query
-query = record { k = 2; block = 1; radius = 5 }
+query = record { k = 2; block = 1; radius = 5; weights = weights 1 1 }
 
 abbrev pub begun : Session
 begun = openCall query fields trims .session

@@ -1,12 +1,11 @@
 // The distance of two shades, for all 32-bit numbers and all radii: no sum wraps, whatever a table holds. At the end
-// the
-// same test for small shades, as legal rows have them, at 32 bits.
+// the same test for small shades, as legal rows have them, at 32 bits.
 use rules::Shade;
 ghost use mathlib.Core.Path.{_≡_};
 ghost use Prim.Native.Nat.{_<_, _≤_, _^_, _-_, min};
 ghost use lib.Signed.{mag};
 ghost use Rattle.rules.specs.Tables.{gap, squaredDistance, qualifies};
-ghost use Rattle.distance.specs.Small.{isSmall, Small};
+ghost use Rattle.distance.specs.Small.{Small};
 
 // How far apart two numbers lie.
 fn apart(x: i32, y: i32) -> u64
@@ -68,15 +67,6 @@ fn apart_small(x: i32, y: i32) -> u32
         return (x - y) as u32;
     }
     (y - x) as u32
-}
-
-// Whether a shade's numbers are small.
-pub fn is_small(x: Shade) -> bool
-    ensures { λ r. ⌜ r ≡ isSmall x ⌝ }
-{
-    let a = x.a;
-    let b = x.b;
-    ((-16383 <= a) & (a <= 16383)) & ((-16383 <= b) & (b <= 16383))
 }
 
 // Whether two small shades lie within the radius: 32 bits hold the squares, and no branch stands between the two gaps.

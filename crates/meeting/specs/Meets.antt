@@ -14,15 +14,17 @@ use Rattle.lists.specs.Words.{Ordered}
 use Rattle.lists.specs.Sorts.{sort-ordered, take-ordered}
 use Rattle.rules.specs.declared.Pair.{Pair}
 use Rattle.rules.specs.declared.Session.{Session}
-use Rattle.rules.specs.Tables.{mostRows, terms, Block, qualifying, ahead}
+use Rattle.rules.specs.Tables.{rowInRange, terms, Block, qualifying, ahead}
 use Rattle.rules.specs.Ranking.{ahead-strict}
 use Rattle.rules.specs.Session.{places, heldPairs}
 use Rattle.rules.specs.Read.{skipped, bestHeld, holding, meetBy, meet, rowsBetween, meetBlocksBy, meetBlocks}
+use Rattle.session_laws.specs.Tables.{range-part}
+use Rattle.session_laws.specs.Calls.{Accepted, NewRowsFit}
 use Rattle.keys.specs.Places.{list-of-places}
 use Rattle.block.specs.Block.{at, Rows}
 use Rattle.meeting.specs.declared.Span.{Span}
 use Rattle.choosing.specs.Ready.{Ready}
-use Rattle.meeting.specs.Side.{SpanFits, spanBlock}
+use Rattle.meeting.specs.Side.{SpanFits, Passed, spanBlock}
 
 -- the best of the pairs held and met are in order, and not too many
 best-ordered : (s : Session) (met : List Pair) → Ordered ahead (bestHeld s met)
@@ -71,13 +73,32 @@ part-is t a e =
     let n : 4 * e - 4 * a ≡ 4 * (e - a) = omega arith in
     ap (λ (m : ℕ). at a (take m (drop (4 * a) t))) n
 
--- they are whole rows, within a table's 65,535
-pub part-rows : (t : List ℤ) (a e : ℕ) → a ≤ e → e ≤ mostRows → 4 * e ≤ length t
-    → Rows a (take (4 * e - 4 * a) (drop (4 * a) t))
-part-rows t a e h k l =
+-- they are whole rows that passed 6, within a table's 65,535
+pub part-rows : (t : List ℤ) (x : Span) → SpanFits x t
+    → Rows (x .from) (take (4 * x .to - 4 * x .from) (drop (4 * x .from) t))
+part-rows t x fits =
+    let a = x .from in
+    let e = x .to in
     let n : length (take (4 * e - 4 * a) (drop (4 * a) t)) ≡ 4 * e - 4 * a =
-    length-take-le (4 * e - 4 * a) (drop (4 * a) t) (omega (arith, length-drop (4 * a) t)) in
-    record { whole = omega arith; few = omega arith }
+    length-take-le (4 * e - 4 * a) (drop (4 * a) t) (omega (arith, length-drop (4 * a) t, fits .within)) in
+    record {
+      whole = omega arith;
+      few = omega (arith, fits .some, fits .few);
+      range =
+          λ i h.
+          let k : i < e - a = omega (arith, n, h) in
+          ap (λ (b : Block). rowInRange (b .rows) i) (part-is t a e)
+          ∙ range-part t a (e - a) i k
+          ∙ fits .range (a + i) (omega arith) (omega (arith, k));
+    }
+
+-- ---- The rows of a read whose checks have passed
+
+pub passed : (field : Bool) (f t : List ℤ) (s : Session) → Accepted f t s → NewRowsFit field f t s → Passed field f t s
+passed true f t s a new =
+    record { new = λ i h k. new i h k .range; other = λ i h k. a .trim-rows i k .range }
+passed false f t s a new =
+    record { new = λ i h k. new i h k .range; other = λ i h k. a .field-rows i k .range }
 
 -- ---- A new block and an old one, as field and trim
 

@@ -11,13 +11,15 @@ ghost use lib.ListN.{length};
 ghost use Rattle.rules.specs.Tables.{mostRows, terms};
 ghost use Rattle.rules.specs.Session.{settled};
 ghost use Rattle.rules.specs.Read.{meetBlocks, readTable, readBlock};
-ghost use Rattle.session_laws.specs.Calls.{Lent};
+ghost use Rattle.rules.specs.Calls.{newBlockCode};
+ghost use Rattle.session_laws.specs.Record.{QueryFits};
+ghost use Rattle.session_laws.specs.Calls.{Accepted};
 ghost use Rattle.block.specs.Block.{Joined};
 ghost use Rattle.choosing.specs.Ready.{Ready};
 ghost use Rattle.choosing.specs.Due.{Due};
 ghost use Rattle.meeting.specs.Effect.{Effect};
 ghost use Rattle.meeting.specs.Stands.{Keys, Stands, Meets, withKeys};
-ghost use Rattle.meeting.specs.Side.{SpanFits, spanBlock, downTo};
+ghost use Rattle.meeting.specs.Side.{InRange, SpanFits, Passed, spanBlock, downTo};
 
 fn lesser(a: usize, b: usize) -> usize
     ensures { λ r. ⌜ r ≡ min a b ⌝ }
@@ -50,7 +52,7 @@ fn join_parts(
     held: usize,
 ) -> usize
     requires { ⌜ (held ≤ room) × (room ≤ 64) × (length (now keys) ≡ 64) ⌝ }
-    requires { ⌜ SpanFits x (now f) × SpanFits y (now t) ⌝ }
+    requires { ⌜ QueryFits q × SpanFits x (now f) × SpanFits y (now t) ⌝ }
     ensures { λ r. ⌜ Joined (terms q) room (spanBlock (now (f .entry)) x) (spanBlock (now (t .entry)) y) held
         (now (keys .entry)) r (now (keys .exit)) ⌝ }
 {
@@ -67,9 +69,9 @@ fn effect(full: bool, low: u32, q: Query, x: &[i32], y: &[i32]) -> u64
     requires { ⌜ (4 ≤ length (now x)) × (4 ≤ length (now y)) ⌝ }
     ensures { λ r. ⌜ Effect full low q (now (x .entry)) (now (y .entry)) r ⌝ }
 {
-    let first = tables::score(x, 0);
-    let second = tables::score(y, 0);
-    if full & (first + second < low) {
+    let first = tables::weighted(q.weights.field.0, x, 0);
+    let second = tables::weighted(q.weights.trim.0, y, 0);
+    if full & (first + second < low as u64) {
         return 0;
     }
     if 128 < x.len() {
@@ -112,7 +114,7 @@ fn meet_parts(
     m: Met,
 ) -> Met
     requires { ⌜ (m .held ≤ room) × (room ≤ 64) × (m .joined < 2 ^ 63) × (length (now keys) ≡ 64) ⌝ }
-    requires { ⌜ SpanFits x (now f) × SpanFits y (now t) ⌝ }
+    requires { ⌜ QueryFits q × SpanFits x (now f) × SpanFits y (now t) ⌝ }
     ensures { λ r. ⌜ Meets q room (spanBlock (now (f .entry)) x) (spanBlock (now (t .entry)) y) m
         (now (keys .entry)) r (now (keys .exit)) ⌝ }
 {
@@ -146,7 +148,7 @@ fn meet_blocks(
     keys: &mut [u64; 64],
 ) -> Met
     requires { ⌜ Ready s × (s .joined + n < 2 ^ 63) × Keys s (now keys) ⌝ }
-    requires { ⌜ SpanFits new (cond field (now f) (now t)) ⌝ }
+    requires { ⌜ SpanFits new (cond field (now f) (now t)) × InRange (cond field (now t) (now f)) 0 depth ⌝ }
     requires { ⌜ (depth ≤ mostRows) × (4 * depth ≤ length (cond field (now t) (now f)))
         × (n * s .query .block < depth + s .query .block) ⌝ }
     ensures { λ r. ⌜ Stands
@@ -197,7 +199,7 @@ pub struct After {
 // One block of a table, the field table where the flag says so, is read and meets the other table's; the table is read
 // down to its end, and marked as read last.
 fn read_on(field: bool, f: &[i32], t: &[i32], s: Session, keys: &mut [u64; 64]) -> After
-    requires { ⌜ Due field (now f) (now t) s × Keys s (now keys) ⌝ }
+    requires { ⌜ Due field (now f) (now t) s × Passed field (now f) (now t) s × Keys s (now keys) ⌝ }
     ensures { λ r. ⌜ (withKeys s r (now (keys .exit)) ≡ readTable field (now (f .entry)) (now (t .entry)) s)
         × (r .held ≤ 64) × (length (now (keys .exit)) ≡ 64) ⌝ }
 {
@@ -224,7 +226,8 @@ fn read_on(field: bool, f: &[i32], t: &[i32], s: Session, keys: &mut [u64; 64]) 
 
 // One block of the table that is next is read and meets the other table's. The pairs held go in and come back as keys.
 pub fn read_block(f: &[i32], t: &[i32], s: Session, keys: &mut [u64; 64]) -> After
-    requires { ⌜ Lent (now f) (now t) s × (settled (now f) (now t) s ≡ false) × Keys s (now keys) ⌝ }
+    requires { ⌜ Accepted (now f) (now t) s × (settled (now f) (now t) s ≡ false)
+        × (newBlockCode (now f) (now t) s ≡ 0) × Keys s (now keys) ⌝ }
     ensures { λ r. ⌜ (withKeys s r (now (keys .exit)) ≡ readBlock (now (f .entry)) (now (t .entry)) s)
         × (r .held ≤ 64) × (length (now (keys .exit)) ≡ 64) ⌝ }
 {

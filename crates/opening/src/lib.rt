@@ -2,17 +2,20 @@
 use rules::Answer;
 use rules::Counts;
 use rules::FieldRows;
+use rules::FieldWeight;
 use rules::Pair;
 use rules::Query;
 use rules::Session;
 use rules::Step;
 use rules::TrimRows;
+use rules::TrimWeight;
+use rules::Weights;
 ghost use mathlib.Core.Path.{_≡_};
 ghost use Prim.Native.Nat.{_/_};
 ghost use Rattle.rules.specs.Session.{opened, zeros};
 ghost use Rattle.rules.specs.Calls.{openCode, openCall};
 
-// What an opening is refused by: 1, 2, 3, 4; 0 where it is not.
+// What an opening is refused by: 1, 2, 3, 12, 4; 0 where it is not.
 fn open_code(q: Query, f: &[i32], t: &[i32]) -> u32
     ensures { λ r. ⌜ r ≡ openCode q (now (f .entry)) (now (t .entry)) ⌝ }
 {
@@ -59,10 +62,15 @@ fn fresh(q: Query, m: FieldRows, n: TrimRows) -> Session
 fn all_zeros() -> Session
     ensures { λ r. ⌜ r ≡ zeros ⌝ }
 {
+    let weights = Weights {
+        field: FieldWeight(0),
+        trim: TrimWeight(0),
+    };
     let q = Query {
         k: 0,
         block: 0,
         radius: 0,
+        weights,
     };
     fresh(q, FieldRows(0), TrimRows(0))
 }

@@ -31,7 +31,8 @@ use Rattle.printing.specs.Put.{put-front}
 use Rattle.listing.specs.Shown.{listingRoom}
 use Rattle.program.specs.declared.Input.{Input}
 use Rattle.program.specs.Program.{Written, orRefusal, refusal-none, refusal-some, tableRoom, programFile}
-use Rattle.program.specs.Program.{program-code, program-rows, program-told, inputHeld, inputBytes, whole-is}
+use Rattle.program.specs.Program.{program-code, program-rows, program-told, evenly, inputHeld, inputBytes}
+use Rattle.program.specs.Program.{whole-is}
 
 -- ---- A file
 
@@ -83,12 +84,12 @@ module _ (input : List ℕ) (k b r : Column) (ek : k ≡ columnHeld false (colum
       ap (λ (x : Column). natOf (x .number)) e ∙ ap (λ (z : ℤ). natOf z) (number-held false (columns input o 6) h)
 
   pub input-bad : (k .fits && (b .fits && (r .fits && endsLine input 18))) ≡ false →
-      _≡_ {A = Input} (record { code = badColumn; query = record { k = 0; block = 0; radius = 0 } }) (inputHeld input)
+      _≡_ {A = Input} (record { code = badColumn; query = evenly 0 0 0 0 }) (inputHeld input)
   unfolding inputHeld inputCode
   input-bad h = simp (size, sym fits-is ∙ h)
 
   pub input-good : (k .fits && (b .fits && (r .fits && endsLine input 18))) ≡ true →
-      (let query : Query = record { k = natOf (k .number); block = natOf (b .number); radius = natOf (r .number) } in
+      (let query : Query = evenly (natOf (k .number)) (natOf (b .number)) (natOf (r .number)) 1 in
       _≡_ {A = Input} (record { code = 0; query = query }) (inputHeld input))
   unfolding inputHeld inputCode inputQuery
   input-good h =

@@ -14,6 +14,7 @@ use Rattle.rules.specs.declared.Loaded.{Loaded}
 use Rattle.rules.specs.declared.Loaded.the-variants.{Rows, Unfit}
 use Rattle.rules.specs.declared.Query.{Query}
 use Rattle.rules.specs.Tables.{mostRows}
+use Rattle.rules.specs.Session.{weights}
 use Rattle.rules.specs.Numbers.{tableSize, unless, first, saidOf, refusal}
 use Rattle.rules.specs.Calls.{openCode}
 use Rattle.rules.specs.File.{checkFile}
@@ -108,12 +109,17 @@ module _ (bytes : List ℕ) (kind : ℤ) where
 
 -- ---- The input
 
+-- a query of one weight for both tables
+abbrev pub evenly : ℕ → ℕ → ℕ → ℕ → Query
+evenly k block radius weight =
+    record { k = k; block = block; radius = radius; weights = weights weight weight }
+
 -- the refusal's number, and the query (zeros where there is one)
 unfoldable pub inputHeld : List ℕ → Input
 inputHeld input =
     record {
       code = inputCode input;
-      query = cond (eqb (inputCode input) 0) (inputQuery input) (record { k = 0; block = 0; radius = 0 });
+      query = cond (eqb (inputCode input) 0) (inputQuery input) (evenly 0 0 0 0);
     }
 
 pub held-query : (input : List ℕ) → inputCode input ≡ 0 → inputHeld input .query ≡ inputQuery input

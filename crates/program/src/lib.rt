@@ -1,6 +1,9 @@
 // The pairing program's answer: from the bytes of its two files and its input to the bytes that it prints.
+use rules::FieldWeight;
 use rules::Loaded;
 use rules::Query;
+use rules::TrimWeight;
+use rules::Weights;
 ghost use mathlib.Core.Path.{_≡_};
 ghost use mathlib.Core.List.{_++_};
 ghost use Prim.Native.Nat.{_+_, _≤_};
@@ -10,7 +13,8 @@ ghost use Rattle.rules.specs.File.{loadedInto};
 ghost use Rattle.rules.specs.Query.{mostFileBytes, inputLength, refusalLine, wholeQuery};
 ghost use Rattle.printing.specs.Lines.{refusalLength};
 ghost use Rattle.listing.specs.Shown.{listingRoom};
-ghost use Rattle.program.specs.Program.{Written, tableRoom, programFile, inputHeld, answerBytes, inputBytes};
+ghost use Rattle.program.specs.Program.{Written, tableRoom, programFile, evenly, inputHeld, answerBytes};
+ghost use Rattle.program.specs.Program.{inputBytes};
 
 // Room for a file's bytes, and for the input's: one more than is allowed, so that one too long is seen.
 pub const FILE_ROOM: usize = rules::MOST_FILE_BYTES + 1;
@@ -66,7 +70,23 @@ fn load_table(bytes: &[u8], kind: i32, out: &mut [i32]) -> Loaded
     file::load(bytes, kind, out)
 }
 
-// What standard input asks for: the refusal's number, or 0 and the query.
+// A query of one weight for both tables.
+fn evenly(k: u32, block: u32, radius: u32, weight: u32) -> Query
+    ensures { λ r. ⌜ r ≡ evenly k block radius weight ⌝ }
+{
+    let weights = Weights {
+        field: FieldWeight(weight),
+        trim: TrimWeight(weight),
+    };
+    Query {
+        k,
+        block,
+        radius,
+        weights,
+    }
+}
+
+// What standard input asks for: the refusal's number, or 0 and the query, of weights 1 and 1.
 struct Input {
     code: u32,
     query: Query,
@@ -75,11 +95,7 @@ struct Input {
 fn read_input(input: &[u8]) -> Input
     ensures { λ r. ⌜ r ≡ inputHeld (now (input .entry)) ⌝ }
 {
-    let none = Query {
-        k: 0,
-        block: 0,
-        radius: 0,
-    };
+    let none = evenly(0, 0, 0, 0);
     if input.len() != rules::INPUT_LENGTH {
         return Input {
             code: rules::CUT_FILE,
@@ -95,11 +111,10 @@ fn read_input(input: &[u8]) -> Input
             query: none,
         };
     }
-    let query = Query {
-        k: tables::natural(k.number),
-        block: tables::natural(block.number),
-        radius: tables::natural(radius.number),
-    };
+    let length = tables::natural(k.number);
+    let size = tables::natural(block.number);
+    let far = tables::natural(radius.number);
+    let query = evenly(length, size, far, 1);
     Input { code: 0, query }
 }
 

@@ -51,16 +51,19 @@ module _ (f t : List ℤ) (s : Session) where
       sym (ap (λ (x : Step). x .session) read-is)
       ∙ ap (λ (b : Bool). cond b (readBlock f t s) s) (ap (λ (x : Step). wasRead (x .answer)) read-is ∙ h)
 
--- a block is read: the checks passed, and the session was not settled
+-- a block is read: the checks passed, those of the new block too, and the session was not settled
 module _ (code : ℕ) (f t : List ℤ) (s : Session) where
-  pub read-asked : readAnswer code f t s ≡ Read → (code ≡ 0) × (settled f t s ≡ false)
+  pub read-asked : readAnswer code f t s ≡ Read → (code ≡ 0) × (settled f t s ≡ false) × (newBlockCode f t s ≡ 0)
   unfolding readAnswer
-  read-asked e = go (eqb code 0) refl (settled f t s) refl e
+  read-asked e = go (eqb code 0) refl (settled f t s) refl (eqb (newBlockCode f t s) 0) refl e
     where
-      go : (a : Bool) → eqb code 0 ≡ a → (b : Bool) → settled f t s ≡ b
-          → cond a (cond b Settled
-          (cond (eqb (newBlockCode f t s) 0) Read (Refused (newBlockCode f t s)))) (Refused code) ≡ Read
-          → (code ≡ 0) × (settled f t s ≡ false)
-      go false h b k e = clash (ap wasRead e) refl
-      go true h true k e = clash (ap wasRead e) refl
-      go true h false k e = (eqb-true code 0 h, k)
+      new : ℕ
+      new = newBlockCode f t s
+
+      go : (a : Bool) → eqb code 0 ≡ a → (b : Bool) → settled f t s ≡ b → (c : Bool) → eqb (newBlockCode f t s) 0 ≡ c
+          → cond a (cond b Settled (cond c Read (Refused new))) (Refused code) ≡ Read
+          → (code ≡ 0) × (settled f t s ≡ false) × (newBlockCode f t s ≡ 0)
+      go false h b k c l e = clash (ap wasRead e) refl
+      go true h true k c l e = clash (ap wasRead e) refl
+      go true h false k false l e = clash (ap wasRead e) refl
+      go true h false k true l e = (eqb-true code 0 h, k, eqb-true (newBlockCode f t s) 0 l)

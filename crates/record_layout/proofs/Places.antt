@@ -1,7 +1,7 @@
 -- Numbers laid down one behind the other, and pairs taken back one after the other. Assumes nothing.
 use mathlib.Core.Path.{_≡_, refl, sym, ap, _∙_}
 use mathlib.Core.List.{List, [], _∷_, _++_, append-assoc, append-nil}
-use Prim.Native.Nat.{ℕ, suc, _+_, _*_, _≤_, _<_}
+use Prim.Native.Nat.{ℕ, zero, suc, _+_, _*_, _≤_, _<_}
 use native.Mathlib.Omega.{arith}
 use native.Mathlib.Numerals.{add-one}
 use lib.ListN.{length, getD, take, drop, set, length-append, take-append-drop}
@@ -12,13 +12,19 @@ use Rattle.lists.specs.Parts.{length-map-range}
 use Rattle.rules.specs.declared.Pair.{Pair}
 use Rattle.rules.specs.Session.{noPair}
 use Rattle.record_layout.specs.Flat.{pairsAt, pairSize, pairAt, flatPair, pairIn, pairsIn}
-use Rattle.record_layout.specs.RoundTrip.{pairs-end}
+use Rattle.record_layout.specs.RoundTrip.{flat-length, pairs-end}
 
 pub plus-1 : (n : ℕ) → n + 1 ≡ suc n
 plus-1 n = omega arith
 
 pub plus-2 : (n : ℕ) → n + 2 ≡ suc (suc n)
 plus-2 n = omega arith
+
+-- a number that is there, whatever it is otherwise
+pub there : (l : List ℕ) (i d e : ℕ) → i < length l → getD l i d ≡ getD l i e
+there [] i d e h = absurd (omega arith)
+there (x ∷ l) zero d e h = refl
+there (x ∷ l) (suc i) d e h = there l i d e (omega arith)
 
 -- m numbers laid behind n that already stand in front of l
 module _ {A : Type 0} (xs vs l : List A) (n m : ℕ) (h : length xs ≡ n) where
@@ -41,11 +47,6 @@ module _ (l : List ℕ) where
       ∙ set-at (pairsIn l i) (getD a i noPair) (drop (suc i) a) (pairIn l i) i (pairs-length i)
       ∙ sym (append-snoc (pairsIn l i) (pairIn l i) (drop (suc i) a))
       ∙ rw (add-one, pairs-end l i)
-
-pub flat-length : (a : List Pair) → length (each flatPair a) ≡ pairSize * length a
-unfolding each flatPair
-flat-length [] = refl
-flat-length (p ∷ a) = let h = flat-length a in omega arith
 
 -- after i pairs: those laid down behind the numbers in front, and what stood behind them
 abbrev pub laid : List ℕ → List Pair → ℕ → List ℕ

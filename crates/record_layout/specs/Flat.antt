@@ -1,4 +1,4 @@
--- The session's record laid out flat: 204 numbers of 32 bits, as include/furzeladle.h lists them. Definitions only.
+-- The session's record laid out flat: 206 numbers of 32 bits, as include/furzeladle.h lists them. Definitions only.
 -- Assumes nothing.
 use Prim.Native.Nat.{ℕ, _+_, _*_, _/_, _%_}
 use mathlib.Core.List.{List, [], _∷_, _++_, map}
@@ -6,12 +6,13 @@ use lib.ListN.{length, getD, take, drop}
 use Rattle.lists.specs.Lists.{range, each}
 use Rattle.rules.specs.declared.Pair.{Pair}
 use Rattle.rules.specs.declared.Query.{Query}
+use Rattle.rules.specs.declared.Weights.{Weights}
 use Rattle.rules.specs.declared.Session.{Session}
 use Rattle.rules.specs.declared.Answer.the-variants.{Given}
-use Rattle.rules.specs.Session.{placeCount}
+use Rattle.rules.specs.Session.{placeCount, weights}
 use Rattle.rules.specs.Numbers.{said}
 
--- Where a record's numbers stand: first the query's three
+-- Where a record's numbers stand: first three of the query's
 abbrev pub kAt : ℕ
 kAt = 0
 
@@ -53,7 +54,14 @@ joinedHighAt = 11
 abbrev pub pairsAt : ℕ
 pairsAt = 12
 
--- how many numbers a query is
+-- a lent query: k, block, radius as in a record, then its two weights, which need not be lent
+abbrev pub fieldWeightInQuery : ℕ
+fieldWeightInQuery = 3
+
+abbrev pub trimWeightInQuery : ℕ
+trimWeightInQuery = 4
+
+-- how many numbers a lent query is at least
 abbrev pub querySize : ℕ
 querySize = 3
 
@@ -65,9 +73,16 @@ pairSize = 3
 abbrev pub pairAt : ℕ → ℕ
 pairAt i = pairsAt + pairSize * i
 
--- a record: 204
+-- behind the pair places the query's two weights
+abbrev pub fieldWeightAt : ℕ
+fieldWeightAt = pairAt placeCount
+
+abbrev pub trimWeightAt : ℕ
+trimWeightAt = fieldWeightAt + 1
+
+-- a record: 206
 abbrev pub flatSize : ℕ
-flatSize = pairAt placeCount
+flatSize = trimWeightAt + 1
 
 -- the first number above 32 bits
 abbrev pub word : ℕ
@@ -98,16 +113,29 @@ flatHead s =
     ∷ s .joined / word
     ∷ []
 
+unfoldable pub flatWeights : Weights → List ℕ
+flatWeights w = w .field .0 ∷ w .trim .0 ∷ []
+
+-- the numbers behind the pair places
+unfoldable pub flatTail : Session → List ℕ
+flatTail s = flatWeights (s .query .weights)
+
 unfoldable pub flatten : Session → List ℕ
-flatten s = flatHead s ++ each flatPair (s .pairs)
+flatten s = flatHead s ++ each flatPair (s .pairs) ++ flatTail s
 
 -- a record laid out at the front of a lent slice, the rest untouched
 abbrev pub laidIn : List ℕ → Session → List ℕ
 laidIn l s = flatten s ++ drop flatSize l
 
 -- The way back: number i, of a query and of a record
+
+-- the query that the first three numbers are, with these weights
+unfoldable pub queryWith : List ℕ → Weights → Query
+queryWith l w = record { k = getD l kAt 0; block = getD l blockAt 0; radius = getD l radiusAt 0; weights = w }
+
+-- a lent query: a weight that is not lent is 1
 unfoldable pub queryIn : List ℕ → Query
-queryIn l = record { k = getD l kAt 0; block = getD l blockAt 0; radius = getD l radiusAt 0 }
+queryIn l = queryWith l (weights (getD l fieldWeightInQuery 1) (getD l trimWeightInQuery 1))
 
 unfoldable pub pairIn : List ℕ → ℕ → Pair
 pairIn l i =
@@ -117,11 +145,11 @@ pairIn l i =
 unfoldable pub pairsIn : List ℕ → ℕ → List Pair
 pairsIn l n = map (pairIn l) (range 0 n)
 
--- the record that the numbers in front of the pair places are, with these pairs in its places
+-- the record that the numbers in front of the pair places and behind them are, with these pairs in its places
 unfoldable pub withPairs : List ℕ → List Pair → Session
 withPairs l pairs =
     record {
-      query = queryIn l;
+      query = queryWith l (weights (getD l fieldWeightAt 0) (getD l trimWeightAt 0));
       rows = record { field = record { 0 = getD l fieldRowsAt 0 }; trim = record { 0 = getD l trimRowsAt 0 } };
       depth = record { field = record { 0 = getD l fieldDepthAt 0 }; trim = record { 0 = getD l trimDepthAt 0 } };
       last = getD l lastAt 0;

@@ -1,6 +1,6 @@
 -- Laying out and taking back undo each other, whatever stands behind the record. Assumes nothing.
 use mathlib.Core.Path.{_≡_, refl, sym, ap, _∙_}
-use mathlib.Core.List.{List, [], _∷_, _++_, map, map-append}
+use mathlib.Core.List.{List, [], _∷_, _++_, map, map-append, append-assoc}
 use Prim.Native.Nat.{ℕ, zero, suc, _+_, _*_, _/_, _%_, _≤_, _<_}
 use native.Mathlib.Omega.{arith}
 use native.Mathlib.Nat.{div-add-mod', add-mul-mod-self-right, add-mul-div-right, mod-eq-of-lt, div-eq-of-lt}
@@ -11,8 +11,9 @@ use Rattle.lists.specs.Appends.{each-append, range-end}
 use Rattle.rules.specs.declared.Pair.{Pair}
 use Rattle.rules.specs.declared.Session.{Session}
 use Rattle.rules.specs.Session.{noPair, placeCount}
-use Rattle.record_layout.specs.Flat.{joinedAt, joinedHighAt, pairsAt, pairSize, pairAt, flatSize, word}
-use Rattle.record_layout.specs.Flat.{flatPair, flatHead, flatten, queryIn, pairIn, pairsIn, withPairs, unflatten}
+use Rattle.record_layout.specs.Flat.{joinedAt, joinedHighAt, pairsAt, pairSize, pairAt, fieldWeightAt, flatSize}
+use Rattle.record_layout.specs.Flat.{word, flatPair, flatHead, flatWeights, flatTail, flatten, queryWith, pairIn}
+use Rattle.record_layout.specs.Flat.{pairsIn, withPairs, unflatten}
 
 zero-add : (n : ℕ) → 0 + n ≡ n
 zero-add n = omega arith
@@ -29,6 +30,11 @@ three-at (p ∷ a) rest zero h = refl
 three-at (p ∷ a) rest (suc i) h =
     let x : pairSize * suc i ≡ suc (suc (suc (pairSize * i))) = omega arith in
     ap (three (each flatPair (p ∷ a) ++ rest)) x ∙ three-at a rest i (omega arith)
+
+pub flat-length : (a : List Pair) → length (each flatPair a) ≡ pairSize * length a
+unfolding each flatPair
+flat-length [] = refl
+flat-length (p ∷ a) = let h = flat-length a in omega arith
 
 module _ (l : List ℕ) where
   pub pairs-end : (n : ℕ) → pairsIn l (suc n) ≡ pairsIn l n ++ pairIn l n ∷ []
@@ -65,15 +71,45 @@ module _ (s : Session) (rest : List ℕ) where
       ∙ ap (λ (a : List Pair). a ++ getD (s .pairs) n noPair ∷ []) back
       ∙ sym (take-suc (s .pairs) n noPair (omega arith))
 
-  pub back : length (s .pairs) ≡ placeCount → unflatten (flatten s ++ rest) ≡ s
-  unfolding flatten flatHead unflatten withPairs queryIn
-  back h =
-      let pairs = pairs-back placeCount (omega arith) ∙ take-all placeCount (s .pairs) (omega arith) in
+module _ (s : Session) (rest : List ℕ) (full : length (s .pairs) ≡ placeCount) where
+  abbrev tail : List ℕ
+  tail = flatTail s ++ rest
+
+  abbrev whole : List ℕ
+  whole = flatHead s ++ (each flatPair (s .pairs) ++ tail)
+
+  laid-out : flatten s ++ rest ≡ whole
+  unfolding flatten flatHead
+  laid-out = ap (λ (r : List ℕ). flatHead s ++ r) (append-assoc (each flatPair (s .pairs)) (flatTail s) rest)
+
+  -- number n of those behind the pair places
+  tail-back : (n : ℕ) → getD whole (fieldWeightAt + n) 0 ≡ getD tail n 0
+  tail-back n =
+      let long = flat-length (s .pairs) in
+      let k : fieldWeightAt + n ≡ pairsAt + (pairSize * placeCount + n) = omega arith in
+      let e : pairSize * placeCount + n ≡ length (each flatPair (s .pairs)) + n = omega arith in
+      ap (λ (m : ℕ). getD whole m 0) k
+      ∙ number-at s tail (pairSize * placeCount + n)
+      ∙ ap (λ (m : ℕ). getD (each flatPair (s .pairs) ++ tail) m 0) e
+      ∙ getD-append-add (each flatPair (s .pairs)) tail n 0
+
+  pub back : unflatten (flatten s ++ rest) ≡ s
+  unfolding flatHead flatTail flatWeights unflatten withPairs queryWith
+  back =
+      let pairs = pairs-back s tail placeCount (omega arith) ∙ take-all placeCount (s .pairs) (omega arith) in
       let n = s .joined in
       let joined : n % word + n / word * word ≡ n = omega (arith, div-add-mod' n word) in
-      λ i.
+      let field = tail-back 0 in
+      let trim = tail-back 1 in
+      ap unflatten laid-out
+      ∙ (λ i.
       record {
-        query = s .query;
+        query = record {
+          k = s .query .k;
+          block = s .query .block;
+          radius = s .query .radius;
+          weights = record { field = record { 0 = field i }; trim = record { 0 = trim i } };
+        };
         rows = s .rows;
         depth = s .depth;
         last = s .last;
@@ -81,7 +117,7 @@ module _ (s : Session) (rest : List ℕ) where
         held = s .held;
         pairs = pairs i;
         joined = joined i;
-      }
+      })
 
 -- ---- numbers taken back are laid out again
 
@@ -115,7 +151,7 @@ module _ (l : List ℕ) (long : flatSize ≤ length l) where
       ∙ ap (λ (m : ℕ). take m (drop pairsAt l)) (sym k)
 
   head-forth : getD l joinedAt 0 < word → flatHead (unflatten l) ≡ take pairsAt l
-  unfolding flatHead unflatten withPairs queryIn
+  unfolding flatHead unflatten withPairs queryWith
   head-forth h =
       let low = getD l joinedAt 0 in
       let high = getD l joinedHighAt 0 in
@@ -136,11 +172,20 @@ module _ (l : List ℕ) (long : flatSize ≤ length l) where
         one-from 0 11 (omega arith),
       ))
 
+  tail-forth : flatTail (unflatten l) ≡ take 2 (drop fieldWeightAt l)
+  unfolding flatTail flatWeights unflatten withPairs queryWith
+  tail-forth = rw (one-from 1 fieldWeightAt (omega arith), one-from 0 (suc fieldWeightAt) (omega arith))
+
   -- the record that stands in a lent slice, laid out in it, changes no number
   pub forth : getD l joinedAt 0 < word → flatten (unflatten l) ++ drop flatSize l ≡ l
   unfolding flatten unflatten withPairs
   forth h =
-      ap (λ (r : List ℕ). r ++ each flatPair (pairsIn l placeCount) ++ drop flatSize l) (head-forth h)
-      ∙ ap (λ (r : List ℕ). take pairsAt l ++ r ++ drop flatSize l) (pairs-forth placeCount (omega arith))
-      ∙ ap (λ (r : List ℕ). r ++ drop flatSize l) (sym (take-add pairsAt (pairSize * placeCount) l))
+      ap (λ (r : List ℕ). r ++ each flatPair (pairsIn l placeCount) ++ flatTail (unflatten l) ++ drop flatSize l)
+      (head-forth h)
+      ∙ ap (λ (r : List ℕ). take pairsAt l ++ r ++ flatTail (unflatten l) ++ drop flatSize l)
+      (pairs-forth placeCount (omega arith))
+      ∙ ap (λ (r : List ℕ). r ++ flatTail (unflatten l) ++ drop flatSize l)
+      (sym (take-add pairsAt (pairSize * placeCount) l))
+      ∙ ap (λ (r : List ℕ). take fieldWeightAt l ++ r ++ drop flatSize l) tail-forth
+      ∙ ap (λ (r : List ℕ). r ++ drop flatSize l) (sym (take-add fieldWeightAt 2 l))
       ∙ take-append-drop flatSize l

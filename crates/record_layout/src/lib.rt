@@ -1,20 +1,24 @@
 // The session's record laid out flat in a lent slice of numbers, and taken back from one: for callers in C and Rust.
 use rules::Counts;
 use rules::FieldRows;
+use rules::FieldWeight;
 use rules::PLACES;
 use rules::Pair;
 use rules::Query;
 use rules::Session;
 use rules::TrimRows;
+use rules::TrimWeight;
+use rules::Weights;
 ghost use mathlib.Core.Path.{_≡_};
 ghost use mathlib.Core.List.{[], _∷_};
 ghost use Prim.Native.Nat.{_+_, _*_, _≤_, _<_};
 ghost use lib.ListN.{length, getD, replicate};
 ghost use Rattle.rules.specs.Session.{noPair, placeCount};
-ghost use Rattle.record_layout.specs.Flat.{joinedAt, pairSize, flatSize, word, laidAt, laidIn};
-ghost use Rattle.record_layout.specs.Flat.{flatPair, flatHead, flatten, queryIn, pairIn, withPairs, unflatten};
+ghost use Rattle.record_layout.specs.Flat.{joinedAt, pairSize, fieldWeightAt, flatSize, word, laidAt, laidIn};
+ghost use Rattle.record_layout.specs.Flat.{flatPair, flatHead, flatWeights, flatten};
+ghost use Rattle.record_layout.specs.Flat.{queryWith, queryIn, pairIn, withPairs, unflatten};
 
-// Where a record's numbers stand: first the query's three.
+// Where a record's numbers stand: first three of the query's.
 const K: usize = 0;
 
 const BLOCK_ROWS: usize = 1;
@@ -43,35 +47,57 @@ const JOINED_HIGH: usize = 11;
 // The pair places.
 const PAIRS: usize = 12;
 
-// How many numbers a query is, a pair, and a record.
+// Behind them the query's two weights.
+const FIELD_WEIGHT: usize = PAIRS + PAIR_SIZE * PLACES;
+
+const TRIM_WEIGHT: usize = FIELD_WEIGHT + 1;
+
+// The two weights of a lent query, behind k, block and radius.
+const FIELD_WEIGHT_IN_QUERY: usize = 3;
+
+const TRIM_WEIGHT_IN_QUERY: usize = 4;
+
+// How many numbers a lent query is at least, a pair is, and a record.
 pub const QUERY_SIZE: usize = 3;
 
 pub const PAIR_SIZE: usize = 3;
 
-pub const SIZE: usize = PAIRS + PAIR_SIZE * PLACES;
+pub const SIZE: usize = TRIM_WEIGHT + 1;
 
 // The first number above 32 bits.
 const WORD: u64 = 4294967296;
 
-// Number i, 0 past the end.
-fn number_at(l: &[u32], i: usize) -> u32
-    ensures { λ r. ⌜ r ≡ getD (now (l .entry)) i 0 ⌝ }
+// Number i, another past the end.
+fn number_or(l: &[u32], i: usize, otherwise: u32) -> u32
+    ensures { λ r. ⌜ r ≡ getD (now (l .entry)) i otherwise ⌝ }
 {
     if i < l.len() {
         return l[i];
     }
-    0
+    otherwise
 }
 
-// The query that the first three numbers are; one that is not there is 0.
+// The query that the first three numbers are, with two weights; a number that is not there is 0.
+fn query_with(l: &[u32], weights: Weights) -> Query
+    ensures { λ r. ⌜ r ≡ queryWith (now (l .entry)) weights ⌝ }
+{
+    Query {
+        k: number_or(l, K, 0),
+        block: number_or(l, BLOCK_ROWS, 0),
+        radius: number_or(l, RADIUS, 0),
+        weights,
+    }
+}
+
+// A lent query; a weight that is not lent is 1.
 pub fn query_in(l: &[u32]) -> Query
     ensures { λ r. ⌜ r ≡ queryIn (now (l .entry)) ⌝ }
 {
-    Query {
-        k: number_at(l, K),
-        block: number_at(l, BLOCK_ROWS),
-        radius: number_at(l, RADIUS),
-    }
+    let weights = Weights {
+        field: FieldWeight(number_or(l, FIELD_WEIGHT_IN_QUERY, 1)),
+        trim: TrimWeight(number_or(l, TRIM_WEIGHT_IN_QUERY, 1)),
+    };
+    query_with(l, weights)
 }
 
 // Pair place i + 1.
@@ -87,13 +113,17 @@ fn pair_in(l: &[u32], i: usize) -> Pair
     }
 }
 
-// The record that the numbers in front of the pair places are, with no pair in its places.
+// The record that the numbers in front of the pair places and behind them are, with no pair in its places.
 fn head_in(l: &[u32]) -> Session
     requires { ⌜ flatSize ≤ length (now l) ⌝ }
     ensures { λ r. ⌜ r ≡ withPairs (now (l .entry)) (replicate placeCount noPair) ⌝ }
     ensures { λ _. ⌜ getD (now (l .entry)) joinedAt 0 < word ⌝ }
 {
-    let query = query_in(l);
+    let weights = Weights {
+        field: FieldWeight(l[FIELD_WEIGHT]),
+        trim: TrimWeight(l[TRIM_WEIGHT]),
+    };
+    let query = query_with(l, weights);
     let rows = Counts {
         field: FieldRows(l[FIELD_ROWS]),
         trim: TrimRows(l[TRIM_ROWS]),
@@ -121,7 +151,7 @@ fn head_in(l: &[u32]) -> Session
     }
 }
 
-// The record that the first 204 numbers are, whatever they are. Its places are filled where they stand.
+// The record that the first 206 numbers are, whatever they are. Its places are filled where they stand.
 pub fn unpack(l: &[u32]) -> Session
     requires { ⌜ flatSize ≤ length (now l) ⌝ }
     ensures { λ r. ⌜ r ≡ unflatten (now (l .entry)) ⌝ }
@@ -174,7 +204,16 @@ fn put_head(out: &mut [u32], s: Session)
     put_three(out, HELD, s.held, low, high);
 }
 
-// A record laid out in the first 204 numbers; the rest is left as it was.
+// The two weights, behind the pair places.
+fn put_weights(out: &mut [u32], w: Weights)
+    requires { ⌜ flatSize ≤ length (now out) ⌝ }
+    ensures { λ _. ⌜ now (out .exit) ≡ laidAt fieldWeightAt (flatWeights w) (now (out .entry)) ⌝ }
+{
+    out[FIELD_WEIGHT] = w.field.0;
+    out[TRIM_WEIGHT] = w.trim.0;
+}
+
+// A record laid out in the first 206 numbers; the rest is left as it was.
 pub fn pack(s: Session, out: &mut [u32])
     requires { ⌜ flatSize ≤ length (now out) ⌝ }
     ensures { λ _. ⌜ now (out .exit) ≡ laidIn (now (out .entry)) s ⌝ }
@@ -186,4 +225,5 @@ pub fn pack(s: Session, out: &mut [u32])
         put_pair(out, PAIRS + PAIR_SIZE * i, p);
         i += 1;
     }
+    put_weights(out, s.query.weights);
 }

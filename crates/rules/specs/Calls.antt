@@ -17,19 +17,21 @@ use Rattle.rules.specs.Tables.{Terms, terms, mostRows, rowCount, rowInRa
 use Rattle.rules.specs.Session.{opened, zeros, heldPairs, settledBy}
 use Rattle.rules.specs.Read.{blockCount, fieldNextBy, oldDepth, newDepth, readBlockBy}
 use Rattle.rules.specs.Take.{firstHeld, givesPairBy, movedOut, finished, lastBlock, shownRows}
-use Rattle.rules.specs.Numbers.{listLength, blockSize, radiusRange, tableSize, badRecord, rowLimit, rowOrder}
-use Rattle.rules.specs.Numbers.{unless, first}
+use Rattle.rules.specs.Numbers.{listLength, blockSize, radiusRange, weightRange, tableSize, badRecord, rowLimit}
+use Rattle.rules.specs.Numbers.{rowOrder, unless, first}
 
 abbrev pub between : ℕ → ℕ → ℕ → Bool
 between low high n = leb low n && leb n high
 
--- 1, 2, 3: the query's numbers
+-- 1, 2, 3, 12: the query's numbers
 unfoldable pub queryCode : Query → ℕ
 queryCode q =
     first
     (unless (between 1 64 (q .k)) listLength
     ∷ unless (between 1 1024 (q .block)) blockSize
     ∷ unless (leb (q .radius) 40000) radiusRange
+    ∷ unless (between 1 9 (q .weights .field .0)) weightRange
+    ∷ unless (between 1 9 (q .weights .trim .0)) weightRange
     ∷ [])
 
 -- 4, at opening: "slice length not a multiple of 4, more than 65,535 rows"
@@ -55,9 +57,9 @@ unfoldable pub countsFit : ℕ → ℕ → ℕ → Bool
 countsFit block rows depth =
     leb rows mostRows && (leb depth rows && (eqb (depth % block) 0 || eqb depth rows))
 
--- "a held sum is outside 0 to 19,998"
+-- "the largest held sum is 179,982", whatever the weights
 abbrev pub mostSum : ℕ
-mostSum = 19998
+mostSum = 179982
 
 -- 5, pair by pair: "a held pair's row is outside 1 to the depth", or its sum
 unfoldable pub pairFits : Session → Pair → Bool
@@ -118,7 +120,7 @@ newBlockCode = newBlockCodeBy terms
 abbrev pub step : Answer → Session → Step
 step a s = record { answer = a; session = s }
 
--- "Opening checks 1, 2, 3, 4 (field, then trim); refused, its record is all zeros."
+-- "Opening checks 1, 2, 3, 4 (field, then trim), 12 after 3; refused, its record is all zeros."
 unfoldable pub openCode : Query → List ℤ → List ℤ → ℕ
 openCode q f t = first (queryCode q ∷ sizeCode f ∷ sizeCode t ∷ [])
 

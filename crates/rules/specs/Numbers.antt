@@ -42,9 +42,12 @@ wrongKind = 10
 abbrev pub shortSlice : ℕ
 shortSlice = 11
 
+abbrev pub weightRange : ℕ
+weightRange = 12
+
 -- a number of the table, or 0
 abbrev pub IsRefusal : ℕ → Type 0
-IsRefusal n = n ≤ shortSlice
+IsRefusal n = n ≤ weightRange
 
 -- number n, unless the test passes
 abbrev pub unless : Bool → ℕ → ℕ

@@ -1,6 +1,6 @@
 -- All rules at once: a proof that says `unfolding run` computes with them. Assumes nothing.
 use Rattle.rules.specs.Tables.{within, inRange, rowInRange, rowInOrder, sizeFits, legal, row, gap}
-use Rattle.rules.specs.Tables.{squaredDistance, qualifies, pairSum, ahead, pairAt, qualifying}
+use Rattle.rules.specs.Tables.{squaredDistance, qualifies, weighted, pairSum, ahead, pairAt, qualifying}
 use Rattle.rules.specs.Session.{places, opened, zeros, ceilingBy, securedBy, settledBy}
 use Rattle.rules.specs.Read.{fieldNextBy, lowest, skippedBy, bestHeld, holding, meetBy, meetBlocksBy, readTo}
 use Rattle.rules.specs.Read.{readTableBy}
@@ -18,11 +18,11 @@ use Rattle.rules.specs.Query.{refusalLine, wholeQueryCode, wholeQuery}
 use Rattle.lists.specs.Lists.{consIf, keep, every, range, each, ins, sort, ranked}
 
 unfoldable pub run : Unit {0}
-unfolding within inRange rowInRange rowInOrder sizeFits legal row gap squaredDistance qualifies pairSum ahead pairAt
-    qualifying places opened zeros ceilingBy securedBy settledBy fieldNextBy lowest skippedBy bestHeld holding meetBy
-    meetBlocksBy readTo readTableBy givesPairBy movedOut finished shownRows queryCode sizeCode sameSizeCode rowCode
-    rowsCode countsFit pairFits markFits recordFits recordCode lentCode callCode newBlockCodeBy openCode openCall
-    readCallBy takeCallBy showCall showPlace afterBlanks digitsFit digitsFrom hasMinus afterMinus columnFits
+unfolding within inRange rowInRange rowInOrder sizeFits legal row gap squaredDistance qualifies weighted pairSum ahead
+    pairAt qualifying places opened zeros ceilingBy securedBy settledBy fieldNextBy lowest skippedBy bestHeld holding
+    meetBy meetBlocksBy readTo readTableBy givesPairBy movedOut finished shownRows queryCode sizeCode sameSizeCode
+    rowCode rowsCode countsFit pairFits markFits recordFits recordCode lentCode callCode newBlockCodeBy openCode
+    openCall readCallBy takeCallBy showCall showPlace afterBlanks digitsFit digitsFrom hasMinus afterMinus columnFits
     columnNumber headerFits fileCount fileKind rowColumnsFit rowNumbers fileTable fileRowCode andRow rowsLoaded
     kindFits headCode checkFile andSlice loadedInto loadAnswer loadNumbers checkAlone readUntilSettledBy
     takeUntilFinishedBy settledSession list decimal pairLine pairLines queryLine lastLine listing programFileCode

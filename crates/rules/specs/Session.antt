@@ -9,6 +9,7 @@ use Rattle.lists.specs.Lists.{every}
 use Rattle.rules.specs.declared.FieldRows.{FieldRows}
 use Rattle.rules.specs.declared.TrimRows.{TrimRows}
 use Rattle.rules.specs.declared.Pair.{Pair}
+use Rattle.rules.specs.declared.Weights.{Weights}
 use Rattle.rules.specs.declared.Query.{Query}
 use Rattle.rules.specs.declared.Session.{Session}
 use Rattle.rules.specs.Tables.{Row, row, Terms, terms}
@@ -38,9 +39,13 @@ opened q m n =
       joined = 0;
     }
 
+-- a weight of the field table and one of the trim table
+abbrev pub weights : ℕ → ℕ → Weights
+weights v w = record { field = record { 0 = v }; trim = record { 0 = w } }
+
 -- "its record is all zeros"
 unfoldable pub zeros : Session
-zeros = opened (record { k = 0; block = 0; radius = 0 }) (record { 0 = 0 }) (record { 0 = 0 })
+zeros = opened (record { k = 0; block = 0; radius = 0; weights = weights 0 0 }) (record { 0 = 0 }) (record { 0 = 0 })
 
 -- "pairs held (at most k less those out, ranked ..)": those in the first places
 abbrev pub heldPairs : Session → List Pair

@@ -2,20 +2,23 @@
 use Prim.Native.Nat.{ℕ}
 use Prim.Native.String.{String}
 use mathlib.Core.Path.{_≡_, refl}
-use mathlib.Core.List.{List, [], _∷_}
+use mathlib.Core.Bool.{true, false}
+use mathlib.Core.List.{List, [], _∷_, map}
 use lib.IntN.{ℤ, pos}
 use lib.ListN.{set, replicate}
 use Rattle.rules.specs.declared.Query.{Query}
 use Rattle.rules.specs.declared.Session.{Session}
 use Rattle.rules.specs.Tables.{part}
-use Rattle.rules.specs.Session.{zeros}
+use Rattle.lists.specs.Lists.{each}
+use Rattle.rules.specs.Session.{weights, places, zeros, ceiling}
+use Rattle.rules.specs.Read.{fieldNext, skipped, rowsBetween}
 use Rattle.rules.specs.Take.{lastBlock}
 use Rattle.rules.specs.Numbers.{saidOf, refusal}
-use Rattle.rules.specs.Calls.{queryCode, sizeCode, rowsCode, recordCode, callCode, showCall}
+use Rattle.rules.specs.Calls.{queryCode, sizeCode, rowsCode, recordCode, callCode, openCode, openCall, showCall}
 use Rattle.rules.specs.File.{loadAnswer}
-use Rattle.rules.specs.Query.{wholeQuery, refusalLine}
+use Rattle.rules.specs.Query.{readUntilSettled, list, wholeQuery, refusalLine}
 use Rattle.rules.specs.Run.{run}
-use Rattle.rules.specs.Example.{bytes, fieldFile, trimFile, fields, trims, afterReads}
+use Rattle.rules.specs.Example.{bytes, fieldFile, trimFile, fields, trims, query, afterReads}
 
 -- ---- Where the last block begins: a whole one, and a short one
 
@@ -92,7 +95,11 @@ trim-row-first = refl
 -- ---- Each refusal once, by its number
 
 abbrev pub asked : ℕ → ℕ → ℕ → Query
-asked k block radius = record { k = k; block = block; radius = radius }
+asked k block radius = record { k = k; block = block; radius = radius; weights = weights 1 1 }
+
+-- the same with other weights
+abbrev pub weighing : ℕ → ℕ → Query → Query
+weighing v w q = record { k = q .k; block = q .block; radius = q .radius; weights = weights v w }
 
 abbrev pub loaded : String → ℕ → ℕ
 loaded file room = refusal (saidOf (loadAnswer (bytes file) (pos 1) (replicate room (pos 0))))
@@ -110,8 +117,82 @@ refusals =
     ∷ loaded "    01     1\n" 4
     ∷ loaded "     0     2\n" 4
     ∷ loaded "     1     1\n     1     1      0      0\n" 3
+    ∷ queryCode (weighing 10 1 (asked 2 1 5))
     ∷ []
 
-pub each-by-its-number : refusals ≡ 1 ∷ 2 ∷ 3 ∷ 4 ∷ 5 ∷ 6 ∷ 7 ∷ 8 ∷ 9 ∷ 10 ∷ 11 ∷ []
+pub each-by-its-number : refusals ≡ 1 ∷ 2 ∷ 3 ∷ 4 ∷ 5 ∷ 6 ∷ 7 ∷ 8 ∷ 9 ∷ 10 ∷ 11 ∷ 12 ∷ []
 unfolding run
 each-by-its-number = refl
+
+-- ---- Weights: 1 to 9 each, asked after the radius
+
+abbrev weightCodes : List ℕ
+weightCodes =
+    queryCode (weighing 9 9 (asked 2 1 5))
+    ∷ queryCode (weighing 0 1 (asked 2 1 5))
+    ∷ queryCode (weighing 1 0 (asked 2 1 5))
+    ∷ queryCode (weighing 1 10 (asked 2 1 5))
+    ∷ queryCode (weighing 0 0 (asked 2 1 40001))
+    ∷ openCode (weighing 0 0 (asked 2 1 5)) (pos 1 ∷ []) []
+    ∷ []
+
+pub weights-in-order : weightCodes ≡ 0 ∷ 12 ∷ 12 ∷ 12 ∷ 3 ∷ 12 ∷ []
+unfolding run
+weights-in-order = refl
+
+-- the worked query at other weights: the sums of its list, and what it reads
+abbrev weighedSums : ℕ → ℕ → List ℕ
+weighedSums v w = map (λ p. p .sum) (list (weighing v w query) fields trims)
+
+pub sums-3-1 : weighedSums 3 1 ≡ 320 ∷ 270 ∷ []
+unfolding run
+sums-3-1 = refl
+
+pub sums-1-3 : weighedSums 1 3 ≡ 240 ∷ 170 ∷ []
+unfolding run
+sums-1-3 = refl
+
+-- Three rows each, no two of which qualify, a trim score counting twice. Two of each are read: the field table's score
+-- dropped by 10, the trim table's by 6, which is 12.
+abbrev apart : ℤ → List ℤ → List ℤ
+apart place scores = each (λ score. pos 1 ∷ score ∷ place ∷ pos 0 ∷ []) scores
+
+abbrev tens : List ℤ
+tens = apart (pos 0) (pos 20 ∷ pos 10 ∷ pos 0 ∷ [])
+
+abbrev sixes : List ℤ
+sixes = apart (pos 9) (pos 20 ∷ pos 14 ∷ pos 0 ∷ [])
+
+abbrev readTwice : Session
+readTwice =
+    let q = weighing 1 2 (asked 1 1 0) in
+    readUntilSettled 4 tens sixes (openCall q tens sixes .session)
+
+-- the field table is next: its drop, 10, is the smaller one
+pub drops-weighted : fieldNext tens sixes readTwice ≡ true
+unfolding run
+drops-weighted = refl
+
+-- 20 and twice 14, or 10 and twice 20
+pub ceiling-weighted : ceiling tens sixes readTwice ≡ 50
+unfolding run
+ceiling-weighted = refl
+
+-- 10 and twice 14 is not below a held sum of 30, though 10 and 14 is
+abbrev oneHeld : Session
+oneHeld =
+    let s = readTwice in
+    record {
+      query = s .query;
+      rows = s .rows;
+      depth = s .depth;
+      last = s .last;
+      out = 0;
+      held = 1;
+      pairs = places (record { sum = 30; field = 1; trim = 1 } ∷ []);
+      joined = s .joined;
+    }
+
+pub skipping-weighted : skipped oneHeld (rowsBetween tens 1 2) (rowsBetween sixes 1 2) ≡ false
+unfolding run
+skipping-weighted = refl

@@ -88,16 +88,24 @@ pub record Terms : Type 0 where
   pub trim : Row → ℕ
   pub near : Row → Row → Bool
 
--- the terms of a query: scores as they are, shades within its radius
+-- a row's weighted score: "weight × score"
+unfoldable pub weighted : ℕ → Row → ℕ
+weighted weight x = weight * x .score
+
+-- the terms of a query: scores by its weights, each table's by its own, and shades within its radius
 abbrev pub terms : Query → Terms
 terms q =
     record {
-      field = λ x. x .score;
-      trim = λ y. y .score;
+      field = weighted (q .weights .field .0);
+      trim = weighted (q .weights .trim .0);
       near = λ x y. qualifies (q .radius) (x .shade) (y .shade);
     }
 
--- "Its sum is the two scores added."
+-- without weights: scores as they are
+abbrev pub unweighted : Query → Terms
+unweighted q = record { field = λ x. x .score; trim = λ y. y .score; near = terms q .near }
+
+-- "Its sum is the two scores added."; "field weight × score + trim weight × score"
 unfoldable pub pairSum : Terms → Row → Row → ℕ
 pairSum w x y = w .field x + w .trim y
 

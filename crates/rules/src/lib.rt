@@ -24,14 +24,16 @@ pub const WRONG_KIND: u32 = 10;
 
 pub const SHORT_SLICE: u32 = 11;
 
+pub const WEIGHT_RANGE: u32 = 12;
+
 // The largest list length: so many pair places has a record.
 pub const PLACES: usize = 64;
 
 // The rows of the longest table.
 pub const MOST_ROWS: u32 = 65535;
 
-// The largest sum of two scores.
-pub const MOST_SUM: u32 = 19998;
+// The largest sum of two weighted scores, 9 times 9,999 each.
+pub const MOST_SUM: u32 = 179982;
 
 // The bytes of a strict file's header, and of each of its rows.
 pub const HEADER_BYTES: usize = 13;
@@ -62,11 +64,24 @@ pub struct Counts {
     pub trim: TrimRows,
 }
 
-// What a list is asked for: its length k, the block size in rows, the radius.
+// What a field row's score counts for, 1 to 9 times.
+pub struct FieldWeight(pub u32);
+
+// What a trim row's score counts for.
+pub struct TrimWeight(pub u32);
+
+// One weight of each table.
+pub struct Weights {
+    pub field: FieldWeight,
+    pub trim: TrimWeight,
+}
+
+// What a list is asked for: its length k, the block size in rows, the radius, the weights.
 pub struct Query {
     pub k: u32,
     pub block: u32,
     pub radius: u32,
+    pub weights: Weights,
 }
 
 // A field row and a trim row, numbered from 1, and their sum.

@@ -1,4 +1,4 @@
--- What a query and a record that are not refused keep: 1 to 3 and 5 in words. Assumes nothing.
+-- What a query and a record that are not refused keep: 1 to 3, 12 and 5 in words. Assumes nothing.
 use mathlib.Core.Path.{_≡_, refl}
 use mathlib.Core.Bool.{Bool, true, false, cond, _&&_, _||_}
 use mathlib.Core.List.{[], _∷_}
@@ -18,7 +18,7 @@ use Rattle.rules.specs.Tables.{mostRows, ahead}
 use Rattle.rules.specs.Session.{noPair, heldPairs}
 use Rattle.rules.specs.Read.{blockCount}
 use Rattle.rules.specs.Take.{firstHeld}
-use Rattle.rules.specs.Numbers.{unless, listLength, blockSize, radiusRange}
+use Rattle.rules.specs.Numbers.{unless, listLength, blockSize, radiusRange, weightRange}
 use Rattle.rules.specs.Checks.{first-out, unless-out}
 use Rattle.rules.specs.Calls.{between, queryCode, countsFit, mostSum, pairFits, markFits, isZeros}
 use Rattle.rules.specs.Calls.{recordGrounds, recordFits}
@@ -30,12 +30,14 @@ module _ (low high n : ℕ) where
   pub between-in : low ≤ n → n ≤ high → between low high n ≡ true
   between-in h k = and-in (leb low n) (leb n high) (le-leb low n h) (le-leb n high k)
 
--- ---- 1, 2, 3: the query
+-- ---- 1, 2, 3, 12: the query
 
 pub record QueryFits (q : Query) : Type 0 where
   pub k : (1 ≤ q .k) × (q .k ≤ 64)
   pub block : (1 ≤ q .block) × (q .block ≤ 1024)
   pub radius : q .radius ≤ 40000
+  pub field-weight : (1 ≤ q .weights .field .0) × (q .weights .field .0 ≤ 9)
+  pub trim-weight : (1 ≤ q .weights .trim .0) × (q .weights .trim .0 ≤ 9)
 
 pub query-out : (q : Query) → queryCode q ≡ 0 → QueryFits q
 unfolding queryCode
@@ -43,11 +45,16 @@ query-out q h =
     let a = between 1 64 (q .k) in
     let b = between 1 1024 (q .block) in
     let c = leb (q .radius) 40000 in
-    let passes = first-out (unless a listLength ∷ unless b blockSize ∷ unless c radiusRange ∷ []) h in
+    let d = between 1 9 (q .weights .field .0) in
+    let e = between 1 9 (q .weights .trim .0) in
+    let heavy = unless d weightRange ∷ unless e weightRange ∷ [] in
+    let passes = first-out (unless a listLength ∷ unless b blockSize ∷ unless c radiusRange ∷ heavy) h in
     record {
       k = between-out 1 64 (q .k) (unless-out a listLength (omega arith) (passes 0));
       block = between-out 1 1024 (q .block) (unless-out b blockSize (omega arith) (passes 1));
       radius = leb-true (q .radius) 40000 (unless-out c radiusRange (omega arith) (passes 2));
+      field-weight = between-out 1 9 (q .weights .field .0) (unless-out d weightRange (omega arith) (passes 3));
+      trim-weight = between-out 1 9 (q .weights .trim .0) (unless-out e weightRange (omega arith) (passes 4));
     }
 
 pub query-in : (q : Query) → QueryFits q → queryCode q ≡ 0
@@ -57,6 +64,8 @@ query-in q h =
       between-in 1 64 (q .k) (h .k .0) (h .k .1),
       between-in 1 1024 (q .block) (h .block .0) (h .block .1),
       le-leb (q .radius) 40000 (h .radius),
+      between-in 1 9 (q .weights .field .0) (h .field-weight .0) (h .field-weight .1),
+      between-in 1 9 (q .weights .trim .0) (h .trim-weight .0) (h .trim-weight .1),
     )
 
 -- ---- 5: a table's counts

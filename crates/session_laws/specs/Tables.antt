@@ -1,18 +1,22 @@
 -- What 4, 6 and 7 say of a table: its size, its rows, and what a legal table is. Assumes nothing.
-use mathlib.Core.Path.{_≡_, refl, subst}
+use mathlib.Core.Path.{_≡_, refl, sym, ap, subst, _∙_}
 use mathlib.Core.Bool.{Bool, true, _&&_}
 use mathlib.Core.List.{List, [], _∷_}
 use Prim.Native.Nat.{ℕ, zero, suc, _+_, _*_, _≤_, _<_, _%_}
+use native.Mathlib.Nat.{mul-le-mul}
 use native.Mathlib.Omega.{arith}
 use native.Mathlib.Decide.{decLe}
-use lib.Dec.{eqb, leb}
+use lib.Dec.{eqb, leb, lit≤}
 use lib.IntN.{ℤ, pos, negsuc}
-use lib.ListN.{length}
+use lib.Signed.{leZ}
+use lib.ListN.{length, getD, drop}
+use lib.Seq.{getD-take, getD-drop}
 use borrow.Author.Tests.{eqb-true, eq-eqb, leb-true, le-leb}
 use Rattle.lists.specs.Lists.{every, range}
-use Rattle.lists.specs.Bools.{and-out, and-in}
+use Rattle.lists.specs.Bools.{clash, and-out, and-in}
 use Rattle.lists.specs.Parts.{mem-range, every-at, every-of}
-use Rattle.rules.specs.Tables.{mostRows, rowCount, within, inRange, rowInRange, rowInOrder, sizeFits, legal}
+use Rattle.rules.specs.Tables.{num, mostRows, rowCount, within, inRange, rowInRange, rowInOrder, sizeFits, legal}
+use Rattle.rules.specs.Tables.{natOf, row, part, weighted}
 use Rattle.rules.specs.Numbers.{unless, rowLimit, rowOrder}
 use Rattle.rules.specs.Checks.{first-out, first-in, unless-out}
 use Rattle.rules.specs.Calls.{rowCode, rowsCode}
@@ -58,6 +62,62 @@ module _ (p s a b : ℤ) where
   pub range-in : InRange p s a b → inRange p s a b ≡ true
   unfolding inRange
   range-in h = rw (h .pattern, h .score, h .a) (h .b)
+
+-- a number that is not below 0
+pos-nat : (low n : ℕ) (x : ℤ) → within (pos low) (pos n) x ≡ true → pos (natOf x) ≡ x
+unfolding within
+pos-nat low n (pos m) h = refl
+pos-nat low n (negsuc m) h = clash h refl
+
+-- row i + 1 as the rules look at it has the table's numbers
+module _ (t : List ℤ) (i : ℕ) (h : rowInRange t i ≡ true) where
+  abbrev ranges : InRange (num t i 0) (num t i 1) (num t i 2) (num t i 3)
+  unfolding rowInRange
+  ranges = range-out (num t i 0) (num t i 1) (num t i 2) (num t i 3) h
+
+  pub pattern-kept : pos (row t i .pattern) ≡ num t i 0
+  unfolding row
+  pattern-kept = pos-nat 1 999999 (num t i 0) (ranges .pattern)
+
+  pub score-kept : pos (row t i .score) ≡ num t i 1
+  unfolding row
+  score-kept = pos-nat 0 9999 (num t i 1) (ranges .score)
+
+  pub score-most : row t i .score ≤ 9999
+  unfolding within
+  score-most =
+      let high = and-out (leZ (pos 0) (num t i 1)) (leZ (num t i 1) (pos 9999)) (ranges .score) .1 in
+      leb-true (row t i .score) 9999 (subst (λ x. leZ x (pos 9999) ≡ true) (sym score-kept) high)
+
+  -- by a weight up to 9
+  pub weighted-most : (weight : ℕ) → weight ≤ 9 → weighted weight (row t i) ≤ 89991
+  unfolding weighted
+  weighted-most weight k = mul-le-mul k score-most
+
+-- rows of a part are those of its table
+module _ (t : List ℤ) (a n i : ℕ) (h : i < n) where
+  pub num-part : (j : ℕ) → j < 4 → num (part t a n) i j ≡ num t (a + i) j
+  num-part j k =
+      let e : 4 * a + (4 * i + j) ≡ 4 * (a + i) + j = omega arith in
+      getD-take (4 * n) (drop (4 * a) t) (4 * i + j) (pos 0) (omega arith)
+      ∙ getD-drop (4 * a) t (4 * i + j) (pos 0)
+      ∙ ap (λ m. getD t m (pos 0)) e
+
+  pub row-part : row (part t a n) i ≡ row t (a + i)
+  unfolding row
+  row-part =
+      λ k.
+      record {
+        pattern = natOf (num-part 0 (lit≤ tt) k);
+        score = natOf (num-part 1 (lit≤ tt) k);
+        shade = record { a = num-part 2 (lit≤ tt) k; b = num-part 3 (lit≤ tt) k };
+      }
+
+  pub range-part : rowInRange (part t a n) i ≡ rowInRange t (a + i)
+  unfolding rowInRange
+  range-part =
+      λ k.
+      inRange (num-part 0 (lit≤ tt) k) (num-part 1 (lit≤ tt) k) (num-part 2 (lit≤ tt) k) (num-part 3 (lit≤ tt) k)
 
 -- ---- 6 and 7: rows
 

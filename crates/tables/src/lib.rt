@@ -5,7 +5,7 @@ ghost use mathlib.Core.List.{[], _∷_};
 ghost use Prim.Native.Nat.{_+_, _*_, _≤_, _<_, _^_};
 ghost use lib.Dec.{eqb};
 ghost use lib.ListN.{length};
-ghost use Rattle.rules.specs.Tables.{mostRows, inRange, rowInRange, rowInOrder, natOf, row};
+ghost use Rattle.rules.specs.Tables.{mostRows, inRange, rowInRange, rowInOrder, natOf, row, weighted};
 ghost use Rattle.rules.specs.Numbers.{unless, first};
 ghost use Rattle.rules.specs.Calls.{rowCode, rowsCode};
 
@@ -74,6 +74,15 @@ pub fn score(t: &[i32], i: usize) -> u32
     ensures { λ r. ⌜ (r ≡ row (now (t .entry)) i .score) × (r < 2 ^ 31) ⌝ }
 {
     natural(t[4 * i + 1])
+}
+
+// A weight times the score of row i + 1, for every weight and every row: the sum of two such fits 64 bits.
+pub fn weighted(weight: u32, t: &[i32], i: usize) -> u64
+    requires { ⌜ 4 * i + 4 ≤ length (now t) ⌝ }
+    ensures { λ r. ⌜ (r ≡ weighted weight (row (now (t .entry)) i)) × (r ≤ 4294967295 * 2147483647) ⌝ }
+{
+    let score = score(t, i);
+    weight as u64 * score as u64
 }
 
 // The shade of row i + 1.

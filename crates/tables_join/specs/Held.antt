@@ -58,7 +58,7 @@ lowest-least p (x ∷ y ∷ l) m =
     ⊎-elim (λ e. omega (arith, ap (λ p. p .sum) e)) (λ k. omega (arith, lowest-least p (y ∷ l) k))
     (List·Memᴰ·cases-cons m)
 
-held-holding : (s : Session) (l : List Pair) → heldPairs (holding s l) ≡ l
+pub held-holding : (s : Session) (l : List Pair) → heldPairs (holding s l) ≡ l
 unfolding holding places
 held-holding s l = take-append-seam l (replicate (64 - length l) noPair)
 
@@ -176,7 +176,7 @@ module _ (field : Bool) (f t : List ℤ) (g : legal f ≡ true) (h : legal t ≡
   unfolding meetBlocksBy
   block-holds n j =
       meet-holds (after n) (cond field x y) (cond field y x) (Joined low) (Joined (min (suc n * size) c))
-      (New (n * size) high) out j inside (between-low field (s .query) f t a b (n * size) high g h) new more
+      (New (n * size) high) out j inside under new more
     where
       low : ℕ
       low = min (n * size) c
@@ -194,6 +194,16 @@ module _ (field : Bool) (f t : List ℤ) (g : legal f ≡ true) (h : legal t ≡
           (λ q. List·Memᴰ p (qualifying (terms q) (cond field x y) (cond field y x)) ↔ New (n * size) high p)
           (sym (blocks-keep field s x (cond field t f) c n .query))
           (mem-between field (s .query) f t a b (n * size) high hb (omega arith) p)
+
+      under : (p : Pair) → New (n * size) high p → p .sum ≤ firstScores (after n) (cond field x y) (cond field y x)
+      under p m =
+          subst
+          (λ q.
+          p .sum
+          ≤ firstScore (terms q .field) (cond field x y .rows)
+          + firstScore (terms q .trim) (cond field y x .rows))
+          (sym (blocks-keep field s x (cond field t f) c n .query))
+          (between-low field (s .query) f t a b (n * size) high g h p m)
 
       new : (p : Pair) → New (n * size) high p → Joined low p → ⊥
       new p m (inl r) = omega (arith, m .own-part, old p r)

@@ -6,21 +6,20 @@ use mathlib.Core.List.{List, map, List·Memᴰ, Memᴰ·cast, Memᴰ·map, Mem�
 use mathlib.Core.Logic.{_↔_, inl}
 use Prim.Native.Nat.{ℕ, _-_, _≤_, _<_, _+_, _*_}
 use native.Mathlib.Omega.{arith}
-use lib.Dec.{lit≤}
-use lib.IntN.{ℤ, pos}
-use lib.ListN.{getD, drop, length-take, length-drop}
-use lib.Seq.{getD-take, getD-drop}
+use lib.IntN.{ℤ}
+use lib.ListN.{length-take, length-drop}
 use Rattle.lists.specs.Lists.{keep, range, each}
 use Rattle.lists.specs.Words.{Distinct}
 use Rattle.lists.specs.Parts.{mem-range, range-distinct, mem-keep, keep-distinct, mem-each, each-distinct, map-distinct}
 use Rattle.join.specs.Held.{Rank}
 use Rattle.rules.specs.declared.Pair.{Pair}
 use Rattle.rules.specs.declared.Query.{Query}
-use Rattle.rules.specs.Tables.{rowCount, row, Row, terms, pairSum, num, legal, natOf, part, ahead, Block, pairAt}
+use Rattle.rules.specs.Tables.{rowCount, row, Row, terms, pairSum, legal, part, ahead, Block, pairAt}
 use Rattle.rules.specs.Tables.{qualifying}
 use Rattle.rules.specs.Session.{firstScore}
 use Rattle.rules.specs.Read.{rowsBetween}
 use Rattle.rules.specs.Ranking.{Before, before-ahead, ahead-trans, ahead-asym, ahead-tri}
+use Rattle.session_laws.specs.Tables.{row-part}
 use Rattle.tables_join.specs.Rows.{near, field-up, trim-up, scores-fall}
 
 -- rows of the tables that qualify, with their own sum
@@ -63,23 +62,6 @@ pair-rank = record {
 -- ---- Parts of a table
 
 module _ (t : List ℤ) (a n : ℕ) where
-  num-part : (i j : ℕ) → i < n → j < 4 → num (part t a n) i j ≡ num t (a + i) j
-  num-part i j h k =
-      let e : 4 * a + (4 * i + j) ≡ 4 * (a + i) + j = omega arith in
-      getD-take (4 * n) (drop (4 * a) t) (4 * i + j) (pos 0) (omega arith)
-      ∙ getD-drop (4 * a) t (4 * i + j) (pos 0)
-      ∙ ap (λ m. getD t m (pos 0)) e
-
-  row-part : (i : ℕ) → i < n → row (part t a n) i ≡ row t (a + i)
-  unfolding row
-  row-part i h =
-      λ k.
-      record {
-        pattern = natOf (num-part i 0 h (lit≤ tt) k);
-        score = natOf (num-part i 1 h (lit≤ tt) k);
-        shade = record { a = num-part i 2 h (lit≤ tt) k; b = num-part i 3 h (lit≤ tt) k };
-      }
-
   count-part : a + n ≤ rowCount t → rowCount (part t a n) ≡ n
   count-part h = rw (length-take, length-drop) (omega arith)
 
@@ -89,7 +71,7 @@ module _ (t : List ℤ) (a n : ℕ) where
   first-part : 1 ≤ n → row (part t a n) 0 ≡ row t a
   first-part h =
       let zero-right : a + 0 ≡ a = omega arith in
-      row-part 0 (omega arith) ∙ ap (row t) zero-right
+      row-part t a n 0 (omega arith) ∙ ap (row t) zero-right
 
 -- ---- The qualifying pairs
 

@@ -25,12 +25,11 @@ use Rattle.rules.specs.Session.{heldPairs, opened, bothReadOut, aTableIsEmpty, 
 use Rattle.rules.specs.Read.{readTo, newDepth, readTableBy, readTable, readBlock}
 use Rattle.rules.specs.Take.{firstHeld, movedOut, finished}
 use Rattle.rules.specs.Calls.{queryCode, pairFits, recordFits}
-use Rattle.session_laws.specs.Tables.{legal-out}
+use Rattle.session_laws.specs.Tables.{weighted-most, legal-out}
 use Rattle.session_laws.specs.Record.{query-out, pair-in, record-in}
 use Rattle.session_laws.specs.Read.{new-grows, new-within, own-within, Kept, metAll, met-all-keeps, depths, read-deeper}
 use Rattle.session_laws.specs.Take.{held-first}
 use Rattle.session_laws.specs.Sound.{Sound, sound-read, sound-take}
-use Rattle.tables_join.specs.Rows.{score-most}
 use Rattle.tables_join.specs.Pairs.{QualifyingPair, ownRow, Between, Region, pair-rank, region-between}
 use Rattle.tables_join.specs.Pairs.{region-read}
 use Rattle.tables_join.specs.Held.{Keeping, keeping-same, all-blocks-hold}
@@ -285,11 +284,14 @@ module _ {q : Query} {f t : List ℤ} {out : List Pair} {s : Session} (a : Reach
         field-row = (m .fits .field-row .0, m .own-part .1);
         trim-row = (m .fits .trim-row .0, m .other-part .1);
         low-sum =
+            let light = query-out q (a .accepted) in
+            let first = legal-out f x .rows (p .field - 1) (omega (arith, m .fits .field-row)) .range in
+            let second = legal-out t y .rows (p .trim - 1) (omega (arith, m .fits .trim-row)) .range in
             omega (
               arith,
               m .fits .own-sum,
-              score-most f x (p .field - 1) (omega (arith, m .fits .field-row)),
-              score-most t y (p .trim - 1) (omega (arith, m .fits .trim-row)),
+              weighted-most f (p .field - 1) first (q .weights .field .0) (light .field-weight .1),
+              weighted-most t (p .trim - 1) second (q .weights .trim .0) (light .trim-weight .1),
             );
       })
 

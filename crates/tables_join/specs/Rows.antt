@@ -6,7 +6,8 @@ use mathlib.Core.List.{List, [], _∷_, map}
 use mathlib.Core.Logic.{⊎-elim}
 use Prim.Native.Nat.{ℕ, zero, suc, _+_, _*_, _-_, _/_, _%_, _≤_, _<_}
 use native.Mathlib.Omega.{arith}
-use native.Mathlib.Decide.{le-ind}
+use native.Mathlib.Decide.{le-ind, decLe}
+use native.Mathlib.Nat.{mul-le-mul-left, mul-suc}
 use lib.Dec.{eqb, lit≤}
 use lib.IntN.{ℤ, pos, negsuc}
 use lib.Signed.{leZ}
@@ -20,12 +21,13 @@ use Rattle.join.specs.Join.{Side, Laws, flip}
 use Rattle.join.specs.Plain.{Rows, plain, PlainLegal, Matches}
 use Rattle.join.specs.PlainLaws.{plain-laws}
 use Rattle.rules.specs.Tables.{mostRows, rowCount, inRange, Row, row, qualifies, num, within, rowInRange, rowInOrder}
-use Rattle.rules.specs.Tables.{terms}
+use Rattle.rules.specs.Tables.{weighted, terms}
 use Rattle.rules.specs.Tables.{legal}
 use Rattle.rules.specs.Tables.{natOf, gap, squaredDistance}
 use Rattle.rules.specs.declared.Query.{Query}
 use Rattle.rules.specs.Calls.{queryCode}
-use Rattle.session_laws.specs.Tables.{range-out, range-in, legal-out, legal-in}
+use Rattle.session_laws.specs.Record.{query-out}
+use Rattle.session_laws.specs.Tables.{pattern-kept, score-kept, range-out, range-in, legal-out, legal-in}
 
 -- ---- Definitions
 
@@ -68,21 +70,43 @@ flat (x ∷ l) = pos (x .pattern) ∷ pos (x .score) ∷ x .shade .a ∷ x .shad
 
 -- ---- What rows weigh
 
+weighted-up : (weight : ℕ) (x y : Row) → x .score ≤ y .score → weighted weight x ≤ weighted weight y
+unfolding weighted
+weighted-up weight x y h = mul-le-mul-left weight h
+
+weighted-down : (weight : ℕ) (x y : Row) → 1 ≤ weight → weighted weight x ≤ weighted weight y → x .score ≤ y .score
+unfolding weighted
+weighted-down weight x y some h = go (decLe (x .score) (y .score))
+  where
+    go : Dec (x .score ≤ y .score) → x .score ≤ y .score
+    go (yes k) = k
+    go (no k) =
+        let more : suc (y .score) ≤ x .score = omega arith in
+        absurd (omega (arith, mul-le-mul-left weight more, mul-suc weight (y .score)))
+
 -- in any query's terms, no more than a row of a higher score
 module _ (query : Query) (x y : Row) (h : x .score ≤ y .score) where
   pub field-up : terms query .field x ≤ terms query .field y
-  field-up = h
+  field-up = weighted-up (query .weights .field .0) x y h
 
   pub trim-up : terms query .trim x ≤ terms query .trim y
-  trim-up = h
+  trim-up = weighted-up (query .weights .trim .0) x y h
 
 -- in those of an accepted one, less than it
 module _ (query : Query) (accepted : queryCode query ≡ 0) where
   pub field-rises : Rises (terms query .field)
-  field-rises = record { up = field-up query; down = λ x y h. h }
+  field-rises =
+      record {
+        up = field-up query;
+        down = λ x y h. weighted-down (query .weights .field .0) x y (query-out query accepted .field-weight .0) h;
+      }
 
   pub trim-rises : Rises (terms query .trim)
-  trim-rises = record { up = trim-up query; down = λ x y h. h }
+  trim-rises =
+      record {
+        up = trim-up query;
+        down = λ x y h. weighted-down (query .weights .trim .0) x y (query-out query accepted .trim-weight .0) h;
+      }
 
 -- ---- Their laws
 
@@ -94,37 +118,16 @@ pub rows-at : (t : List ℤ) (i : ℕ) → i < rowCount t → getD (rowsOf t) i 
 unfolding rowsOf
 rows-at t i h = map-range-at (row t) 0 (rowCount t) i blankRow h ∙ ap (row t) (omega arith)
 
--- a number that is not below 0
-pos-nat : (low n : ℕ) (x : ℤ) → within (pos low) (pos n) x ≡ true → pos (natOf x) ≡ x
-unfolding within
-pos-nat low n (pos m) h = refl
-pos-nat low n (negsuc m) h = clash h refl
-
 module _ (t : List ℤ) (i : ℕ) (h : rowInRange t i ≡ true) where
-  pattern-kept : pos (row t i .pattern) ≡ num t i 0
-  unfolding rowInRange row
-  pattern-kept = pos-nat 1 999999 (num t i 0) (range-out (num t i 0) (num t i 1) (num t i 2) (num t i 3) h .pattern)
-
-  score-kept : pos (row t i .score) ≡ num t i 1
-  unfolding rowInRange row
-  score-kept = pos-nat 0 9999 (num t i 1) (range-out (num t i 0) (num t i 1) (num t i 2) (num t i 3) h .score)
-
   row-good : GoodRow (row t i)
   unfolding rowInRange row
   row-good =
-      subst (λ p. inRange p (pos (natOf (num t i 1))) (num t i 2) (num t i 3) ≡ true) (sym pattern-kept)
-      (subst (λ s. inRange (num t i 0) s (num t i 2) (num t i 3) ≡ true) (sym score-kept) h)
+      subst (λ p. inRange p (pos (natOf (num t i 1))) (num t i 2) (num t i 3) ≡ true) (sym (pattern-kept t i h))
+      (subst (λ s. inRange (num t i 0) s (num t i 2) (num t i 3) ≡ true) (sym (score-kept t i h)) h)
 
 module _ (t : List ℤ) (g : legal t ≡ true) where
   in-range : (i : ℕ) → i < rowCount t → rowInRange t i ≡ true
   in-range i h = legal-out t g .rows i h .range
-
-  pub score-most : (i : ℕ) → i < rowCount t → row t i .score ≤ 9999
-  unfolding rowInRange within
-  score-most i h =
-      let score = range-out (num t i 0) (num t i 1) (num t i 2) (num t i 3) (in-range i h) .score in
-      let high = and-out (leZ (pos 0) (num t i 1)) (leZ (num t i 1) (pos 9999)) score .1 in
-      leb-true (row t i .score) 9999 (subst (λ x. leZ x (pos 9999) ≡ true) (sym (score-kept t i (in-range i h))) high)
 
   -- scores fall down a legal table
   score-falls : (i : ℕ) → suc i < rowCount t → row t (suc i) .score ≤ row t i .score

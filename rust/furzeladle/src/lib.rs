@@ -6,7 +6,9 @@
 //! The boundary asks for pointers that are not null and for written slices that overlap nothing: references are both.
 use std::fmt;
 
+mod asked;
 mod query;
+pub use asked::{Asked, FieldWeight, Query, TrimWeight};
 pub use query::{list, listing, List, Listed};
 
 mod exported {
@@ -82,6 +84,7 @@ impl Refusal {
             9 => "bad column",
             10 => "kind",
             11 => "short slice",
+            12 => "weight",
             _ => "no refusal",
         }
     }
@@ -100,6 +103,7 @@ impl Refusal {
             9 => "a number or line feed not formed as it should be",
             10 => "not the kind of file that is wanted here",
             11 => "fewer numbers lent than are to be written",
+            12 => "a weight outside 1 to 9",
             _ => "nothing is refused",
         }
     }
@@ -151,15 +155,7 @@ pub fn load(bytes: &[u8], kind: i32, out: &mut [i32]) -> Result<u32, Refusal> {
     u32::try_from(answer).map_err(|_| Refusal::of(answer))
 }
 
-/// List length (1 to 64), block size in rows (1 to 1,024), radius (0 to 40,000).
-#[derive(Clone, Copy, Debug, PartialEq, Eq, Hash)]
-pub struct Query {
-    pub k: u32,
-    pub block: u32,
-    pub radius: u32,
-}
-
-/// A field row and a trim row, numbered from 1, and their sum.
+/// A field row and a trim row, numbered from 1, and their sum: each row's score times its table's weight, added.
 #[derive(Clone, Copy, Debug, PartialEq, Eq, Hash)]
 pub struct Pair {
     pub sum: u32,
@@ -188,7 +184,7 @@ pub enum Taken {
 }
 
 /// How many numbers a record is; include/furzeladle.h has their order.
-pub const RECORD_SIZE: usize = 204;
+pub const RECORD_SIZE: usize = 206;
 
 /// A join session: its record, laid out flat. It lends its tables from call to call, always the same two.
 #[derive(Clone, Debug, PartialEq, Eq)]
@@ -197,16 +193,21 @@ pub struct Session {
 }
 
 impl Session {
-    /// Opens a session over two tables. Refused by 1, 2, 3 or 4.
-    pub fn open(query: Query, field: &[i32], trim: &[i32]) -> Result<Session, Refusal> {
+    /// Opens a session over two tables: of a query, or of a query and its weights. Refused by 1, 2, 3, 12 or 4.
+    pub fn open(asked: impl Into<Asked>, field: &[i32], trim: &[i32]) -> Result<Session, Refusal> {
         let mut session = Session::from_record([0; RECORD_SIZE]);
-        session.reopen(query, field, trim)?;
+        session.reopen(asked, field, trim)?;
         Ok(session)
     }
 
-    /// Opens it anew, over these tables. Refused by 1, 2, 3 or 4: the session is as it was.
-    pub fn reopen(&mut self, query: Query, field: &[i32], trim: &[i32]) -> Result<(), Refusal> {
-        let numbers = [query.k, query.block, query.radius];
+    /// Opens it anew, over these tables. Refused by 1, 2, 3, 12 or 4: the session is as it was.
+    pub fn reopen(
+        &mut self,
+        asked: impl Into<Asked>,
+        field: &[i32],
+        trim: &[i32],
+    ) -> Result<(), Refusal> {
+        let numbers = asked.into().numbers();
         let answer = unsafe {
             exported::furzeladle_open(
                 numbers.as_ptr(),

@@ -1,5 +1,5 @@
 //! One whole query over two tables: opened, read until settled, taken until finished.
-use crate::{Pair, Query, Refusal};
+use crate::{Asked, Pair, Refusal};
 
 mod exported {
     extern "C" {
@@ -75,15 +75,15 @@ type Export<T> = unsafe extern "C" fn(
     usize,
 ) -> i32;
 
-/// What an export answers that is lent a query, two tables and room.
+/// What an export answers that is lent a query's numbers, two tables and room.
 fn ask<T>(
     export: Export<T>,
-    query: Query,
+    asked: impl Into<Asked>,
     field: &[i32],
     trim: &[i32],
     out: &mut [T],
 ) -> Result<usize, Refusal> {
-    let numbers = [query.k, query.block, query.radius];
+    let numbers = asked.into().numbers();
     let answer = unsafe {
         export(
             numbers.as_ptr(),
@@ -99,10 +99,10 @@ fn ask<T>(
     usize::try_from(answer).map_err(|_| Refusal::of(answer))
 }
 
-/// The list of a query. Refused by 1, 2, 3, 4, or by 6 or 7 of a row that was read.
-pub fn list(query: Query, field: &[i32], trim: &[i32]) -> Result<List, Refusal> {
+/// The list of a query, or of a query and its weights. Refused by 1, 2, 3, 12, 4, or by 6 or 7 of a row that was read.
+pub fn list(asked: impl Into<Asked>, field: &[i32], trim: &[i32]) -> Result<List, Refusal> {
     let mut out = [0; QUERY_SIZE];
-    let count = ask(exported::furzeladle_query, query, field, trim, &mut out)?;
+    let count = ask(exported::furzeladle_query, asked, field, trim, &mut out)?;
     Ok(List {
         pairs: out[3..].chunks(6).take(count).map(Listed::of).collect(),
         depths: (out[0] as u32, out[1] as u32),
@@ -110,10 +110,10 @@ pub fn list(query: Query, field: &[i32], trim: &[i32]) -> Result<List, Refusal> 
     })
 }
 
-/// The same list as bytes, as the pairing program prints it. Refused as `list` is.
-pub fn listing(query: Query, field: &[i32], trim: &[i32]) -> Result<Vec<u8>, Refusal> {
+/// The same list as bytes, as the pairing program prints it, the weights left out. Refused as `list` is.
+pub fn listing(asked: impl Into<Asked>, field: &[i32], trim: &[i32]) -> Result<Vec<u8>, Refusal> {
     let mut out = vec![0; LISTING_SIZE];
-    let count = ask(exported::furzeladle_listing, query, field, trim, &mut out)?;
+    let count = ask(exported::furzeladle_listing, asked, field, trim, &mut out)?;
     out.truncate(count);
     Ok(out)
 }

@@ -1,5 +1,5 @@
-//! Seeded tables: ties, plateaus, zero scores, empty tables, extreme shades.
-use furzeladle::Query;
+//! Seeded tables: ties, plateaus, zero scores, empty tables, extreme shades. Seeded queries, weighted and not.
+use furzeladle::{Asked, FieldWeight, Query, TrimWeight};
 
 /// A small generator, always the same numbers from the same seed.
 pub struct Dice(u64);
@@ -84,5 +84,27 @@ pub fn query(dice: &mut Dice) -> Query {
         k: dice.pick(&[1, 1, 2, 3, 5, 8, 17, 64]),
         block: dice.pick(&[1, 1, 2, 3, 4, 7, 16, 1_024]),
         radius: dice.pick(&[0, 1, 2, 5, 13, 40, 25_500, 40_000]),
+    }
+}
+
+/// A query in range and its weights: often 1 and 1, often 9 and 9, else small ones, which tie more, or any.
+pub fn asked(dice: &mut Dice) -> Asked {
+    let query = query(dice);
+    let [field, trim] = match dice.below(8) {
+        0..=2 => [1, 1],
+        3 | 4 => [9, 9],
+        5 | 6 => [(); 2].map(|()| 1 + dice.below(3)),
+        _ => [(); 2].map(|()| 1 + dice.below(9)),
+    };
+    query.weights(FieldWeight(field), TrimWeight(trim))
+}
+
+/// Scores times the other table's weight, where that is legal: sums that would tie without weights tie with them, and
+/// others of the new scores no longer do.
+pub fn tie_by_weights(asked: Asked, field: &mut [i32], trim: &mut [i32]) {
+    for (t, weight) in [(field, asked.trim_weight.0), (trim, asked.field_weight.0)] {
+        if t.get(1).is_some_and(|top| top * weight as i32 <= 9_999) {
+            t.chunks_mut(4).for_each(|row| row[1] *= weight as i32);
+        }
     }
 }

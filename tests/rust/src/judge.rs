@@ -1,6 +1,6 @@
 //! What demand 3 asks of a whole session, judged by the plain double loop over both tables.
 use crate::model::qualifies;
-use furzeladle::{Pair, Query};
+use furzeladle::{Asked, Pair};
 use std::collections::HashSet;
 
 /// What is wrong with a session.
@@ -24,7 +24,7 @@ pub struct Session {
 }
 
 pub struct Tables<'a> {
-    pub query: Query,
+    pub asked: Asked,
     pub field: &'a [i32],
     pub trim: &'a [i32],
 }
@@ -34,13 +34,18 @@ impl Tables<'_> {
         t.chunks(4)
     }
 
+    /// The weighted sum of a field score and a trim score.
+    fn sum(&self, field: i32, trim: i32) -> u32 {
+        self.asked.field_weight.0 * field as u32 + self.asked.trim_weight.0 * trim as u32
+    }
+
     /// All qualifying pairs of the first p field rows and q trim rows, highest sum first.
     pub fn pairs(&self, p: usize, q: usize) -> Vec<Pair> {
         let mut all = Vec::new();
         for (i, x) in Self::rows(self.field).take(p).enumerate() {
             for (j, y) in Self::rows(self.trim).take(q).enumerate() {
-                if qualifies(self.query.radius, x, y) {
-                    let sum = (x[1] + y[1]) as u32;
+                if qualifies(self.asked.query.radius, x, y) {
+                    let sum = self.sum(x[1], y[1]);
                     all.push(Pair { sum, field: i as u32 + 1, trim: j as u32 + 1 });
                 }
             }
@@ -62,12 +67,12 @@ impl Tables<'_> {
         if p == 0 || q == 0 {
             return false;
         }
-        let score = |t: &[i32], i: usize| t[4 * i + 1] as u32;
-        let trim_part = if q < n { score(self.field, 0) + score(self.trim, q - 1) } else { 0 };
-        let field_part = if p < m { score(self.field, p - 1) + score(self.trim, 0) } else { 0 };
+        let unread = |i: usize, j: usize| self.sum(self.field[4 * i + 1], self.trim[4 * j + 1]);
+        let trim_part = if q < n { unread(0, q - 1) } else { 0 };
+        let field_part = if p < m { unread(p - 1, 0) } else { 0 };
         let ceiling = trim_part.max(field_part);
         let secured = self.pairs(p, q).iter().filter(|pair| pair.sum >= ceiling).count();
-        secured >= self.query.k as usize
+        secured >= self.asked.query.k as usize
     }
 
     /// The least max(p, q) of a sure reading: more rows keep a reading sure.
@@ -78,7 +83,7 @@ impl Tables<'_> {
 
     /// The row limit against a sure reading of that max(p, q).
     pub fn limit(&self, sure: usize) -> u32 {
-        sure as u32 + self.query.block - 1
+        sure as u32 + self.asked.query.block - 1
     }
 
     /// The first fault of a session, if it has one.
@@ -92,10 +97,10 @@ impl Tables<'_> {
                 return Some(Fault::NoSuchRow);
             }
             let (x, y) = (&self.field[4 * i - 4..4 * i], &self.trim[4 * j - 4..4 * j]);
-            if !qualifies(self.query.radius, x, y) {
+            if !qualifies(self.asked.query.radius, x, y) {
                 return Some(Fault::FarApart);
             }
-            if pair.sum != (x[1] + y[1]) as u32 {
+            if pair.sum != self.sum(x[1], y[1]) {
                 return Some(Fault::WrongSum);
             }
             if !out.insert((i, j)) {
@@ -106,7 +111,7 @@ impl Tables<'_> {
                 return Some(Fault::BetterLeft);
             }
         }
-        if session.finished && out.len() < all.len().min(self.query.k as usize) {
+        if session.finished && out.len() < all.len().min(self.asked.query.k as usize) {
             return Some(Fault::FinishedEarly);
         }
         if session.depth.0 > limit || session.depth.1 > limit {

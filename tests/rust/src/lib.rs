@@ -1,6 +1,7 @@
 //! libfurzeladle.a beside readers of the strict file and a model of the session that share nothing with it.
 pub mod cases;
 pub mod judge;
+pub mod lent;
 pub mod model;
 pub mod plain;
 pub mod spelled;

@@ -1,13 +1,16 @@
 //! The rules' session, step by step, from their words alone: plain Rust that shares nothing with the library.
-use furzeladle::{Pair, Query};
+use furzeladle::{Asked, Pair, Query};
 
 pub const PLACES: usize = 64;
+/// How many numbers a flat record is.
+pub const NUMBERS: usize = 206;
 
 /// The record, with the numbers as they come in: any.
 #[derive(Clone, Debug, PartialEq, Eq)]
 pub struct Record {
     pub query: Query,
     /// Of the field table, then of the trim table.
+    pub weight: [u32; 2],
     pub rows: [u32; 2],
     pub depth: [u32; 2],
     pub last: u32,
@@ -39,6 +42,7 @@ impl Record {
         }
         Record {
             query: Query { k: l[0], block: l[1], radius: l[2] },
+            weight: [l[204], l[205]],
             rows: [l[3], l[4]],
             depth: [l[5], l[6]],
             last: l[7],
@@ -56,6 +60,7 @@ impl Record {
         for p in self.places {
             l.extend([p.sum, p.field, p.trim]);
         }
+        l.extend(self.weight);
         l
     }
 
@@ -75,6 +80,11 @@ impl Record {
 
     fn has_empty_table(&self) -> bool {
         self.rows.contains(&0)
+    }
+
+    /// What row i of a table adds to a sum.
+    fn worth(&self, tables: [&[i32]; 2], table: usize, i: u32) -> u32 {
+        self.weight[table] * score(tables[table], i)
     }
 }
 
@@ -97,13 +107,15 @@ pub fn rank(p: &Pair) -> (std::cmp::Reverse<u32>, u32, u32) {
     (std::cmp::Reverse(p.sum), p.field, p.trim)
 }
 
-fn query_refused(q: Query) -> u32 {
+fn query_refused(q: Query, weight: [u32; 2]) -> u32 {
     if !(1..=64).contains(&q.k) {
         1
     } else if !(1..=1024).contains(&q.block) {
         2
     } else if q.radius > 40_000 {
         3
+    } else if !weight.iter().all(|w| (1..=9).contains(w)) {
+        12
     } else {
         0
     }
@@ -119,7 +131,7 @@ fn blocks(block: u32, depth: u32) -> u64 {
 
 /// Whether 5 does not refuse it.
 pub fn record_fits(r: &Record) -> bool {
-    if query_refused(r.query) != 0 {
+    if query_refused(r.query, r.weight) != 0 {
         return false;
     }
     for table in 0..2 {
@@ -133,7 +145,7 @@ pub fn record_fits(r: &Record) -> bool {
     }
     let held = r.pairs();
     let pair_fits = |p: &Pair| {
-        (1..=r.depth[0]).contains(&p.field) && (1..=r.depth[1]).contains(&p.trim) && p.sum <= 19_998
+        (1..=r.depth[0]).contains(&p.field) && (1..=r.depth[1]).contains(&p.trim) && p.sum <= 179_982
     };
     let mark_fits = match r.last {
         0 => r.depth == [0, 0],
@@ -195,7 +207,7 @@ fn call_refused(tables: [&[i32]; 2], r: &Record) -> u32 {
 /// The ceiling; none where neither table has unread rows.
 fn ceiling(tables: [&[i32]; 2], r: &Record) -> Option<u32> {
     let part = |table: usize| {
-        (!r.read_out(table)).then(|| score(tables[1 - table], 1) + score(tables[table], r.depth[table]))
+        (!r.read_out(table)).then(|| r.worth(tables, 1 - table, 1) + r.worth(tables, table, r.depth[table]))
     };
     part(0).max(part(1))
 }
@@ -227,7 +239,7 @@ fn next_table(tables: [&[i32]; 2], r: &Record) -> usize {
     if r.read_out(0) {
         return 1;
     }
-    let fall = |t: usize| score(tables[t], 1) - score(tables[t], r.depth[t]);
+    let fall = |t: usize| r.worth(tables, t, 1) - r.worth(tables, t, r.depth[t]);
     match (fall(0), fall(1)) {
         (x, y) if x < y => 0,
         (x, y) if x > y => 1,
@@ -235,16 +247,19 @@ fn next_table(tables: [&[i32]; 2], r: &Record) -> usize {
     }
 }
 
-pub fn open(query: Query, f: &[i32], t: &[i32]) -> (Said, Record) {
-    let mut code = query_refused(query);
+pub fn open(asked: impl Into<Asked>, f: &[i32], t: &[i32]) -> (Said, Record) {
+    let asked = asked.into();
+    let weight = [asked.field_weight.0, asked.trim_weight.0];
+    let mut code = query_refused(asked.query, weight);
     if code == 0 && !(size_fits(f) && size_fits(t)) {
         code = 4;
     }
-    let mut record = Record::of(&[0; 204]);
+    let mut record = Record::of(&[0; NUMBERS]);
     if code != 0 {
         return (Said::Refused(code), record);
     }
-    record.query = query;
+    record.query = asked.query;
+    record.weight = weight;
     record.rows = [(f.len() / 4) as u32, (t.len() / 4) as u32];
     (Said::Opened, record)
 }
@@ -270,7 +285,7 @@ pub fn read(f: &[i32], t: &[i32], r: &mut Record) -> Said {
     let mut start = 0;
     while start < r.depth[old] {
         let end = (start + block).min(r.depth[old]);
-        let first = score(tables[new], from + 1) + score(tables[old], start + 1);
+        let first = r.worth(tables, new, from + 1) + r.worth(tables, old, start + 1);
         let lowest = r.pairs().iter().map(|p| p.sum).min();
         let full = r.out + r.held == r.query.k;
         if !(full && lowest.is_some_and(|low| first < low)) {
@@ -279,7 +294,8 @@ pub fn read(f: &[i32], t: &[i32], r: &mut Record) -> Said {
                 for j in start + 1..=end {
                     let (x, y) = if new == 0 { (i, j) } else { (j, i) };
                     if qualifies(r.query.radius, row(f, x), row(t, y)) {
-                        met.push(Pair { sum: score(f, x) + score(t, y), field: x, trim: y });
+                        let sum = r.worth(tables, 0, x) + r.worth(tables, 1, y);
+                        met.push(Pair { sum, field: x, trim: y });
                     }
                 }
             }

@@ -1,6 +1,7 @@
 //! The whole query beside the model: its list, depths and joined count, its refusals, and the listing's lines.
-use furzeladle::{list, listing, List, Listed, Query, Refusal};
-use furzeladle_tests::cases::{query, table, Dice, Spread};
+use furzeladle::{list, listing, Asked, FieldWeight, List, Listed, Query, Refusal, TrimWeight};
+use furzeladle_tests::cases::{asked, query, table, Dice, Spread};
+use furzeladle_tests::lent::answers;
 use furzeladle_tests::model::{self, Said};
 
 const CASES: u64 = 20_000;
@@ -20,8 +21,8 @@ fn listed(f: &[i32], t: &[i32], pair: furzeladle::Pair) -> Listed {
 }
 
 /// Reads until settled, then takes until finished, by the model.
-fn modelled(query: Query, f: &[i32], t: &[i32]) -> Result<List, u32> {
-    let (said, mut record) = model::open(query, f, t);
+fn modelled(asked: Asked, f: &[i32], t: &[i32]) -> Result<List, u32> {
+    let (said, mut record) = model::open(asked, f, t);
     if let Said::Refused(number) = said {
         return Err(number);
     }
@@ -44,11 +45,13 @@ fn modelled(query: Query, f: &[i32], t: &[i32]) -> Result<List, u32> {
 }
 
 /// Now and then a query number or a table that is refused.
-fn damage(dice: &mut Dice, query: &mut Query, f: &mut Vec<i32>) {
-    match dice.below(12) {
-        0 => query.k = dice.pick(&[0, 65, u32::MAX]),
-        1 => query.block = dice.pick(&[0, 1_025, u32::MAX]),
-        2 => query.radius = dice.pick(&[40_001, u32::MAX]),
+fn damage(dice: &mut Dice, asked: &mut Asked, f: &mut Vec<i32>) {
+    match dice.below(14) {
+        0 => asked.query.k = dice.pick(&[0, 65, u32::MAX]),
+        1 => asked.query.block = dice.pick(&[0, 1_025, u32::MAX]),
+        2 => asked.query.radius = dice.pick(&[40_001, u32::MAX]),
+        6 => asked.field_weight = FieldWeight(dice.pick(&[0, 10, u32::MAX])),
+        7 => asked.trim_weight = TrimWeight(dice.pick(&[0, 10, u32::MAX])),
         3 => f.push(1),
         4 if !f.is_empty() => {
             let place = dice.below(f.len() as u32) as usize;
@@ -64,18 +67,18 @@ fn damage(dice: &mut Dice, query: &mut Query, f: &mut Vec<i32>) {
 
 #[test]
 fn whole_queries_beside_the_model() {
-    let mut refused = [0; 12];
+    let mut refused = [0; 13];
     let mut pairs = 0;
     for seed in 0..CASES {
         let mut dice = Dice::new(seed + 2_000_001);
         let (spread, longest) = (Spread::of(&mut dice), dice.pick(&[2, 12, 60]));
         let (m, n) = (dice.below(longest), dice.below(longest));
         let (mut f, t) = (table(&mut dice, m, spread), table(&mut dice, n, spread));
-        let mut query = query(&mut dice);
-        damage(&mut dice, &mut query, &mut f);
-        let found = list(query, &f, &t).map_err(|refusal| refusal.number);
-        assert_eq!(found, modelled(query, &f, &t), "seed {seed}");
-        let bytes = listing(query, &f, &t);
+        let mut asked = asked(&mut dice);
+        damage(&mut dice, &mut asked, &mut f);
+        let found = list(asked, &f, &t).map_err(|refusal| refusal.number);
+        assert_eq!(found, modelled(asked, &f, &t), "seed {seed}");
+        let bytes = listing(asked, &f, &t);
         match found {
             Ok(list) => {
                 pairs += list.pairs.len();
@@ -89,5 +92,74 @@ fn whole_queries_beside_the_model() {
         }
     }
     println!("{CASES} queries, {pairs} pairs, refusals by number {refused:?}");
-    assert!(pairs > 20_000 && [1, 2, 3, 4, 6, 7].iter().all(|n| refused[*n] > 100));
+    assert!(pairs > 20_000 && [1, 2, 3, 4, 6, 7, 12].iter().all(|n| refused[*n] > 100));
+}
+
+/// Who lends k, block and radius alone gets what weights 1 and 1 get; who lends one weight, what it and 1 get.
+#[test]
+fn weights_that_are_not_lent() {
+    for seed in 0..2_000 {
+        let mut dice = Dice::new(seed + 3_000_001);
+        let (spread, longest) = (Spread::of(&mut dice), dice.pick(&[2, 12, 40]));
+        let (m, n) = (dice.below(longest), dice.below(longest));
+        let (f, t) = (table(&mut dice, m, spread), table(&mut dice, n, spread));
+        let Query { k, block, radius } = query(&mut dice);
+        let w = dice.below(11);
+        let three = answers(&[k, block, radius], &f, &t);
+        assert_eq!(
+            three,
+            answers(&[k, block, radius, 1, 1], &f, &t),
+            "seed {seed}"
+        );
+        let four = answers(&[k, block, radius, w], &f, &t);
+        assert_eq!(
+            four,
+            answers(&[k, block, radius, w, 1], &f, &t),
+            "seed {seed}"
+        );
+        assert_eq!(four.listed.0 == -12, w == 0 || w == 10, "seed {seed}");
+    }
+}
+
+#[test]
+fn queries_of_fewer_than_three_numbers() {
+    for numbers in [&[][..], &[1], &[1, 1]] {
+        let refused = answers(numbers, &[1, 1, 0, 0], &[1, 1, 0, 0]);
+        assert_eq!(
+            (refused.opened.0, refused.listed.0, refused.printed.0),
+            (-11, -11, -11)
+        );
+    }
+}
+
+/// 3 before 12, 12 before 4 and before a row is looked at.
+#[test]
+fn the_place_of_refusal_12() {
+    let query = Query {
+        k: 1,
+        block: 1,
+        radius: 0,
+    };
+    let (bad, row) = ([0, 0, 0, 0], [1, 9_999, 0, 0]);
+    let refused =
+        |asked: Asked, f: &[i32]| list(asked, f, &row).map_err(|refusal| refusal.number).err();
+    for (field, trim) in [(0, 1), (10, 1), (1, 0), (1, 10)] {
+        let (field, trim) = (FieldWeight(field), TrimWeight(trim));
+        assert_eq!(
+            refused(
+                Query {
+                    radius: 40_001,
+                    ..query
+                }
+                .weights(field, trim),
+                &row
+            ),
+            Some(3)
+        );
+        assert_eq!(refused(query.weights(field, trim), &row[..3]), Some(12));
+        assert_eq!(refused(query.weights(field, trim), &bad), Some(12));
+    }
+    let nines = query.weights(FieldWeight(9), TrimWeight(9));
+    assert_eq!(refused(nines, &row[..3]), Some(4));
+    assert_eq!(list(nines, &row, &row).unwrap().pairs[0].pair.sum, 179_982);
 }

@@ -12,6 +12,7 @@ use borrow.Author.Tests.{not-false, eqb-true}
 use Rattle.lists.specs.Bools.{and-out}
 use Rattle.rules.specs.Tables.{terms}
 use Rattle.block.specs.Block.{at}
+use Rattle.block.specs.Small.{rows-small}
 use Rattle.block.proofs.Turns as Turns
 use Rattle.block.proofs.join.Statement.{statement}
 use Rattle.block.proofs.join.Tie as tie
@@ -35,9 +36,6 @@ row-less m n i j h =
 add-last : tie.Need-add-last Inv-loop μ-loop
 add-last c = omega arith
 
-both-small-requires : tie.Need-both-small-requires Inv-loop μ-loop
-both-small-requires c κs = search needs
-
 loop-holds : tie.Need-loop-holds Inv-loop μ-loop
 loop-holds c =
     let s = c .before in (
@@ -52,21 +50,19 @@ loop-holds c =
 
 next-near-requires : tie.Need-next-near-requires Inv-loop μ-loop
 next-near-requires c κs =
-    let small = c .before .before .both-small in
-    (omega arith, small .ensures)
+    let s = c .before .before .before in
+    let a = s .args in
+    (omega arith, rows-small (a .q) (a .a) (a .c) (a .x .now) (a .y .now) (s .pre .1 .0) (s .pre .1 .1) (s .pre .1 .2))
 
 pair-at-requires : tie.Need-pair-at-requires Inv-loop μ-loop
 pair-at-requires c κs =
     let s = c .before .before .before .before .before in
-    let h : c .before .next-near .result < length (s .args .y .now) / 4 = c .if1 .taken in
-    omega (
-      arith,
-      h,
-      c .before .before .loop-test .taken,
-      s .pre .1 .0 .whole,
-      s .pre .1 .0 .few,
-      s .pre .1 .1 .whole,
-      s .pre .1 .1 .few,
+    let x = s .pre .1 .1 in
+    let y = s .pre .1 .2 in
+    let turn = c .before .before .loop-test .taken in
+    let h : c .before .next-near .result < length (s .args .y .now) / 4 = c .if1 .taken in (
+      (s .pre .1 .0, x .range _ turn, y .range _ h),
+      omega (arith, h, turn, x .whole, x .few, y .whole, y .few),
     )
 
 key-requires : tie.Need-key-requires Inv-loop μ-loop
@@ -180,7 +176,6 @@ join-spec =
     Inv-loop
     μ-loop
     add-last
-    both-small-requires
     loop-holds
     next-near-requires
     pair-at-requires

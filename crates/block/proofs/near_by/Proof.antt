@@ -1,7 +1,6 @@
 -- `near_by` meets its contract: both tests are the rule's. Assumes nothing.
 use native.Mathlib.Omega.{arith}
 use borrow.Author.Needs.{needs}
-use borrow.Author.Tests.{not-false}
 use Rattle.block.proofs.near_by.Statement.{statement}
 use Rattle.block.proofs.near_by.Tie as tie
 
@@ -20,7 +19,7 @@ shade-requires-2 c κs = search needs
 near-small-requires : tie.Need-near-small-requires
 near-small-requires c κs =
     let s = c .before .before .before in
-    let k = s .pre .1 (not-false (s .args .small) (c .before .before .if1 .left)) in (
+    let k = s .pre .1 in (
       rw (c .before .shade .ensures) (k .first (s .args .i) (omega arith)),
       rw (c .shade2 .ensures) (k .second (s .args .j) (omega arith)),
       k .within,

@@ -16,6 +16,9 @@ returns c =
 threshold-requires : tie.Need-threshold-requires
 threshold-requires c κs = search needs
 
+cast-result : tie.Need-cast-result
+cast-result c = search needs
+
 returns-2 : tie.Need-returns-2
 returns-2 c =
     let s = c .before .before .before .before .before in
@@ -24,4 +27,4 @@ returns-2 c =
     (simp (out, c .before .threshold .ensures) refl)
 
 pub is-secured-spec : {M : Type 1} → statement M
-is-secured-spec = tie.close (tie.spec returns threshold-requires returns-2)
+is-secured-spec = tie.close (tie.spec returns threshold-requires cast-result returns-2)

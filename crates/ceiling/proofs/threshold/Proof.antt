@@ -4,29 +4,29 @@ use borrow.Author.Needs.{needs}
 use Rattle.ceiling.proofs.threshold.Statement.{statement}
 use Rattle.ceiling.proofs.threshold.Tie as tie
 
-score-requires : tie.Need-score-requires
-score-requires c κs = search needs
+weighted-requires : tie.Need-weighted-requires
+weighted-requires c κs = search needs
 
-cast-score : tie.Need-cast-score
-cast-score c = search needs
+cast-weighted : tie.Need-cast-weighted
+cast-weighted c = search needs
 
-sub-score : tie.Need-sub-score
-sub-score c = search needs
+sub-weighted : tie.Need-sub-weighted
+sub-weighted c = search needs
 
-score-requires-2 : tie.Need-score-requires-2
-score-requires-2 c κs = search needs
+weighted-requires-2 : tie.Need-weighted-requires-2
+weighted-requires-2 c κs = search needs
 
-cast-score-2 : tie.Need-cast-score-2
-cast-score-2 c = search needs
+cast-weighted-2 : tie.Need-cast-weighted-2
+cast-weighted-2 c = search needs
 
-sub-score-2 : tie.Need-sub-score-2
-sub-score-2 c = search needs
+sub-weighted-2 : tie.Need-sub-weighted-2
+sub-weighted-2 c = search needs
 
-score-requires-3 : tie.Need-score-requires-3
-score-requires-3 c κs = search needs
+weighted-requires-3 : tie.Need-weighted-requires-3
+weighted-requires-3 c κs = search needs
 
-score-requires-4 : tie.Need-score-requires-4
-score-requires-4 c κs = search needs
+weighted-requires-4 : tie.Need-weighted-requires-4
+weighted-requires-4 c κs = search needs
 
 add-pick : tie.Need-add-pick
 add-pick c = search needs
@@ -51,24 +51,24 @@ returns c =
       c .higher .ensures,
       c .before .pick2 .ensures,
       c .before .before .before .pick .ensures,
-      c .before .before .before .before .before .score4 .ensures .0,
-      at .before .score3 .ensures .0,
-      at .before .before .score2 .ensures .0,
-      at .before .before .before .score .ensures .0,
+      c .before .before .before .before .before .weighted4 .ensures .0,
+      at .before .weighted3 .ensures .0,
+      at .before .before .weighted2 .ensures .0,
+      at .before .before .before .weighted .ensures .0,
     )
 
 pub threshold-spec : {M : Type 1} → statement M
 threshold-spec =
     tie.close
     (tie.spec
-    score-requires
-    cast-score
-    sub-score
-    score-requires-2
-    cast-score-2
-    sub-score-2
-    score-requires-3
-    score-requires-4
+    weighted-requires
+    cast-weighted
+    sub-weighted
+    weighted-requires-2
+    cast-weighted-2
+    sub-weighted-2
+    weighted-requires-3
+    weighted-requires-4
     add-pick
     pick-requires
     add-pick-2

@@ -5,11 +5,11 @@ use borrow.Author.Needs.{needs}
 use Rattle.meeting.proofs.effect.Statement.{statement}
 use Rattle.meeting.proofs.effect.Tie as tie
 
-score-requires : tie.Need-score-requires
-score-requires c κs = search needs
+weighted-requires : tie.Need-weighted-requires
+weighted-requires c κs = search needs
 
-score-requires-2 : tie.Need-score-requires-2
-score-requires-2 c κs = search needs
+weighted-requires-2 : tie.Need-weighted-requires-2
+weighted-requires-2 c κs = search needs
 
 add-if1 : tie.Need-add-if1
 add-if1 c = search needs
@@ -19,14 +19,14 @@ returns c =
     effect-skip (c .before .before .before .args .full) (c .before .before .before .args .low)
     (c .before .before .before .args .q) (c .before .before .before .args .x .now)
     (c .before .before .before .args .y .now)
-    (simp (c .before .before .score .ensures .0, c .before .score2 .ensures .0) at (c .if1 .taken))
+    (simp (c .before .before .weighted .ensures .0, c .before .weighted2 .ensures .0) at (c .if1 .taken))
 
 returns-2 : tie.Need-returns-2
 returns-2 c =
     effect-open (c .before .before .before .before .args .full) (c .before .before .before .before .args .low)
     (c .before .before .before .before .args .q) (c .before .before .before .before .args .x .now)
     (c .before .before .before .before .args .y .now)
-    (simp (c .before .before .before .score .ensures .0, c .before .before .score2 .ensures .0) at
+    (simp (c .before .before .before .weighted .ensures .0, c .before .before .weighted2 .ensures .0) at
     (c .before .if1 .left))
 
 any-near-requires : tie.Need-any-near-requires
@@ -41,8 +41,8 @@ returns-3 c =
     (at .before .args .x .now)
     (at .before .args .y .now)
     (simp (
-      c .before .before .before .before .before .score .ensures .0,
-      c .before .before .before .before .score2 .ensures .0,
+      c .before .before .before .before .before .weighted .ensures .0,
+      c .before .before .before .before .weighted2 .ensures .0,
     ) at (c .before .before .before .if1 .left))
 
 returns-4 : tie.Need-returns-4
@@ -54,8 +54,8 @@ returns-4 c =
     (at .before .args .x .now)
     (at .before .args .y .now)
     (simp (
-      c .before .before .before .before .before .score .ensures .0,
-      c .before .before .before .before .score2 .ensures .0,
+      c .before .before .before .before .before .weighted .ensures .0,
+      c .before .before .before .before .weighted2 .ensures .0,
     ) at (c .before .before .before .if1 .left))
     (sym (c .before .any-near .ensures) ∙ c .if3 .left)
 
@@ -63,8 +63,8 @@ pub effect-spec : {M : Type 1} → statement M
 effect-spec =
     tie.close
     (tie.spec
-    score-requires
-    score-requires-2
+    weighted-requires
+    weighted-requires-2
     add-if1
     returns
     returns-2

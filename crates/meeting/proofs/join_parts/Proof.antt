@@ -1,6 +1,5 @@
 -- `join_parts` meets its contract: the parts are the blocks. Assumes nothing.
 use mathlib.Core.Path.{sym}
-use native.Mathlib.Omega.{arith}
 use Rattle.meeting.specs.Meets.{part-is, part-rows}
 use borrow.Author.Needs.{needs}
 use Rattle.meeting.proofs.join_parts.Statement.{statement}
@@ -45,15 +44,10 @@ part-join-end-2 c = search needs
 join-requires : tie.Need-join-requires
 join-requires c κs =
     let s = c .before .before .before .before .before .before .before in
-    let x = s .args .x in
-    let y = s .args .y in
-    let i = s .pre .1 .0 in
-    let j = s .pre .1 .1 in (
+    let a = s .args in
+    let fits = s .pre .1 in (
       s .pre .0,
-      (
-        part-rows (s .args .f .now) (x .from) (x .to) (omega (arith, i .some)) (i .few) (i .within),
-        part-rows (s .args .t .now) (y .from) (y .to) (omega (arith, j .some)) (j .few) (j .within),
-      ),
+      (fits .0, part-rows (a .f .now) (a .x) (fits .1), part-rows (a .t .now) (a .y) (fits .2)),
     )
 
 returns : tie.Need-returns

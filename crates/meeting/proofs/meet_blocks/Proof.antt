@@ -82,6 +82,7 @@ old-inside c =
       some = omega (arith, begins (c .before), c .lesser .ensures, least);
       few = omega (arith, c .lesser .ensures, s .pre .1 .1 .0);
       within = omega (arith, c .lesser .ensures, s .pre .1 .1 .1);
+      range = λ i h k. s .pre .1 .0 .1 i (omega arith) (omega (arith, k, c .lesser .ensures));
     }
 
 inside : (c : tie.After-either2 Inv-loop μ-loop)
@@ -94,9 +95,9 @@ inside c =
     let a = s .args in
     let l = c .before .before in (
       rw (c .before .either .ensures)
-          (inside-field (a .f .now) (a .t .now) (a .new) (old l) (a .field) (s .pre .1 .0) (old-inside l)),
+          (inside-field (a .f .now) (a .t .now) (a .new) (old l) (a .field) (s .pre .1 .0 .0) (old-inside l)),
       rw (c .either2 .ensures)
-          (inside-trim (a .f .now) (a .t .now) (a .new) (old l) (a .field) (s .pre .1 .0) (old-inside l)),
+          (inside-trim (a .f .now) (a .t .now) (a .new) (old l) (a .field) (s .pre .1 .0 .0) (old-inside l)),
     )
 
 cast-block : tie.Need-cast-block Inv-loop μ-loop
@@ -139,6 +140,7 @@ either-requires-2 c κs = search needs
 
 meet-parts-requires : tie.Need-meet-parts-requires Inv-loop μ-loop
 meet-parts-requires c κs =
+    let parts = inside (c .before) in
     let s = c .before .before .before .before .before .before .before .before .before in
     let v = c .before .before .before .before .before .loop in (
       (
@@ -147,7 +149,7 @@ meet-parts-requires c κs =
         room (c .before .before .before .before),
         v .inv .5 .pairs .long,
       ),
-      inside (c .before),
+      (s .pre .0 .0 .query, parts .0, parts .1),
     )
 
 add-c : tie.Need-add-c Inv-loop μ-loop

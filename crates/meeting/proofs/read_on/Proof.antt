@@ -51,13 +51,17 @@ meet-blocks-requires c κs =
     let r = pick3 .ensures in
     let blocks : n .result * s .args .s .query .block < pick3 .result + s .args .s .query .block =
     rw (n .ensures .0) (omega (arith, due .ready .query .block .0)) in (
-      (due .ready, omega (arith, due .joined, n .ensures .1), s .pre .1),
+      (due .ready, omega (arith, due .joined, n .ensures .1), s .pre .2),
       (
-        record {
-          some = omega (arith, due .left, due .ready .query .block .0);
-          few = omega (arith, due .few);
-          within = omega (arith, due .rows);
-        },
+        (
+          record {
+            some = omega (arith, due .left, due .ready .query .block .0);
+            few = omega (arith, due .few);
+            within = omega (arith, due .rows);
+            range = λ i h k. s .pre .1 .new i (omega (arith, h)) (omega (arith, k));
+          },
+          λ i h k. s .pre .1 .other i h (omega (arith, k)),
+        ),
         (omega (arith, due .other-few), omega (arith, due .other-rows), blocks),
       ),
     )

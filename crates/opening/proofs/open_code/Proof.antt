@@ -1,4 +1,4 @@
--- `open_code` meets its contract: 1, 2, 3, then 4 of either table. Assumes nothing.
+-- `open_code` meets its contract: 1, 2, 3, 12, then 4 of either table. Assumes nothing.
 use mathlib.Core.Path.{refl}
 use borrow.Author.Tests.{ne-eqb, not-true, not-false}
 use Rattle.rules.specs.Calls.{openCode, sizeCode}

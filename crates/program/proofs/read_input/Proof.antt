@@ -13,11 +13,14 @@ use borrow.Author.Needs.{needs}
 use Rattle.program.proofs.read_input.Statement.{statement}
 use Rattle.program.proofs.read_input.Tie as tie
 
+evenly-requires : tie.Need-evenly-requires
+evenly-requires c κs = search needs
+
 returns : tie.Need-returns
 unfolding inputHeld inputCode
 returns c =
-    let size = length (c .before .before .args .input .now) in
-    simp (ne-eqb size inputLength (λ e. omega (arith, e, c .if1 .taken)))
+    let size = length (c .before .before .before .args .input .now) in
+    simp (c .before .evenly .ensures, ne-eqb size inputLength (λ e. omega (arith, e, c .if1 .taken)))
 
 column-at-requires : tie.Need-column-at-requires
 column-at-requires c κs = search needs
@@ -37,11 +40,13 @@ returns-2 c =
     let k = at .before .before .column-at in
     let b = at .before .column-at2 in
     let r = at .column-at3 in
-    let input = at .before .before .before .before .before .args .input .now in
+    let start = at .before .before .before .before in
+    let input = start .before .before .args .input .now in
     let size = eq-eqb _ _ (at .before .before .before .if1 .left) in
     let all = k .result .fits && (b .result .fits && (r .result .fits && endsLine input 18)) in
-    input-bad input (k .result) (b .result) (r .result) (k .ensures) (b .ensures) (r .ensures) size
-    (not-true all (c .if2 .taken))
+    simp (start .evenly .ensures)
+    (input-bad input (k .result) (b .result) (r .result) (k .ensures) (b .ensures) (r .ensures) size
+    (not-true all (c .if2 .taken)))
 
 natural-requires : tie.Need-natural-requires
 natural-requires c κs = search needs
@@ -52,14 +57,17 @@ natural-requires-2 c κs = search needs
 natural-requires-3 : tie.Need-natural-requires-3
 natural-requires-3 c κs = search needs
 
+evenly-requires-2 : tie.Need-evenly-requires-2
+evenly-requires-2 c κs = search needs
+
 returns-3 : tie.Need-returns-3
 returns-3 c =
-    let told = c .before .before .before .before .before in
+    let told = c .before .before .before .before .before .before in
     let at = told .before .before .before .before .before .before in
     let k = at .before .before .column-at in
     let b = at .before .column-at2 in
     let r = at .column-at3 in
-    let input = at .before .before .before .before .before .args .input .now in
+    let input = at .before .before .before .before .before .before .args .input .now in
     let size = eq-eqb _ _ (at .before .before .before .if1 .left) in
     let all = k .result .fits && (b .result .fits && (r .result .fits && endsLine input 18)) in
     let good =
@@ -67,15 +75,18 @@ returns-3 c =
     (not-false all (told .before .if2 .left)) in
     let x = toZ-ofZ {w = w32} {z = k .result .number} (record { sfits = told .struct-told .given .1 .0 .1 }) in
     let y = toZ-ofZ {w = w32} {z = b .result .number}
-    (record { sfits = c .before .before .before .struct-told2 .given .1 .0 .1 }) in
-    let z = toZ-ofZ {w = w32} {z = r .result .number} (record { sfits = c .before .struct-told3 .given .1 .0 .1 }) in
-    let first = c .before .before .before .before .natural .ensures in
-    simp (first, c .before .before .natural2 .ensures, c .natural3 .ensures, x, y, z) good
+    (record { sfits = c .before .before .before .before .struct-told2 .given .1 .0 .1 }) in
+    let z = toZ-ofZ {w = w32} {z = r .result .number}
+    (record { sfits = c .before .before .struct-told3 .given .1 .0 .1 }) in
+    let first = c .before .before .before .before .before .natural .ensures in
+    let second = c .before .before .before .natural2 .ensures in
+    simp (c .evenly2 .ensures, first, second, c .before .natural3 .ensures, x, y, z) good
 
 pub read-input-spec : {M : Type 1} → statement M
 read-input-spec =
     tie.close
     (tie.spec
+    evenly-requires
     returns
     column-at-requires
     column-at-requires-2
@@ -85,4 +96,5 @@ read-input-spec =
     natural-requires
     natural-requires-2
     natural-requires-3
+    evenly-requires-2
     returns-3)

@@ -10,8 +10,8 @@ use Rattle.lists.specs.Bools.{clash}
 use Rattle.rules.specs.Session.{settled}
 use Rattle.rules.specs.declared.Step.{Step}
 use Rattle.rules.specs.Query.{wasRead}
-use Rattle.session_laws.specs.Calls.{call-record}
-use Rattle.rules.specs.Calls.{recordFits, step, readCall}
+use Rattle.session_laws.specs.Calls.{call-out, call-record}
+use Rattle.rules.specs.Calls.{recordFits, newBlockCode, step, readCall}
 use Rattle.checks.proofs.Looking.{Looking, look-starts, look-key, look-on, look-stops, look-ends}
 use Rattle.checks.specs.Codes.{depths-fit}
 use Rattle.meeting.specs.Stands.{Keys}
@@ -131,10 +131,11 @@ read-answer-requires c κs e = (passed (c .before) .known e, passed (c .before) 
 enum-told : tie.Need-enum-told Inv-loop μ-loop Inv-loop2 μ-loop2
 enum-told c = search needs
 
--- a block is to be read: the checks passed, and the session is not settled
+-- a block is to be read: the checks passed, those of the new block too, and the session is not settled
 asked : (c : tie.After-enum-told Inv-loop μ-loop Inv-loop2 μ-loop2)
     → let call = c .before .before .before .before in let a = given (call .before .before .before) .args in
     (call .call-code .result ≡ 0) × (settled (a .f .now) (a .t .now) (a .s) ≡ false)
+    × (newBlockCode (a .f .now) (a .t .now) (a .s) ≡ 0)
 asked c =
     let call = c .before .before .before .before in
     let a = given (call .before .before .before) .args in
@@ -158,9 +159,11 @@ read-block-requires c κs =
     let looking = call .before .before .before in
     let a = given looking .args in
     let k = asked (c .before) in
-    let fits = looked looking ∙ call-record (a .f .now) (a .t .now) (a .s) (sym (passed call .code-is) ∙ k .0) in
-    let lent = passed call .known (k .0) in
-    (lent, k .1, keyed looking fits (omega (arith, lent .fits .room, lent .fits .query .k .1)))
+    let none = sym (passed call .code-is) ∙ k .0 in
+    let fits = looked looking ∙ call-record (a .f .now) (a .t .now) (a .s) none in
+    let accepted = call-out (a .f .now) (a .t .now) (a .s) none in
+    let record-fits = accepted .lent .fits in
+    (accepted, k .1, k .2, keyed looking fits (omega (arith, record-fits .room, record-fits .query .k .1)))
 
 cast-m : tie.Need-cast-m Inv-loop μ-loop Inv-loop2 μ-loop2
 cast-m c = search needs

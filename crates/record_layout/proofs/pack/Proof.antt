@@ -9,7 +9,9 @@ use borrow.Author.Needs.{needs}
 use Rattle.lists.specs.Lists.{each}
 use Rattle.rules.specs.declared.Pair.{Pair}
 use Rattle.rules.specs.Session.{noPair, placeCount}
-use Rattle.record_layout.specs.Flat.{pairsAt, pairSize, pairAt, flatSize, flatPair, flatHead, flatten}
+use Rattle.record_layout.specs.Flat.{pairsAt, pairSize, pairAt, fieldWeightAt, flatSize, flatPair}
+use Rattle.record_layout.specs.Flat.{flatHead, flatWeights, flatTail, flatten}
+use Rattle.record_layout.specs.RoundTrip.{flat-length}
 use Rattle.record_layout.proofs.Places.{onto, laid, none-laid, one-out}
 use Rattle.record_layout.proofs.pack.Statement.{statement}
 use Rattle.record_layout.proofs.pack.Tie as tie
@@ -79,25 +81,34 @@ loop-again c =
           ∙ one-out l (s .pairs) (omega (arith, v .inv .3)) (v .i) (omega (arith, h, v .inv .1)),
     )
 
+put-weights-requires : tie.Need-put-weights-requires Inv-loop μ-loop
+put-weights-requires c κs = let v = c .before .before .before .loop in omega (arith, v .inv .2, v .inv .3)
+
 same-length : tie.Need-same-length Inv-loop μ-loop
 same-length c = search needs
 
 returns : tie.Need-returns Inv-loop μ-loop
-unfolding flatten flatHead
+unfolding flatten flatHead flatTail flatWeights
 returns c =
-    let v = c .before .loop in
-    let start = c .before .before .before .before in
+    let at = c .before .before .before .before .before in
+    let v = at .before .loop in
+    let start = at .before .before .before .before in
     let s = start .before .before .before .args .t1 in
     let l = start .before .before .before .args .out .now in
     let head = start .put-head in
     let last = head .last .0 in
-    let e : v .i ≡ placeCount = omega (arith, v .inv .0, c .loop-test .left) in
-    v .inv .4
+    let pairs = each flatPair (s .pairs) in
+    let e : v .i ≡ placeCount = omega (arith, v .inv .0, at .loop-test .left) in
+    let long : length (flatHead s ++ pairs) ≡ fieldWeightAt = omega (arith, flat-length (s .pairs), v .inv .1) in
+    c .before .before .put-weights .ensures
+    ∙ ap (λ (r : List ℕ). take fieldWeightAt r ++ flatTail s ++ drop flatSize r)
+    (v .inv .4
     ∙ ap (laid last (s .pairs)) e
-    ∙ ap (λ (a : List Pair). take pairsAt last ++ each flatPair a ++ drop flatSize last)
+    ∙ ap (λ (a : List Pair). take pairsAt last ++ each flatPair a ++ drop fieldWeightAt last)
     (take-all placeCount (s .pairs) (omega (arith, v .inv .1)))
-    ∙ ap (λ (r : List ℕ). take pairsAt r ++ each flatPair (s .pairs) ++ drop flatSize r) (head .ensures)
-    ∙ onto (flatHead s) (each flatPair (s .pairs)) l pairsAt (pairSize * placeCount) refl
+    ∙ ap (λ (r : List ℕ). take pairsAt r ++ pairs ++ drop fieldWeightAt r) (head .ensures)
+    ∙ onto (flatHead s) pairs l pairsAt (pairSize * placeCount) refl)
+    ∙ onto (flatHead s ++ pairs) (flatTail s) l fieldWeightAt 2 long
 
 pub pack-spec : {M : Type 1} → statement M
 pack-spec =
@@ -115,5 +126,6 @@ pack-spec =
     add-i
     loop-less
     loop-again
+    put-weights-requires
     same-length
     returns)

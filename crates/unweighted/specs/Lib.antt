@@ -1,0 +1,4 @@
+pub mod Unweighted
+pub mod Agree
+pub mod Low
+pub mod Proved
