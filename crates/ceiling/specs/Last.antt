@@ -82,7 +82,7 @@ every-last test mono (p ∷ q ∷ l) h o =
 module _ (f t : List ℤ) (s : Session) where
   secured-higher : (p q : Pair) → q .sum ≤ p .sum → secured f t s q ≡ true → secured f t s p ≡ true
   unfolding securedBy
-  secured-higher p q h = go (aDepthIsZero s && not (aTableIsEmpty s)) (bothReadOut s)
+  secured-higher p q h = go (aDepthIsZero s && not (aTableIsEmpty f t s)) (bothReadOut f t s)
     where
       go : (a b : Bool) → cond a false (cond b true (leb (ceiling f t s) (q .sum))) ≡ true
           → cond a false (cond b true (leb (ceiling f t s) (p .sum))) ≡ true
@@ -97,7 +97,7 @@ module _ (f t : List ℤ) (s : Session) where
 
 -- once rows of both tables were read, only the read-out tables and the ceiling decide
 pub read-secured : (f t : List ℤ) (s : Session) (p : Pair) → BothRead f t s →
-    secured f t s p ≡ cond (bothReadOut s) true (leb (ceiling f t s) (p .sum))
+    secured f t s p ≡ cond (bothReadOut f t s) true (leb (ceiling f t s) (p .sum))
 unfolding securedBy
 read-secured f t s p r =
     let d : s .depth .field .0 ≡ 0 → ⊥ = omega (arith, r .field-read) in

@@ -27,7 +27,7 @@ use Rattle.demand.specs.Transcript.{rowThen, topOne, fieldRows, trimRows}
 abbrev chosenBy : (List ℤ → List ℤ → Session → Bool) → List ℤ → List ℤ → Session → Bool
 chosenBy rule f t s =
     cond (eqb (s .depth .field .0) 0) true
-    (cond (eqb (s .depth .trim .0) 0) false (cond (trimReadOut s) true (cond (fieldReadOut s) false (rule f t s))))
+    (cond (eqb (s .depth .trim .0) 0) false (cond (trimReadOut t s) true (cond (fieldReadOut f s) false (rule f t s))))
 
 -- Qi, Bouros and Mamoulis (2020) as printed: the table whose last score is higher
 abbrev byLastScore : List ℤ → List ℤ → Session → Bool

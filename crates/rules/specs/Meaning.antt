@@ -15,12 +15,12 @@ use Rattle.rules.specs.Read.{scoreDrop, fieldNextBy, fieldNext, lowest, 
 
 -- ---- the ceiling: a table that is read out has no part in it
 
-pub ceiling-trim-read-out : (f t : List ℤ) (s : Session) → trimReadOut s ≡ true → fieldReadOut s ≡ false →
+pub ceiling-trim-read-out : (f t : List ℤ) (s : Session) → trimReadOut t s ≡ true → fieldReadOut f s ≡ false →
     ceiling f t s ≡ lastScore (terms (s .query) .field) f (s .depth .field .0) + firstScore (terms (s .query) .trim) t
 unfolding ceilingBy
 ceiling-trim-read-out f t s h k = simp (h, k) (omega arith)
 
-pub ceiling-field-read-out : (f t : List ℤ) (s : Session) → trimReadOut s ≡ false → fieldReadOut s ≡ true →
+pub ceiling-field-read-out : (f t : List ℤ) (s : Session) → trimReadOut t s ≡ false → fieldReadOut f s ≡ true →
     ceiling f t s ≡ firstScore (terms (s .query) .field) f + lastScore (terms (s .query) .trim) t (s .depth .trim .0)
 unfolding ceilingBy
 ceiling-field-read-out f t s h k = simp (h, k) (omega arith)
@@ -28,7 +28,7 @@ ceiling-field-read-out f t s h k = simp (h, k) (omega arith)
 -- ---- the table read next, both having been read and neither to its end
 
 module _ (f t : List ℤ) (s : Session) (p : 0 < s .depth .field .0) (q : 0 < s .depth .trim .0)
-    (h : trimReadOut s ≡ false) (k : fieldReadOut s ≡ false) where
+    (h : trimReadOut t s ≡ false) (k : fieldReadOut f s ≡ false) where
   abbrev d : ℕ
   d = s .depth .field .0
 

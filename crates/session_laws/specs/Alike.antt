@@ -23,6 +23,7 @@ use Rattle.rules.specs.Session.{aTableIsEmpty, aDepthIsZero, ceilingBy, ceiling
 use Rattle.rules.specs.Read.{scoreDrop, fieldNextBy, fieldNext, rowsBetween, blockCount, meet, meetBlocksBy, meetBlocks}
 use Rattle.rules.specs.Read.{readTo}
 use Rattle.rules.specs.Read.{oldDepth, newDepth, readTableBy, readTable}
+use Rattle.rules.specs.Take.{finished}
 use Rattle.session_laws.specs.Tables.{RowFits, legal-in}
 
 -- two tables with the same first n rows
@@ -144,12 +145,12 @@ module _ (f t f′ t′ : List ℤ) (s : Session) (ef : SameRows (s .depth .fiel
   some-trim : aDepthIsZero s ≡ false → 1 ≤ e
   some-trim z = let k = eqb-false e 0 (or-none-out (eqb d 0) (eqb e 0) z .1) in omega arith
 
-  pub same-secured : aTableIsEmpty s ≡ false → (p : Pair) → secured f′ t′ s p ≡ secured f t s p
+  pub same-secured : aTableIsEmpty f t s ≡ false → (p : Pair) → secured f′ t′ s p ≡ secured f t s p
   unfolding securedBy
   same-secured live p = go (aDepthIsZero s) refl
     where
       judged : Bool → ℕ → Bool
-      judged none c = cond (none && not (aTableIsEmpty s)) false (cond (bothReadOut s) true (leb c (p .sum)))
+      judged none c = cond (none && not (aTableIsEmpty f t s)) false (cond (bothReadOut f t s) true (leb c (p .sum)))
 
       go : (b : Bool) → aDepthIsZero s ≡ b → judged b (ceiling f′ t′ s) ≡ judged b (ceiling f t s)
       go true z = rw live
@@ -157,18 +158,22 @@ module _ (f t f′ t′ : List ℤ) (s : Session) (ef : SameRows (s .depth .fiel
 
   pub same-settled : settled f′ t′ s ≡ settled f t s
   unfolding settledBy
-  same-settled = go (aTableIsEmpty s) refl
+  same-settled = go (aTableIsEmpty f t s) refl
     where
       rule : Bool → Bool → Bool
       rule none all =
-          none || (bothReadOut s || (eqb (s .out) (s .query .k) || (eqb (s .out + s .held) (s .query .k) && all)))
+          none || (bothReadOut f t s || (eqb (s .out) (s .query .k) || (eqb (s .out + s .held) (s .query .k) && all)))
 
-      go : (b : Bool) → aTableIsEmpty s ≡ b
+      go : (b : Bool) → aTableIsEmpty f t s ≡ b
           → rule b (every (secured f′ t′ s) (heldPairs s)) ≡ rule b (every (secured f t s) (heldPairs s))
       go true z = refl
       go false z =
           ap (rule false)
           (every-same (secured f′ t′ s) (secured f t s) (heldPairs s) (λ p m. same-secured z p))
+
+  pub same-finished : finished f′ t′ s ≡ finished f t s
+  unfolding finished
+  same-finished = refl
 
   pub same-next : fieldNext f′ t′ s ≡ fieldNext f t s
   unfolding fieldNextBy
@@ -178,8 +183,8 @@ module _ (f t f′ t′ : List ℤ) (s : Session) (ef : SameRows (s .depth .fiel
       rule x y m n =
           cond x true
           (cond y false
-          (cond (trimReadOut s) true
-          (cond (fieldReadOut s) false (cond (ltb m n) true (cond (ltb n m) false (leb d e))))))
+          (cond (trimReadOut t s) true
+          (cond (fieldReadOut f s) false (cond (ltb m n) true (cond (ltb n m) false (leb d e))))))
 
       go : (x y : Bool) → eqb d 0 ≡ x → eqb e 0 ≡ y
           → rule x y (scoreDrop (w .field) f′ d) (scoreDrop (w .trim) t′ e)

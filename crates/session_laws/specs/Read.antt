@@ -131,7 +131,7 @@ read-grows false f t s h k = (omega (arith, read-field false f t s), omega (arit
 pub record Unsettled (f t : List ℤ) (s : Session) : Type 0 where
   pub field-some : s .rows .field .0 ≡ 0 → ⊥
   pub trim-some : s .rows .trim .0 ≡ 0 → ⊥
-  pub unread : bothReadOut s ≡ false
+  pub unread : bothReadOut f t s ≡ false
   pub wanted : s .out ≡ s .query .k → ⊥
   pub unsecured : s .out + s .held ≡ s .query .k → every (secured f t s) (heldPairs s) ≡ true → ⊥
 
@@ -140,8 +140,8 @@ unfolding settledBy
 unsettled-out f t s h =
     let last = eqb (s .out + s .held) (s .query .k) && every (secured f t s) (heldPairs s) in
     let rest = eqb (s .out) (s .query .k) || last in
-    let a = or-none-out (aTableIsEmpty s) (bothReadOut s || rest) h in
-    let b = or-none-out (bothReadOut s) rest (a .1) in
+    let a = or-none-out (aTableIsEmpty f t s) (bothReadOut f t s || rest) h in
+    let b = or-none-out (bothReadOut f t s) rest (a .1) in
     let c = or-none-out (eqb (s .out) (s .query .k)) last (b .1) in
     let some = or-none-out (eqb (s .rows .field .0) 0) (eqb (s .rows .trim .0) 0) (a .0) in
     record {
@@ -170,19 +170,19 @@ not-out : (depth rows : ℕ) → (rows ≡ 0 → ⊥) → eqb depth 0 ≡ true �
 not-out depth rows h k = ne-eqb depth rows (λ e. h (sym e ∙ eqb-true depth 0 k))
 
 module _ (f t : List ℤ) (s : Session) (u : Unsettled f t s) where
-  chosen-unread : cond (fieldNext f t s) (fieldReadOut s) (trimReadOut s) ≡ false
+  chosen-unread : cond (fieldNext f t s) (fieldReadOut f s) (trimReadOut t s) ≡ false
   unfolding fieldNextBy
   chosen-unread =
       let d = s .depth .field .0 in
       let e = s .depth .trim .0 in
       let x = scoreDrop (terms (s .query) .field) f d in
       let y = scoreDrop (terms (s .query) .trim) t e in
-      unread (eqb d 0) (eqb e 0) (trimReadOut s) (fieldReadOut s)
+      unread (eqb d 0) (eqb e 0) (trimReadOut t s) (fieldReadOut f s)
       (cond (ltb x y) true (cond (ltb y x) false (leb d e)))
       (not-out d (s .rows .field .0) (u .field-some)) (not-out e (s .rows .trim .0) (u .trim-some)) (u .unread)
 
   module _ (m : s .depth .field .0 ≤ s .rows .field .0) (n : s .depth .trim .0 ≤ s .rows .trim .0) where
-    left : (field : Bool) → cond field (fieldReadOut s) (trimReadOut s) ≡ false
+    left : (field : Bool) → cond field (fieldReadOut f s) (trimReadOut t s) ≡ false
         → oldDepth field s < cond field (s .rows .field .0) (s .rows .trim .0)
     left true h = let k : s .depth .field .0 ≡ s .rows .field .0 → ⊥ = eqb-false _ _ h in omega arith
     left false h = let k : s .depth .trim .0 ≡ s .rows .trim .0 → ⊥ = eqb-false _ _ h in omega arith

@@ -63,7 +63,7 @@ module _ (s : Session) (stored : length (heldPairs s) ≡ s .held) (some : 1 ≤
 -- ---- A settled session
 
 -- read out, all is secured
-read-out-secured : (f t : List ℤ) (s : Session) (p : Pair) → aTableIsEmpty s ≡ false → bothReadOut s ≡ true
+read-out-secured : (f t : List ℤ) (s : Session) (p : Pair) → aTableIsEmpty f t s ≡ false → bothReadOut f t s ≡ true
     → secured f t s p ≡ true
 unfolding securedBy
 read-out-secured f t s p e b =
@@ -90,12 +90,12 @@ module _ (f t : List ℤ) (s : Session) (stored : length (heldPairs s) ≡ s .he
       (eqb-true (s .out + s .held) (s .query .k) (b .0), b .1)
 
   -- a take has a secured pair to give, or the list is complete
-  pub settled-take : settled f t s ≡ true → givesPair f t s ≡ false → finished s ≡ true
+  pub settled-take : settled f t s ≡ true → givesPair f t s ≡ false → finished f t s ≡ true
   unfolding settledBy givesPairBy finished
   settled-take =
-      go (eqb (s .out) (s .query .k)) (aTableIsEmpty s) (bothReadOut s) (ltb 0 (s .held)) refl refl refl refl
+      go (eqb (s .out) (s .query .k)) (aTableIsEmpty f t s) (bothReadOut f t s) (ltb 0 (s .held)) refl refl refl refl
     where
-      go : (k e b h : Bool) → eqb (s .out) (s .query .k) ≡ k → aTableIsEmpty s ≡ e → bothReadOut s ≡ b
+      go : (k e b h : Bool) → eqb (s .out) (s .query .k) ≡ k → aTableIsEmpty f t s ≡ e → bothReadOut f t s ≡ b
           → ltb 0 (s .held) ≡ h → (e || (b || (k || full))) ≡ true → (h && secured f t s (firstHeld s)) ≡ false
           → (k || (e || (b && eqb (s .held) 0))) ≡ true
       go true e b h ek ee eb eh w n = refl
@@ -112,7 +112,7 @@ module _ (f t : List ℤ) (s : Session) (stored : length (heldPairs s) ≡ s .he
   pub settled-moves : 1 ≤ s .held → s .out + s .held ≤ s .query .k → settled f t s ≡ true
       → settled f t (movedOut s) ≡ true
   unfolding settledBy movedOut
-  settled-moves some room e = go (aTableIsEmpty s) (bothReadOut s) (eqb (s .out) (s .query .k)) refl e
+  settled-moves some room e = go (aTableIsEmpty f t s) (bothReadOut f t s) (eqb (s .out) (s .query .k)) refl e
     where
       left : Bool
       left =

@@ -50,9 +50,9 @@ weight-is weight t i h = ap weight (rows-at t i h)
 
 -- what it takes to be secured
 secured-cases : (f t : List ℤ) (s : Session) (p : Pair) → secured f t s p ≡ true
-    → (bothReadOut s ≡ true) ⊎ (ceiling f t s ≤ p .sum)
+    → (bothReadOut f t s ≡ true) ⊎ (ceiling f t s ≤ p .sum)
 unfolding securedBy
-secured-cases f t s p h = go (aDepthIsZero s && not (aTableIsEmpty s)) (bothReadOut s) h
+secured-cases f t s p h = go (aDepthIsZero s && not (aTableIsEmpty f t s)) (bothReadOut f t s) h
   where
     go : (x y : Bool) → cond x false (cond y true (leb (ceiling f t s) (p .sum))) ≡ true
         → (y ≡ true) ⊎ (ceiling f t s ≤ p .sum)
@@ -69,7 +69,7 @@ secured-high f t s p hd he h =
       ne-eqb (s .depth .trim .0) 0 (λ z. omega arith),
       le-leb (ceiling f t s) (p .sum) h,
     )
-    (go (bothReadOut s))
+    (go (bothReadOut f t s))
   where
     go : (b : Bool) → cond b true true ≡ true
     go true = refl
@@ -94,12 +94,12 @@ module _ {q : Query} {f t : List ℤ} {out : List Pair} {s : Session} (a : Reach
   abbrev T : List Row
   T = rowsOf t
 
-  pub field-ended : S .ended F d ≡ fieldReadOut s
+  pub field-ended : S .ended F d ≡ fieldReadOut f s
   field-ended =
       ended-is (length F) (s .rows .field .0) d (length-rows f ∙ sym (a .field-rows))
       (omega (arith, length-rows f, a .field-depth))
 
-  pub trim-ended : U .ended T e ≡ trimReadOut s
+  pub trim-ended : U .ended T e ≡ trimReadOut t s
   trim-ended =
       ended-is (length T) (s .rows .trim .0) e (length-rows t ∙ sym (a .trim-rows))
       (omega (arith, length-rows t, a .trim-depth))

@@ -32,7 +32,7 @@ use Rattle.tables_join.specs.Ceiling.{field-ended, trim-ended, first-fie
 use Rattle.tables_join.specs.Ceiling.{unsettled-short}
 
 module _ {q : Query} {f t : List ℤ} {out : List Pair} {s : Session} (a : Reached q f t out s)
-    (more : bothReadOut s ≡ false) where
+    (more : bothReadOut f t s ≡ false) where
   abbrev d : ℕ
   d = s .depth .field .0
 
@@ -54,13 +54,13 @@ module _ {q : Query} {f t : List ℤ} {out : List Pair} {s : Session} (a : Reach
   -- what each test of the choice says
   abbrev Choosing : (Bool → Type 0) → Type 0
   Choosing C =
-      (z w x y l m : Bool) → eqb d 0 ≡ z → eqb e 0 ≡ w → trimReadOut s ≡ x → fieldReadOut s ≡ y
+      (z w x y l m : Bool) → eqb d 0 ≡ z → eqb e 0 ≡ w → trimReadOut t s ≡ x → fieldReadOut f s ≡ y
       → ltb u v ≡ l → ltb v u ≡ m → C (next z w x y l m)
 
   by-tests : (C : Bool → Type 0) → Choosing C → C (fieldNext f t s)
   unfolding fieldNextBy
   by-tests C go =
-      go (eqb d 0) (eqb e 0) (trimReadOut s) (fieldReadOut s) (ltb u v) (ltb v u) refl refl refl refl refl refl
+      go (eqb d 0) (eqb e 0) (trimReadOut t s) (fieldReadOut f s) (ltb u v) (ltb v u) refl refl refl refl refl refl
 
   module _ (d0 : eqb d 0 ≡ false) (e0 : eqb e 0 ≡ false) where
     field-some : 1 ≤ d

@@ -211,20 +211,20 @@ module _ {q : Query} {f t : List ℤ} {out : List Pair} {s : Session} (a : Reach
 
   -- ---- The list is complete
 
-  read-out : bothReadOut s ≡ true → (s .depth .field .0 ≡ rowCount f) × (s .depth .trim .0 ≡ rowCount t)
+  read-out : bothReadOut f t s ≡ true → (s .depth .field .0 ≡ rowCount f) × (s .depth .trim .0 ≡ rowCount t)
   read-out e =
-      let b = and-out (fieldReadOut s) (trimReadOut s) e in (
+      let b = and-out (fieldReadOut f s) (trimReadOut t s) e in (
         eqb-true (s .depth .field .0) (s .rows .field .0) (b .0) ∙ a .field-rows,
         eqb-true (s .depth .trim .0) (s .rows .trim .0) (b .1) ∙ a .trim-rows,
       )
 
   -- read out, the region has every pair
-  pub read-out-region : bothReadOut s ≡ true → (p : Pair) → QualifyingPair q f t p → R p
+  pub read-out-region : bothReadOut f t s ≡ true → (p : Pair) → QualifyingPair q f t p → R p
   read-out-region e p h =
       let d = read-out e in
       record { fits = h; own-part = omega (arith, h .field-row); other-part = omega (arith, h .trim-row) }
 
-  pub empty-none : aTableIsEmpty s ≡ true → (p : Pair) → QualifyingPair q f t p → ⊥
+  pub empty-none : aTableIsEmpty f t s ≡ true → (p : Pair) → QualifyingPair q f t p → ⊥
   empty-none e p h =
       ⊎-elim (λ z. omega (arith, eqb-true (s .rows .field .0) 0 z, a .field-rows, h .field-row))
       (λ z. omega (arith, eqb-true (s .rows .trim .0) 0 z, a .trim-rows, h .trim-row))
@@ -233,20 +233,20 @@ module _ {q : Query} {f t : List ℤ} {out : List Pair} {s : Session} (a : Reach
   abbrev Complete : Type 0
   Complete = (length out ≡ q .k) ⊎ ((p : Pair) → QualifyingPair q f t p → List·Memᴰ p out)
 
-  pub finished-complete : finished s ≡ true → Complete
+  pub finished-complete : finished f t s ≡ true → Complete
   unfolding finished
   finished-complete e =
       ⊎-elim (λ z. inl (sym (a .keeping .counted) ∙ eqb-true (s .out) (s .query .k) z ∙ wanted))
       (λ z.
       ⊎-elim (λ n. inr (λ p h. absurd (empty-none n p h)))
-      (λ n. none (and-out (bothReadOut s) (eqb (s .held) 0) n))
-      (or-out (aTableIsEmpty s) (bothReadOut s && eqb (s .held) 0) z))
-      (or-out (eqb (s .out) (s .query .k)) (aTableIsEmpty s || (bothReadOut s && eqb (s .held) 0)) e)
+      (λ n. none (and-out (bothReadOut f t s) (eqb (s .held) 0) n))
+      (or-out (aTableIsEmpty f t s) (bothReadOut f t s && eqb (s .held) 0) z))
+      (or-out (eqb (s .out) (s .query .k)) (aTableIsEmpty f t s || (bothReadOut f t s && eqb (s .held) 0)) e)
     where
       wanted : s .query .k ≡ q .k
       wanted = ap (λ q. q .k) (a .query)
 
-      none : (bothReadOut s ≡ true) × (eqb (s .held) 0 ≡ true) → Complete
+      none : (bothReadOut f t s ≡ true) × (eqb (s .held) 0 ≡ true) → Complete
       none n =
           let held : ℕ → Type 0 = λ m. Holds ahead (s .query .k) R out (a .keeping .rest) (take m (s .pairs)) in
           ⊎-elim (λ z. inl (z ∙ wanted)) (λ z. inr (λ p h. z p (read-out-region (n .0) p h)))

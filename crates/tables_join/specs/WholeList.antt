@@ -138,7 +138,7 @@ listed-more {q} {f} {t} {out} p l highest r =
     }
 
 -- at the end
-listed-none : {q : Query} {f t : List ℤ} {out : List Pair} {s : Session} → Reached q f t out s → finished s ≡ true
+listed-none : {q : Query} {f t : List ℤ} {out : List Pair} {s : Session} → Reached q f t out s → finished f t s ≡ true
     → Listed q f t out []
 listed-none {q} {f} {t} {out} {s} a e =
     let z : out ++ [] ≡ out = append-nil out in
@@ -185,7 +185,7 @@ module _ (q : Query) (f t : List ℤ) (g : legal f ≡ true) (h : legal t ≡ tr
           (secured-best (a .reached) g h some (gives-secured f t s e))
           (next moved (omega (arith, length-append out (p ∷ [])))))
       go false e next =
-          let done : finished s ≡ true = settled-take f t s (a .reached .keeping .stored) (a .is-settled) e in
+          let done : finished f t s ≡ true = settled-take f t s (a .reached .keeping .stored) (a .is-settled) e in
           subst (Listed q f t out) (sym (until-finished n f t s (take-finishes f t s passes e done)))
           (listed-none (a .reached) done)
 

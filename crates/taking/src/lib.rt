@@ -24,7 +24,7 @@ fn gives_pair(f: &[i32], t: &[i32], s: Session) -> bool
 }
 
 fn is_finished(s: Session) -> bool
-    ensures { λ r. ⌜ r ≡ finished s ⌝ }
+    ensures { λ r. ⌜ r ≡ finished f t s ⌝ }
 {
     let m = s.rows.field.0;
     let n = s.rows.trim.0;
