@@ -25,7 +25,8 @@ use Rattle.rules.specs.Query.{given}
 use Rattle.session_laws.specs.Calls.{call-accepted, call-record, new-block-accepted, read-settled, read-goes}
 use Rattle.session_laws.specs.Calls.{take-gives, take-finishes, take-waits}
 use Rattle.session_laws.specs.Read.{read-field, read-trim, read-grows}
-use Rattle.session_laws.specs.Alike.{SameRows, same-less, same-secured, same-settled, same-finished, same-next, same-read}
+use Rattle.session_laws.specs.Alike.{SameRows, same-less, same-secured, same-settled, same-finished, same-next}
+use Rattle.session_laws.specs.Alike.{same-read}
 use Rattle.tables_join.specs.Reached.{Reached, first-inside, empty-none}
 use Rattle.demand.specs.Demand.{Call, reading, taking, promised}
 use Rattle.demand.specs.Steps.{Happened, refused, settling, going, giving, finishing, waiting}
@@ -148,11 +149,13 @@ reached-grows {f = f} {t = t} {s = s} a =
 abbrev pub AlikeTo : List ℤ → List ℤ → List ℤ → List ℤ → Session → Type 0
 AlikeTo f t f′ t′ r = SameRows (r .depth .field .0) f f′ × SameRows (r .depth .trim .0) t t′
 
-module _ {q : Query} {f t : List ℤ} {out : List Pair} {s : Session} (a : Reached q f t out s) (f′ t′ : List ℤ)
-    (g : legal f′ ≡ true) (h : legal t′ ≡ true) (m : rowCount f′ ≡ rowCount f) (n : rowCount t′ ≡ rowCount t) where
+module _ {q : Query} {f t : List ℤ} {out : List Pair} {s : Session} (a : Reached q f t out s) (own : legal f ≡ true)
+    (own-trim : legal t ≡ true) (f′ t′ : List ℤ) (g : legal f′ ≡ true) (h : legal t′ ≡ true)
+    (m : rowCount f′ ≡ rowCount f) (n : rowCount t′ ≡ rowCount t) where
   -- a held pair needs rows of both tables
   held-live : 1 ≤ s .held → aTableIsEmpty f t s ≡ false
-  held-live some = fails (aTableIsEmpty f t s) (λ e. empty-none a e (firstHeld s) (first-inside a some .fits))
+  held-live some =
+      fails (aTableIsEmpty f t s) (λ e. empty-none a own own-trim e (firstHeld s) (first-inside a some .fits))
 
   same-gives : AlikeTo f t f′ t′ s → givesPair f′ t′ s ≡ givesPair f t s
   unfolding givesPairBy

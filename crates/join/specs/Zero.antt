@@ -1,5 +1,5 @@
--- Tables in which a row of weight 0 qualifies with nothing: such a table has ended once one was read, and counts as empty
--- once its first row was read and is one. Definitions only. Assumes nothing.
+-- Tables in which a row of weight 0 qualifies with nothing: such a table has ended once one was read, and counts as
+-- empty once its first row was read and is one. Definitions only. Assumes nothing.
 use Prim.Native.Nat.{ℕ, zero, suc}
 use mathlib.Core.Path.{_≡_}
 use mathlib.Core.Bool.{Bool, true, false, _&&_, _||_}

@@ -1,16 +1,16 @@
 -- The laws of the join hold of tables in which a row of weight 0 qualifies with nothing. Assumes that a row above 0 may
 -- stand in each, and that each such row has its like at the other table's places.
-use mathlib.Core.Path.{_≡_, refl, sym, ap, subst, _∙_}
+use mathlib.Core.Path.{_≡_, refl, sym, ap, _∙_}
 use mathlib.Core.Bool.{Bool, true, false, _&&_, _||_}
 use mathlib.Core.List.{List}
-use mathlib.Core.Logic.{inl, inr, ⊎-elim}
+use mathlib.Core.Logic.{⊎-elim}
 use Prim.Native.Nat.{ℕ, zero, suc, _-_, _≤_, _<_}
 use native.Mathlib.Omega.{arith}
 use native.Mathlib.Decide.{le-ind, decLe}
 use lib.Dec.{leb, eqb}
-use lib.ListN.{length, getD, take}
+use lib.ListN.{length, getD}
 use lib.Seq.{getD-take}
-use borrow.Author.Tests.{leb-true, leb-false, le-leb, eqb-true, eqb-false, eq-eqb}
+use borrow.Author.Tests.{leb-true, leb-false, le-leb, eqb-true, eq-eqb}
 use Rattle.lists.specs.Bools.{clash, and-out, and-in, or-out, or-true, or-none-out}
 use Rattle.join.specs.Join.{SideLaws, Laws, Partner, Begins, weightAt, flip}
 use Rattle.join.specs.Plain.{Rows, PlainLegal}

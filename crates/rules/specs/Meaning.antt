@@ -1,6 +1,6 @@
 -- What single rules mean where a slip would not show in the rules' worked query: one law a rule. Assumes nothing.
-use mathlib.Core.Path.{_≡_, refl}
-use mathlib.Core.Bool.{Bool, true, false, _&&_}
+use mathlib.Core.Path.{_≡_}
+use mathlib.Core.Bool.{true, false}
 use mathlib.Core.List.{List}
 use Prim.Native.Nat.{ℕ, _+_, _<_}
 use native.Mathlib.Omega.{arith}
@@ -9,7 +9,7 @@ use lib.IntN.{ℤ}
 use borrow.Author.Tests.{lt-ltb, le-ltb, ne-eqb}
 use Rattle.lists.specs.Bools.{and-false}
 use Rattle.rules.specs.declared.Session.{Session}
-use Rattle.rules.specs.Tables.{Terms, terms, Block}
+use Rattle.rules.specs.Tables.{terms, Block}
 use Rattle.rules.specs.Session.{firstScore, lastScore, fieldReadOut, trimReadOut, heldPairs, ceilingBy, ceiling}
 use Rattle.rules.specs.Read.{scoreDrop, fieldNextBy, fieldNext, lowest, skippedBy, skipped}
 

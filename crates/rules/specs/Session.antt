@@ -1,8 +1,8 @@
 -- docs/RULES.md, "The session". Definitions only. Assumes nothing.
-use Prim.Native.Nat.{ℕ, _+_, _-_, max}
+use Prim.Native.Nat.{ℕ, zero, suc, _+_, _-_, max}
 use mathlib.Core.Bool.{Bool, true, false, cond, _&&_, _||_, not}
 use mathlib.Core.List.{List, [], _++_}
-use lib.Dec.{leb, eqb}
+use lib.Dec.{leb, ltb, eqb}
 use lib.IntN.{ℤ}
 use lib.ListN.{length, take, replicate}
 use Rattle.lists.specs.Lists.{every}
@@ -12,7 +12,7 @@ use Rattle.rules.specs.declared.Pair.{Pair}
 use Rattle.rules.specs.declared.Weights.{Weights}
 use Rattle.rules.specs.declared.Query.{Query}
 use Rattle.rules.specs.declared.Session.{Session}
-use Rattle.rules.specs.Tables.{Row, row, Terms, terms}
+use Rattle.rules.specs.Tables.{Row, row, withdrawn, Terms, terms}
 
 abbrev pub noPair : Pair
 noPair = record { sum = 0; field = 0; trim = 0 }
@@ -61,13 +61,19 @@ firstScore score t = score (row t 0)
 abbrev pub lastScore : (Row → ℕ) → List ℤ → ℕ → ℕ
 lastScore score t depth = score (row t (depth - 1))
 
--- "read out", of a table, its row count and a depth: all its rows are read
-abbrev pub readOut : List ℤ → ℕ → ℕ → Bool
-readOut t rows depth = eqb depth rows
+-- whether a withdrawn row is among the first n of a table
+unfoldable pub withdrawnWithin : List ℤ → ℕ → Bool
+withdrawnWithin t zero = false
+withdrawnWithin t (suc n) = withdrawnWithin t n || withdrawn (row t n)
 
--- "empty", of the same: it has no rows
-abbrev pub isEmpty : List ℤ → ℕ → ℕ → Bool
-isEmpty t rows depth = eqb rows 0
+-- "read out", of a table, its row count and a depth: all its rows are read; "Because scores fall, a table counts as
+-- read out .. once a row of score 0 has been read"
+unfoldable pub readOut : List ℤ → ℕ → ℕ → Bool
+readOut t rows depth = eqb depth rows || withdrawnWithin t depth
+
+-- "empty", of the same: it has no rows; "and as empty once such a first row has been read"
+unfoldable pub isEmpty : List ℤ → ℕ → ℕ → Bool
+isEmpty t rows depth = eqb rows 0 || (ltb 0 depth && withdrawn (row t 0))
 
 abbrev pub fieldReadOut : List ℤ → Session → Bool
 fieldReadOut f s = readOut f (s .rows .field .0) (s .depth .field .0)

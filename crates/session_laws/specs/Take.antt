@@ -9,12 +9,14 @@ use lib.Dec.{eqb, ltb}
 use lib.IntN.{ℤ}
 use lib.ListN.{length, getD, take, drop, length-take}
 use lib.Seq.{take-append-le}
-use borrow.Author.Tests.{eqb-true, eqb-false, eq-eqb, ltb-true, ltb-false}
+use borrow.Author.Tests.{eqb-true, eqb-false, eq-eqb, ne-eqb, ltb-true, ltb-false}
 use Rattle.lists.specs.Lists.{every}
 use Rattle.lists.specs.Bools.{clash, and-out, or-none-out, or-true}
 use Rattle.lists.specs.Parts.{every-at, every-same}
 use Rattle.rules.specs.declared.Pair.{Pair}
 use Rattle.rules.specs.declared.Session.{Session}
+use Rattle.session_laws.specs.ReadOut.{live-out, read-out-some}
+use Rattle.rules.specs.Session.{isEmpty, fieldReadOut, trimReadOut}
 use Rattle.rules.specs.Session.{noPair, heldPairs, aTableIsEmpty, bothReadOut, ceilingBy, securedBy, secured}
 use Rattle.rules.specs.Session.{settledBy, settled}
 use Rattle.rules.specs.Take.{firstHeld, givesPairBy, givesPair, movedOut, finished}
@@ -67,17 +69,15 @@ read-out-secured : (f t : List ℤ) (s : Session) (p : Pair) → aTableIsEmpty f
     → secured f t s p ≡ true
 unfolding securedBy
 read-out-secured f t s p e b =
-    let rows = or-none-out (eqb (s .rows .field .0) 0) (eqb (s .rows .trim .0) 0) e in
-    let field = eqb (s .depth .field .0) (s .rows .field .0) in
-    let ends = and-out field (eqb (s .depth .trim .0) (s .rows .trim .0)) b in
-    rw (
-      eqb-true (s .depth .field .0) (s .rows .field .0) (ends .0),
-      eqb-true (s .depth .trim .0) (s .rows .trim .0) (ends .1),
-      rows .0,
-      rows .1,
-      eq-eqb (s .rows .field .0) (s .rows .field .0) refl,
-      eq-eqb (s .rows .trim .0) (s .rows .trim .0) refl,
-    )
+    let m = s .rows .field .0 in
+    let n = s .rows .trim .0 in
+    let c = s .depth .field .0 in
+    let d = s .depth .trim .0 in
+    let live = or-none-out (isEmpty f m c) (isEmpty t n d) e in
+    let ends = and-out (fieldReadOut f s) (trimReadOut t s) b in
+    let first = read-out-some f m c (live-out f m c (live .0) .0) (ends .0) in
+    let second = read-out-some t n d (live-out t n d (live .1) .0) (ends .1) in
+    rw (ne-eqb c 0 (λ z. omega arith), ne-eqb d 0 (λ z. omega arith), ends .0, ends .1)
 
 module _ (f t : List ℤ) (s : Session) (stored : length (heldPairs s) ≡ s .held) where
   -- k pairs are held or out, and each held one is secured

@@ -8,8 +8,7 @@ use Prim.Native.Nat.{ℕ, _≤_, _<_, max, _+_, _-_}
 use native.Mathlib.Omega.{arith}
 use lib.Dec.{leb, ltb, eqb}
 use lib.IntN.{ℤ}
-use lib.ListN.{length}
-use borrow.Author.Tests.{leb-true, leb-false, lt-leb, ltb-true, ltb-false, eqb-true, eqb-false}
+use borrow.Author.Tests.{leb-true, leb-false, ltb-true, ltb-false, eqb-true, eqb-false}
 use Rattle.lists.specs.Bools.{clash}
 use Rattle.join.specs.Join.{Chosen, dropAt}
 use Rattle.join.specs.Limit.{row-limit, row-limit-trim}
@@ -24,7 +23,7 @@ use Rattle.rules.specs.Read.{scoreDrop, fieldNextBy, fieldNext, readTable, read
 use Rattle.rules.specs.Sure.{Sure}
 use Rattle.session_laws.specs.Read.{read-field, read-trim, unsettled-out}
 use Rattle.session_laws.specs.Until.{wanted}
-use Rattle.tables_join.specs.Rows.{rowsOf, fieldSide, trimSide, near, field-rises, trim-rises, length-rows}
+use Rattle.tables_join.specs.Rows.{rowsOf, fieldSide, trimSide, near, field-rises, trim-rises, empty-read}
 use Rattle.tables_join.specs.Rows.{legal-rows, laws}
 use Rattle.tables_join.specs.Sure.{sure-rows}
 use Rattle.tables_join.specs.Reached.{Reached}
@@ -125,15 +124,16 @@ module _ {q : Query} {f t : List ℤ} {out : List Pair} {s : Session} (a : Reach
 module _ {q : Query} {f t : List ℤ} {out : List Pair} {s : Session} (a : Reached q f t out s) (g : legal f ≡ true)
     (h : legal t ≡ true) (wanted : 1 ≤ q .k) (u : settled f t s ≡ false) (m : FieldRows) (n : TrimRows)
     (sure : Sure q f t m n) where
-  live : leb (length (rowsOf f)) 0 ≡ false
+  live : fieldSide q .empty (rowsOf f) (s .depth .field .0) ≡ false
   live =
-      let z = unsettled-out f t s u .field-some in
-      lt-leb (length (rowsOf f)) 0 (omega (arith, length-rows f, a .field-rows))
+      empty-read (field-rises q (a .accepted)) f (s .depth .field .0) (s .rows .field .0) (a .field-rows)
+      (a .field-depth)
+      ∙ unsettled-out f t s u .field-live
 
-  live-trim : leb (length (rowsOf t)) 0 ≡ false
+  live-trim : trimSide q .empty (rowsOf t) (s .depth .trim .0) ≡ false
   live-trim =
-      let z = unsettled-out f t s u .trim-some in
-      lt-leb (length (rowsOf t)) 0 (omega (arith, length-rows t, a .trim-rows))
+      empty-read (trim-rises q (a .accepted)) t (s .depth .trim .0) (s .rows .trim .0) (a .trim-rows) (a .trim-depth)
+      ∙ unsettled-out f t s u .trim-live
 
   unended : (fieldSide q .ended (rowsOf f) (s .depth .field .0) && trimSide q .ended (rowsOf t) (s .depth .trim .0))
       ≡ false

@@ -9,7 +9,6 @@ use Rattle.lists.specs.Lists.{every}
 use Rattle.rules.specs.declared.Pair.{Pair}
 use Rattle.rules.specs.declared.Query.{Query}
 use Rattle.rules.specs.declared.Session.{Session}
-use Rattle.rules.specs.declared.Step.{Step}
 use Rattle.rules.specs.declared.Answer.the-variants.{Refused, Read, Settled, Given, NotYet, Finished}
 use Rattle.rules.specs.Tables.{Terms, terms, Block, qualifying}
 use Rattle.rules.specs.Session.{heldPairs, firstScore, lastScore, fieldReadOut, trimReadOut, bothReadOut}
