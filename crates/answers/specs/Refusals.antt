@@ -14,7 +14,7 @@ use Rattle.rules.specs.Session.{opened, zeros, settled}
 use Rattle.rules.specs.Read.{readBlock}
 use Rattle.rules.specs.Take.{firstHeld, movedOut, givesPair, finished}
 use Rattle.rules.specs.Numbers.{listLength, blockSize, radiusRange, weightRange, tableSize, badRecord, rowLimit}
-use Rattle.rules.specs.Numbers.{rowOrder, IsRefusal, unless, first, said, refusal}
+use Rattle.rules.specs.Numbers.{rowOrder, IsRefusal, first, said, refusal}
 use Rattle.rules.specs.Calls.{step, between, queryCode, sizeCode, sameSizeCode, rowCode, rowsCode, recordFits}
 use Rattle.rules.specs.Calls.{recordCode, lentCode, callCode, newBlockCodeBy, newBlockCode, openCode, openCall}
 use Rattle.rules.specs.Calls.{readCallBy, readCall, takeCallBy, takeCall}

@@ -17,7 +17,8 @@ use Rattle.rules.specs.Calls.{callCode, step, takeCallBy, takeCall}
 
 unfoldable pub takeAnswer : ℕ → List ℤ → List ℤ → Session → Answer
 takeAnswer code f t s =
-    cond (eqb code 0) (cond (givesPair f t s) (Given (firstHeld s)) (cond (finished f t s) Finished NotYet)) (Refused code)
+    cond (eqb code 0) (cond (givesPair f t s) (Given (firstHeld s)) (cond (finished f t s) Finished NotYet))
+    (Refused code)
 
 -- the record that goes with an answer: only a pair that is given changes it
 module _ (f t : List ℤ) (s : Session) where
