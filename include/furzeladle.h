@@ -46,6 +46,10 @@ int32_t furzeladle_load(const uint8_t *bytes, size_t len, int32_t kind, int32_t 
  * A table is `len` numbers, four to a row: pattern number 1 to 999,999, score 0 to 9,999 (never above the row before),
  * a and b -12,800 to 12,700; at most 65,535 rows. f is the field table, t the trim table: the same two in every call.
  *
+ * A score of 0 means that the pattern is withdrawn. Such a row is legal and is read, shown and checked like any other,
+ * but no pair with it qualifies. Scores fall, so that all rows below it are withdrawn too: once one has been read, its
+ * table counts as read out, and as empty if it is the first row. The whole block still counts in the depth.
+ *
  * A query is `query_len` numbers: k (1 to 64), block (1 to 1,024), radius (0 to 40,000); then, if they are lent, the field
  * weight and the trim weight (1 to 9 each). A weight that is not lent is 1: k, block and radius alone ask for weights 1
  * and 1. A pair's sum is field weight × score of its field row + trim weight × score of its trim row, at most 179,982. */

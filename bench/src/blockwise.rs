@@ -2,7 +2,7 @@
 use crate::checks::{call_fits, rows_legal};
 use crate::held::Held;
 use crate::outcome::Outcome;
-use crate::rows::{count, near, part, score, square};
+use crate::rows::{count, live_end, near, part, score, square};
 use furzeladle::{Asked, Pair, Query};
 
 /// Which checks the join makes.
@@ -55,8 +55,17 @@ impl<'a> Join<'a> {
         self.weights[i] * score(self.tables[i], row)
     }
 
+    /// All rows are read, or a withdrawn one is, which the last row read then is too.
     fn read_out(&self, i: usize) -> bool {
-        self.depths[i] == self.rows[i]
+        let depth = self.depths[i];
+        depth == self.rows[i] || (depth > 0 && score(self.tables[i], depth - 1) == 0)
+    }
+
+    /// A table has no rows, or its first row is read and withdrawn.
+    fn a_table_is_empty(&self) -> bool {
+        let empty =
+            |i: usize| self.rows[i] == 0 || (self.depths[i] > 0 && score(self.tables[i], 0) == 0);
+        empty(0) || empty(1)
     }
 
     fn secured(&self, sum: u32) -> bool {
@@ -67,14 +76,14 @@ impl<'a> Join<'a> {
             self.worth(1 - i, 0) + self.worth(i, self.depths[i] - 1)
         };
         if self.depths.contains(&0) {
-            return self.rows.contains(&0);
+            return self.a_table_is_empty();
         }
         (self.read_out(0) && self.read_out(1)) || sum >= part(0).max(part(1))
     }
 
     fn settled(&self) -> bool {
         let lowest = self.held.pairs().last();
-        self.rows.contains(&0)
+        self.a_table_is_empty()
             || (self.read_out(0) && self.read_out(1))
             || self.out == self.query.k
             || (self.held.is_full() && lowest.is_some_and(|p| self.secured(p.sum)))
@@ -91,7 +100,7 @@ impl<'a> Join<'a> {
         usize::from((drop(1), self.depths[1]) < (drop(0), self.depths[0]))
     }
 
-    /// Joins field rows and trim rows, each from one number to before another.
+    /// Joins live field rows and trim rows, each from one number to before another.
     fn join(&mut self, [f, f_end]: [u32; 2], [t, t_end]: [u32; 2]) {
         let square = square(self.query);
         let [v, w] = self.weights.map(|weight| weight as i32);
@@ -110,15 +119,18 @@ impl<'a> Join<'a> {
         self.tests += u64::from(f_end - f) * u64::from(t_end - t);
     }
 
-    /// Meets the blocks already read of the other table with rows of a new block.
+    /// Meets the blocks already read of the other table with rows of a new block. Where the live rows end is found once
+    /// for each table; a block pair without any is joined all the same.
     fn meet(&mut self, new: usize, from: u32, to: u32) {
         let old = 1 - new;
+        let new_end = live_end(self.tables[new], from, to);
+        let old_end = live_end(self.tables[old], 0, self.depths[old]);
         let mut start = 0;
         while start < self.depths[old] {
             let end = (start + self.query.block).min(self.depths[old]);
             let first = self.worth(new, from) + self.worth(old, start);
             if first as i32 >= self.held.bound() {
-                let (here, there) = ([from, to], [start, end]);
+                let (here, there) = ([from, new_end], [start, end.min(old_end).max(start)]);
                 let (f, t) = if new == 0 {
                     (here, there)
                 } else {

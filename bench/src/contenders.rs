@@ -13,8 +13,8 @@ pub struct Contender {
 enum Join {
     /// Weighs the scores itself.
     Weighing(fn(Asked, &[i32], &[i32]) -> Outcome),
-    /// Knows no weights and checks nothing: it joins tables whose scores were weighed before, which at weights 1 and 1
-    /// are the tables themselves.
+    /// Knows neither weights nor withdrawn rows and checks nothing: it joins live rows whose scores were weighed before,
+    /// outside the timing. At weights 1 and 1 these are the front of the tables themselves.
     Plain(fn(Query, &[i32], &[i32]) -> Outcome),
 }
 

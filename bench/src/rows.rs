@@ -14,6 +14,15 @@ pub fn part(t: &[i32], from: u32, to: u32) -> &[i32] {
     &t[4 * from as usize..4 * to as usize]
 }
 
+/// Where the withdrawn rows among these begin, or `to`. Scores fall, so that they stand last.
+pub fn live_end(t: &[i32], from: u32, to: u32) -> u32 {
+    if from == to || score(t, to - 1) > 0 {
+        return to;
+    }
+    let (rows, _) = part(t, from, to).as_chunks::<4>();
+    from + rows.partition_point(|r| r[1] > 0) as u32
+}
+
 /// The radius squared: with legal shades, 32 bits hold every square and sum here.
 pub fn square(query: Query) -> i32 {
     (query.radius * query.radius) as i32

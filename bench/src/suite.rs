@@ -75,6 +75,20 @@ fn weights() -> Vec<Case> {
     WEIGHTS.iter().map(case).collect()
 }
 
+/// Live rows that cannot fill the list: the reading ends with the first withdrawn row of each table.
+fn withdrawn(radii_too: bool) -> Vec<Case> {
+    let unfilled = Query {
+        k: 64,
+        radius: 3,
+        ..MIDDLE
+    };
+    let mut cases = vec![archive(Shape::Withdrawn, unfilled)];
+    if radii_too {
+        cases.extend(radii(Shape::Withdrawn, &RADII));
+    }
+    cases
+}
+
 /// The radii come first: the plot is drawn from them.
 pub fn sections(full: bool) -> Vec<Section> {
     let section = |title, cases| Section { title, cases };
@@ -96,5 +110,6 @@ pub fn sections(full: bool) -> Vec<Section> {
         section("Adversarial scores", adversarial),
         section("Growth at a fixed share of qualifying pairs", growth(sizes)),
         section("Weights", weights()),
+        section("Withdrawn rows", withdrawn(full)),
     ]
 }

@@ -6,7 +6,7 @@ pub fn least_sure(tables: &Tables, deepest: u32) -> u32 {
     let (m, n) = tables.counts();
     let sure = |d: u32| tables.sure(m.min(d as usize), n.min(d as usize));
     assert!(sure(deepest), "stopped too early");
-    // By the row limit the least is above `low`; more rows keep a reading sure.
+    // By the row limit the least is above `low`; more rows, withdrawn ones too, keep a reading sure.
     let (mut low, mut high) = (deepest.saturating_sub(tables.asked.query.block), deepest);
     assert!(low == 0 || !sure(low), "above the row limit");
     while low + 1 < high {

@@ -1,4 +1,5 @@
 //! The tables that are joined, always the same ones from the same seed.
+use crate::rows::{count, live_end, part};
 use furzeladle::Asked;
 use furzeladle_tests::cases::Dice;
 
@@ -19,6 +20,8 @@ pub enum Shape {
     TrimBelow,
     /// Uniform shades; all scores are equal.
     Plateau,
+    /// As uniform; the last tenth of each table is withdrawn.
+    Withdrawn,
 }
 
 impl Shape {
@@ -28,13 +31,14 @@ impl Shape {
             Shape::Clustered => "clustered",
             Shape::TrimBelow => "trim below field",
             Shape::Plateau => "plateau",
+            Shape::Withdrawn => "a tenth withdrawn",
         }
     }
 
     /// Lowest and highest score of the field table, then of the trim table.
     fn scores(self) -> [(i32, i32); 2] {
         match self {
-            Shape::Uniform | Shape::Clustered => [(0, 9_999); 2],
+            Shape::Uniform | Shape::Clustered | Shape::Withdrawn => [(0, 9_999); 2],
             Shape::TrimBelow => [(5_000, 9_999), (0, 4_999)],
             Shape::Plateau => [(5_000, 5_000); 2],
         }
@@ -46,7 +50,8 @@ pub struct Tables {
     pub trim: Vec<i32>,
 }
 
-/// Two tables, and the same with weighted scores, for those who know no weights.
+/// Two tables, and their live rows with weighted scores, for those who know neither weights nor withdrawn rows. These
+/// are made outside the timing: withdrawn rows stand last, so that the live ones are a table's front.
 pub struct Weighed {
     pub scores: Tables,
     pub worth: Tables,
@@ -62,9 +67,9 @@ impl Weighed {
     }
 }
 
-/// A table with its scores multiplied.
+/// The live rows of a table with their scores multiplied.
 fn times(t: &[i32], weight: u32) -> Vec<i32> {
-    let mut t = t.to_vec();
+    let mut t = part(t, 0, live_end(t, 0, count(t))).to_vec();
     t.chunks_exact_mut(4)
         .for_each(|row| row[1] *= weight as i32);
     t
@@ -101,6 +106,14 @@ fn table(dice: &mut Dice, rows: u32, (low, high): (i32, i32), middles: &[[i32; 2
     numbers
 }
 
+/// Withdraws the last tenth of a table.
+fn withdraw(t: &mut [i32]) {
+    let live = count(t) - count(t) / 10;
+    t.chunks_exact_mut(4)
+        .skip(live as usize)
+        .for_each(|row| row[1] = 0);
+}
+
 pub fn tables(shape: Shape, (m, n): (u32, u32), seed: u64) -> Tables {
     let mut dice = Dice::new(seed);
     let clusters = if shape == Shape::Clustered {
@@ -110,7 +123,11 @@ pub fn tables(shape: Shape, (m, n): (u32, u32), seed: u64) -> Tables {
     };
     let middles: Vec<[i32; 2]> = (0..clusters).map(|_| anywhere(&mut dice)).collect();
     let [of_field, of_trim] = shape.scores();
-    let field = table(&mut dice, m, of_field, &middles);
-    let trim = table(&mut dice, n, of_trim, &middles);
+    let mut field = table(&mut dice, m, of_field, &middles);
+    let mut trim = table(&mut dice, n, of_trim, &middles);
+    if shape == Shape::Withdrawn {
+        withdraw(&mut field);
+        withdraw(&mut trim);
+    }
     Tables { field, trim }
 }

@@ -258,20 +258,25 @@ fn query(k: u32, block: u32, radius: u32) -> Query {
     Query { k, block, radius }
 }
 
-/// Tables of these row counts from a seed: the command's listing is the model's, and has pairs.
-fn beside_the_model(folder: &Folder, (m, n): (u32, u32), spread: Spread, asked: impl Into<Asked>) {
-    let asked = asked.into();
-    let mut dice = Dice::new(u64::from(m));
-    let (f, t) = (table(&mut dice, m, spread), table(&mut dice, n, spread));
-    let field = folder.file("FIELD.TAB", &strict(1, &f));
-    let trim = folder.file("TRIM.TAB", &strict(2, &t));
+/// The command's listing is the model's, and has pairs.
+fn listed_as_modelled(folder: &Folder, f: &[i32], t: &[i32], asked: Asked) -> Vec<u8> {
+    let field = folder.file("FIELD.TAB", &strict(1, f));
+    let trim = folder.file("TRIM.TAB", &strict(2, t));
     let output = pair(&field, &trim, &numbers(asked));
-    let what = format!("{m} and {n} rows");
-    assert_listed(&output, &modelled(asked, &f, &t), &what);
+    let what = format!("{} and {} rows", f.len() / 4, t.len() / 4);
+    assert_listed(&output, &modelled(asked, f, t), &what);
     assert!(
         output.stdout.split(|b| *b == b'\n').count() > 3,
         "no pairs at {what}"
     );
+    output.stdout
+}
+
+/// The same of tables of these row counts from a seed.
+fn beside_the_model(folder: &Folder, (m, n): (u32, u32), spread: Spread, asked: impl Into<Asked>) {
+    let mut dice = Dice::new(u64::from(m));
+    let (f, t) = (table(&mut dice, m, spread), table(&mut dice, n, spread));
+    listed_as_modelled(folder, &f, &t, asked.into());
 }
 
 #[test]
@@ -312,6 +317,31 @@ fn more_rows_than_the_program_takes() {
         steep,
         weighted(query(10, 128, 128), 9, 4),
     );
+}
+
+/// The last third of each table is withdrawn, and the live rows do not fill the list: each is read down to the block
+/// with its first withdrawn row, 2,001 and 1,334.
+#[test]
+fn withdrawn_rows_far_down() {
+    let folder = Folder::new("withdrawn");
+    let spread = Spread {
+        top: 9_999,
+        step: 1,
+        plateau: false,
+        shades: 12_700,
+        extreme: false,
+    };
+    let mut dice = Dice::new(1);
+    let [f, t] = [3_000, 2_000].map(|rows| {
+        let mut t = table(&mut dice, rows, spread);
+        let live = 2 * rows as usize / 3;
+        t.chunks_mut(4).skip(live).for_each(|row| row[1] = 0);
+        t
+    });
+    let listing = listed_as_modelled(&folder, &f, &t, query(64, 100, 50).into());
+    let joined = 21 * 14;
+    let last = format!("\n  2100  1400{joined:>12}\n");
+    assert!(listing.ends_with(last.as_bytes()));
 }
 
 /// Of equal sums those come out that were read: rows 2 and 1, not 1 and 2.

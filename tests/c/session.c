@@ -1,5 +1,5 @@
-/* The rules' worked query through the C functions, at other weights too, and calls that must be refused. Exit status 0:
- * all as it must be. */
+/* The rules' worked query through the C functions, at other weights too, a withdrawn first row, and calls that must be
+ * refused. Exit status 0: all as it must be. */
 #include <stdio.h>
 #include <string.h>
 
@@ -197,6 +197,26 @@ static void weights_refused(void)
     expect("left alone", memcmp(s, zeros, sizeof s), 0);
 }
 
+/* A field table that begins with a withdrawn row is settled after one block, and no trim is read. */
+static void withdrawn(void)
+{
+    const int32_t gone[12] = {101, 0, 0, 0, 102, 0, 400, 0, 103, 0, 3, 4};
+    const uint32_t by_two[3] = {2, 2, 5}, first_block[3] = {1, 1, 2};
+    uint32_t s[SIZE], pair[3] = {7, 7, 7}, place[3];
+
+    expect("open", furzeladle_open(by_two, 3, gone, 12, trim, 20, s, SIZE), FURZELADLE_DONE);
+    expect("not empty yet", furzeladle_take(gone, 12, trim, 20, s, SIZE, pair, 3), FURZELADLE_NOT_YET);
+    expect("one block", furzeladle_read(gone, 12, trim, 20, s, SIZE), FURZELADLE_DONE);
+    expect("show", furzeladle_show(gone, 12, trim, 20, s, SIZE, place, 3), FURZELADLE_DONE);
+    expect("withdrawn rows are shown", memcmp(place, first_block, sizeof place), 0);
+    expect("settled", furzeladle_read(gone, 12, trim, 20, s, SIZE), FURZELADLE_SETTLED);
+    expect("finished", furzeladle_take(gone, 12, trim, 20, s, SIZE, pair, 3), FURZELADLE_FINISHED);
+    expect_pair("no pair", pair, 7, 7, 7);
+    expect("field depth", s[FURZELADLE_FIELD_DEPTH], 2);
+    expect("no trim read", s[FURZELADLE_TRIM_DEPTH], 0);
+    expect("nothing joined", s[FURZELADLE_JOINED], 0);
+}
+
 /* Refused openings over a live record: it stands, and its session goes on to the end. */
 static void survives(void)
 {
@@ -223,6 +243,7 @@ int main(void)
     worked();
     weighted();
     weights_refused();
+    withdrawn();
     survives();
     damaged();
     if (failures == 0)

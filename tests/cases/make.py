@@ -64,6 +64,25 @@ def distance(x, y):
     return (x[2] - y[2]) ** 2 + (x[3] - y[3]) ** 2
 
 
+def withdrawn(x):
+    """A score of 0."""
+    return x[1] == 0
+
+
+def qualifies(x, y, radius):
+    return not withdrawn(x) and not withdrawn(y) and distance(x, y) <= radius * radius
+
+
+def read_out(t, depth):
+    """All rows are read, or a withdrawn one is: scores fall, so that the last row read tells."""
+    return depth == len(t) or (depth > 0 and withdrawn(t[depth - 1]))
+
+
+def empty(t, depth):
+    """No rows, or a withdrawn first one that was read."""
+    return not t or (depth > 0 and withdrawn(t[0]))
+
+
 def rank(pair):
     return (-pair[0], pair[1], pair[2])
 
@@ -104,28 +123,27 @@ def query(field, trim, raw, numbers):
     read = {"f": [], "t": []}  # blocks read: (first row, end)
 
     def secured(pair):
-        if df == len(f) and dt == len(t):
-            return True
-        if df == 0 or dt == 0:
-            return False
+        """Of a held pair, so that rows of both tables have been read."""
         parts = []
-        if dt < len(t):
+        if not read_out(t, dt):
             parts.append(total(f[0], t[dt - 1]))
-        if df < len(f):
+        if not read_out(f, df):
             parts.append(total(f[df - 1], t[0]))
-        return pair[0] >= max(parts)
+        return all(pair[0] >= part for part in parts)
 
     def settled():
-        return not f or not t or (df == len(f) and dt == len(t)) or (len(held) == k and all(map(secured, held)))
+        if empty(f, df) or empty(t, dt) or (read_out(f, df) and read_out(t, dt)):
+            return True
+        return len(held) == k and all(map(secured, held))
 
     while not settled():
         if df == 0:
             side = "f"
         elif dt == 0:
             side = "t"
-        elif df == len(f):
+        elif read_out(f, df):
             side = "t"
-        elif dt == len(t):
+        elif read_out(t, dt):
             side = "f"
         else:
             drop_f, drop_t = wf * (f[0][1] - f[df - 1][1]), wt * (t[0][1] - t[dt - 1][1])
@@ -143,7 +161,7 @@ def query(field, trim, raw, numbers):
             joined += 1
             for i in range(*x):
                 for j in range(*y):
-                    if distance(f[i], t[j]) <= radius * radius:
+                    if qualifies(f[i], t[j], radius):
                         held.append((total(f[i], t[j]), i + 1, j + 1))
             held.sort(key=rank)
             del held[k:]
@@ -154,9 +172,9 @@ def query(field, trim, raw, numbers):
         x, y = f[x - 1], t[y - 1]
         text += "%6d%6d%6d%6d%12d\n" % (i + 1, its_sum, x[0], y[0], distance(x, y))
     # when it is settled every held pair is secured, so takes bring out all that is held
-    assert not f or not t or all(map(secured, held))
+    assert all(map(secured, held))
     # and it is the k highest of all sums
-    every = sorted((-total(x, y) for x in f for y in t if distance(x, y) <= radius * radius))
+    every = sorted((-total(x, y) for x in f for y in t if qualifies(x, y, radius)))
     assert [-p[0] for p in held] == every[:k], "the model disagrees with the plain double loop"
     return text + "%6d%6d%12d\n" % (df, dt, joined)
 
@@ -286,6 +304,44 @@ def cases():
         top, spread = (3, 30, 300, 9999)[dice.below(4)], (2, 20, 12700)[dice.below(3)]
         q = ask(1 + dice.below(64), 1 + dice.below(12), dice.below(spread + 2))
         yield "random-%d" % i, table(1, dice.rows(n, top, spread)), table(2, dice.rows(m, top, spread)), q
+    yield from withdrawn_cases()
+
+
+def scored(kind, *scores):
+    """A table of these scores in one shade."""
+    return table(kind, [(100 * kind + i, score, 0, 0) for i, score in enumerate(scores, 1)])
+
+
+def withdrawn_cases():
+    # a first row: the field table's ends the session after one block, the trim table's after one block of each
+    yield "withdrawn-field-first", scored(1, 0, 0, 0), scored(2, 7, 6, 5), ask(2, 2, 5)
+    yield "withdrawn-trim-first", scored(1, 9, 8, 7), scored(2, 0, 0, 0), ask(2, 2, 5)
+    yield "withdrawn-both-first", scored(1, 0, 0, 0), scored(2, 0, 0, 0), ask(2, 1, 5)
+    yield "withdrawn-all", scored(1, *[0] * 8), scored(2, *[0] * 8), ask(64, 1024, 40000)
+    # nothing is read where a table has no rows
+    yield "withdrawn-field-no-trim", scored(1, 0, 0), scored(2), ask(2, 1, 5)
+    yield "withdrawn-trim-no-field", scored(1), scored(2, 0, 0), ask(2, 1, 5)
+    # in the middle of a block, whose other rows count in the depth
+    yield "withdrawn-in-block-of-3", scored(1, 9, 8, 0, 0, 0), scored(2, 7, 0, 0, 0), ask(4, 3, 5)
+    yield "withdrawn-in-block-of-2", scored(1, 9, 8, 7, 0, 0), scored(2, 7, 6, 5, 4, 3), ask(64, 2, 5)
+    # a second block that begins with 0: joined while the list has room, skipped by the score rule when it is full
+    second = scored(1, 9, 8, 0, 0), scored(2, 7, 6, 5)
+    yield "withdrawn-block-joined", *second, ask(64, 2, 5)
+    yield "withdrawn-block-skipped", *second, ask(4, 2, 5)
+    # the trim table ends at its second row, and the field table goes on alone
+    yield "withdrawn-other-goes-on", scored(1, 9, 8, 7, 6, 5, 4), scored(2, 7, 0, 0, 0), ask(64, 1, 5)
+    # a table goes on alone though the other, read out, has dropped less; the ceiling, 4, has no part of one read out, 9
+    yield "withdrawn-dropped-less", scored(1, 2, 0, 0, 0), scored(2, 9, 5, 4, 3), ask(64, 1, 5)
+    yield "withdrawn-ceiling", scored(1, 3, 0, 0), scored(2, 9, 1, 1, 1), ask(2, 1, 5)
+    # k above the live pairs, and a reading that ends where the withdrawn rows begin
+    gone = [(300 + i, 0, 0, 0) for i in range(5)]
+    yield "withdrawn-k-above-live", table(1, FIELDS + gone), table(2, TRIMS + gone), ask(64, 2, 5)
+    dice = Dice(9)
+    live = [dice.rows(400, 9999, 12700) + [(1 + i, 0, 0, 0) for i in range(112)] for _ in range(2)]
+    yield "withdrawn-rows-512", table(1, live[0]), table(2, live[1]), ask(64, 50, 100)
+    # scores of 1 are live
+    yield "live-ones", table(1, [(i, 1, 0, i) for i in range(1, 9)]), table(2, [(i, 1, 0, 9 - i) for i in range(1, 9)]), ask(5, 3, 2)
+    yield "live-extreme-shades", table(1, [(1, 9999, -12800, -12800), (2, 1, 12700, 12700)]), table(2, [(3, 9999, 12700, 12700), (4, 1, -12800, -12800)]), ask(64, 1, 40000)
 
 
 def weighted_cases():
@@ -307,6 +363,8 @@ def weighted_cases():
     yield "drops-by-weights", field, trim, weigh(*columns(raw)[:4], 9)
     dice = Dice(8)
     yield "random-unlike", table(1, dice.rows(40, 300, 20)), table(2, dice.rows(40, 300, 20)), weigh(12, 3, 4, 2, 7)
+    # field rows 2 and 3 and trim row 3 are withdrawn, and no weight makes anything of them
+    yield "withdrawn-unlike", scored(1, 9, 0, 0), scored(2, 7, 6, 0), weigh(9, 2, 5, 1, 9)
     yield "no-12-zero", F, T, weigh(2, 1, 5, 0, 1)
     yield "no-12-ten", F, T, weigh(2, 1, 5, 1, 10)
     yield "no-3-before-12", F, T, weigh(2, 1, 40001, 0, 10)

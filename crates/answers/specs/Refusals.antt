@@ -14,7 +14,7 @@ use Rattle.rules.specs.Session.{opened, zeros, settled}
 use Rattle.rules.specs.Read.{readBlock}
 use Rattle.rules.specs.Take.{firstHeld, movedOut, givesPair, finished}
 use Rattle.rules.specs.Numbers.{listLength, blockSize, radiusRange, weightRange, tableSize, badRecord, rowLimit}
-use Rattle.rules.specs.Numbers.{rowOrder, IsRefusal, unless, first, said, refusal}
+use Rattle.rules.specs.Numbers.{rowOrder, IsRefusal, first, said, refusal}
 use Rattle.rules.specs.Calls.{step, between, queryCode, sizeCode, sameSizeCode, rowCode, rowsCode, recordFits}
 use Rattle.rules.specs.Calls.{recordCode, lentCode, callCode, newBlockCodeBy, newBlockCode, openCode, openCall}
 use Rattle.rules.specs.Calls.{readCallBy, readCall, takeCallBy, takeCall}
@@ -118,9 +118,9 @@ read-refusal f t s =
 pub take-refusal : (f t : List ℤ) (s : Session) → Numbered (takeCall f t s)
 unfolding takeCallBy
 take-refusal f t s =
-    let none = cond (finished s) (step Finished s) (step NotYet s) in
+    let none = cond (finished f t s) (step Finished s) (step NotYet s) in
     let given = step (Given (firstHeld s)) (movedOut s) in
     either (eqb (callCode f t s) 0) (cond (givesPair f t s) given none) (step (Refused (callCode f t s)) s)
     (either (givesPair f t s) given none (omega arith)
-    (either (finished s) (step Finished s) (step NotYet s) (omega arith) (omega arith)))
+    (either (finished f t s) (step Finished s) (step NotYet s) (omega arith) (omega arith)))
     (call-refusal f t s)

@@ -1,8 +1,8 @@
 -- What a turn of the block join makes of the numbers that stand for the pairs held. Assumes nothing.
 use mathlib.Core.Path.{_≡_, sym, ap, subst, _∙_}
-use mathlib.Core.Bool.{true}
+use mathlib.Core.Bool.{true, false}
 use mathlib.Core.List.{List}
-use Prim.Native.Nat.{ℕ, _+_, _%_, _≤_}
+use Prim.Native.Nat.{ℕ, _+_, _%_, _≤_, _<_}
 use native.Mathlib.Omega.{arith}
 use lib.Dec.{ltb}
 use lib.ListN.{length, getD, take, length-take}
@@ -14,7 +14,7 @@ use Rattle.keys.specs.Keys.{keyed-length}
 use Rattle.block.specs.Block.{metRow, metRows, Joined}
 use Rattle.block.specs.Full.{off, to-ordered}
 use Rattle.block.specs.Near.{NextNear}
-use Rattle.block.specs.Twin.{metTo, to-next, row-joins, row-skips, met-is}
+use Rattle.block.specs.Twin.{metTo, to-next, row-joins, row-skips, rows-skip, met-is}
 
 module _ (w : Terms) (room : ℕ) (x y : Block) (n : ℕ) (a : List ℕ) where
   -- b holds g pairs: of those that a held and of the pairs of rows passed
@@ -27,8 +27,8 @@ module _ (w : Terms) (room : ℕ) (x y : Block) (n : ℕ) (a : List ℕ) where
 
   module _ (i g : ℕ) (b : List ℕ) where
     -- rows that do not lie near are passed
-    pub skipped : (j k : ℕ) → NextNear w (x .rows) i (y .rows) j k → Met i j g b → Met i k g b
-    skipped j k near met =
+    pub skipped : (live j k : ℕ) → NextNear w (x .rows) i (y .rows) live j k → Met i j g b → Met i k g b
+    skipped live j k near met =
         λ l h o. subst (λ (m : List Pair). Keyed m (take g b))
         (row-skips w room x y i (metRows w room x y l i) j k (near .from) (near .none-before)) (met l h o)
 
@@ -53,18 +53,24 @@ module _ (w : Terms) (room : ℕ) (x y : Block) (n : ℕ) (a : List ℕ) where
         subst (λ (m : List Pair). Keyed m (take g b))
         (sym same ∙ row-joins w room x y i k (metRows w room x y l i) p q e) (met l h o)
 
-    -- row i + 1 of x has met all of y
-    pub next : (k : ℕ) → k ≡ rowCount (y .rows) → Met i k g b → Met (i + 1) 0 g b
-    next k e met =
+    -- row i + 1 of x has met all of y that may lie near
+    pub next : (k : ℕ) → k ≤ rowCount (y .rows)
+        → ((j : ℕ) → k ≤ j → j < rowCount (y .rows) → w .near (row (x .rows) i) (row (y .rows) j) ≡ false)
+        → Met i k g b → Met (i + 1) 0 g b
+    next k few none met =
         λ l h o.
-        subst (λ (m : List Pair). Keyed m (take g b)) (ap (metTo w room x y l i) e ∙ to-next w room x y l i)
+        subst (λ (m : List Pair). Keyed m (take g b))
+        (row-skips w room x y i (metRows w room x y l i) k (rowCount (y .rows)) few none ∙ to-next w room x y l i)
         (met l h o)
 
-    -- all rows of x have
-    pub all-met : i ≡ rowCount (x .rows) → Met i 0 g b → n ≤ room → g ≤ room → length b ≡ 64
+    -- all rows of x have that may lie near any
+    pub all-met : i ≤ rowCount (x .rows)
+        → ((k : ℕ) → i ≤ k → k < rowCount (x .rows) → (j : ℕ) → j < rowCount (y .rows)
+        → w .near (row (x .rows) k) (row (y .rows) j) ≡ false)
+        → Met i 0 g b → n ≤ room → g ≤ room → length b ≡ 64
         → Joined w room x y n a g b
     unfolding metRow
-    all-met e met few few-after long =
+    all-met last none met few few-after long =
         record {
           few = few-after;
           long = long;
@@ -72,5 +78,5 @@ module _ (w : Terms) (room : ℕ) (x y : Block) (n : ℕ) (a : List ℕ) where
               λ l h o.
               let short : length l ≤ room = omega (arith, keyed-length l (take n a) h, length-take n a) in
               subst (λ (m : List Pair). Keyed m (take g b))
-              (ap (metRows w room x y l) e ∙ met-is w room x y l o short) (met l h o);
+              (rows-skip w room x y l i (rowCount (x .rows)) last none ∙ met-is w room x y l o short) (met l h o);
         }

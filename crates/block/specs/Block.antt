@@ -9,18 +9,25 @@ use lib.ListN.{length, take}
 use Rattle.lists.specs.Lists.{ins, sort}
 use Rattle.lists.specs.Words.{Ordered}
 use Rattle.rules.specs.declared.Pair.{Pair}
-use Rattle.rules.specs.Tables.{Terms, mostRows, rowInRange, Block, row, pairAt, qualifying, ahead, rowCount}
+use Rattle.rules.specs.Tables.{Terms, mostRows, rowInRange, Block, row, withdrawn, pairAt, qualifying}
+use Rattle.rules.specs.Tables.{ahead, rowCount}
 use Rattle.keys.specs.Held.{Keyed}
 
 -- a part of a table, a rows standing before it
 abbrev pub at : ℕ → List ℤ → Block
 at a rows = record { start = a; rows = rows }
 
--- a part of n whole rows within a table's 65,535, each of which passed 6
+-- below a withdrawn row all are: scores fall
+abbrev pub Below : List ℤ → Type 0
+Below rows =
+    (i j : ℕ) → i ≤ j → j < rowCount rows → withdrawn (row rows i) ≡ true → withdrawn (row rows j) ≡ true
+
+-- a part of n whole rows within a table's 65,535, each of which passed 6 and 7
 pub record Rows (a : ℕ) (rows : List ℤ) : Type 0 where
   pub whole : 4 * rowCount rows ≡ length rows
   pub few : a + rowCount rows ≤ mostRows
   pub range : (i : ℕ) → i < rowCount rows → rowInRange rows i ≡ true
+  pub below : Below rows
 
 -- the pairs of x and y that qualify among the n pairs that a holds, of which at most `room` are kept: r of them, which
 -- a′ holds

@@ -57,12 +57,12 @@ module _ (w : Terms) (x y : Block) where
   unfolding qualifying
   none-qualify h = none-of (rowCount (x .rows)) h
 
--- r is the first row of y from row j on that lies near row i of x, rows counted from 0, or y's row count
-pub record NextNear (w : Terms) (x : List ℤ) (i : ℕ) (y : List ℤ) (j r : ℕ) : Type 0 where
+-- r is the first of y's first n rows from row j on that lies near row i of x, rows counted from 0, or n
+pub record NextNear (w : Terms) (x : List ℤ) (i : ℕ) (y : List ℤ) (n j r : ℕ) : Type 0 where
   pub from : j ≤ r
-  pub upto : r ≤ rowCount y
+  pub upto : r ≤ n
   pub none-before : (k : ℕ) → j ≤ k → k < r → w .near (row x i) (row y k) ≡ false
-  pub found : r < rowCount y → w .near (row x i) (row y r) ≡ true
+  pub found : r < n → w .near (row x i) (row y r) ≡ true
 
 -- one row more that does not lie near
 pub none-more : (w : Terms) (x : List ℤ) (i : ℕ) (y : List ℤ) (j r : ℕ)

@@ -7,6 +7,7 @@ use Prim.Native.Nat.{ℕ, zero, suc, _+_, _≤_, _<_}
 use native.Mathlib.Omega.{arith}
 use native.Mathlib.Nat.{zero-add}
 use native.Mathlib.Numerals.{add-one}
+use native.Mathlib.Decide.{decLe}
 use lib.Dec.{eqb}
 use lib.ListN.{length, take, length-take}
 use borrow.Author.Tests.{eqb-true, eqb-false}
@@ -145,6 +146,26 @@ module _ (w : Terms) (room : ℕ) (x y : Block) where
           let here = none r (omega (arith, n)) (omega arith) in
           before (omega (arith, n)) (λ k a b. none k a (omega (arith, b)))
           ∙ sym (ap (λ (b : Bool). putIf b room (pairAt w x y i r) (metRow w room x y i l r)) here)
+
+  -- and so do rows of x that lie near none of y
+  pub rows-skip : (l : List Pair) (i r : ℕ) → i ≤ r
+      → ((b : ℕ) → i ≤ b → b < r → (k : ℕ) → k < rowCount (y .rows)
+      → w .near (row (x .rows) b) (row (y .rows) k) ≡ false)
+      → metRows w room x y l i ≡ metRows w room x y l r
+  unfolding metRow metRows
+  rows-skip l i zero h none = let e : i ≡ 0 = omega arith in ap (metRows w room x y l) e
+  rows-skip l i (suc r) h none = go (decLe (suc r) i) (rows-skip l i r)
+    where
+      go : Dec (suc r ≤ i)
+          → (i ≤ r → ((b : ℕ) → i ≤ b → b < r → (k : ℕ) → k < rowCount (y .rows)
+          → w .near (row (x .rows) b) (row (y .rows) k) ≡ false)
+          → metRows w room x y l i ≡ metRows w room x y l r)
+          → metRows w room x y l i ≡ metRows w room x y l (suc r)
+      go (yes k) before = let e : i ≡ suc r = omega arith in ap (metRows w room x y l) e
+      go (no k) before =
+          before (omega arith) (λ b a c. none b a (omega (arith, c)))
+          ∙ row-skips r (metRows w room x y l r) 0 (rowCount (y .rows)) (omega arith)
+          (λ j a c. none r (omega arith) (omega arith) j c)
 
   -- the pairs held when the first i rows of x have met all of y, and row i + 1 its first j rows
   abbrev pub metTo : List Pair → ℕ → ℕ → List Pair

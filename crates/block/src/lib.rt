@@ -3,24 +3,28 @@
 use rules::Pair;
 use rules::Query;
 ghost use mathlib.Core.Path.{_≡_};
-ghost use mathlib.Core.Bool.{true};
+ghost use mathlib.Core.Bool.{true, false};
 ghost use Prim.Native.Nat.{_+_, _*_, _≤_, _<_, _/_, _%_};
 ghost use lib.ListN.{length};
-ghost use Rattle.rules.specs.Tables.{mostRows, rowInRange, row, terms, pairAt};
+ghost use Rattle.rules.specs.Tables.{mostRows, rowInRange, row, withdrawn, terms, pairAt};
 ghost use Rattle.session_laws.specs.Record.{QueryFits};
 ghost use Rattle.keys.specs.Held.{Narrow};
-ghost use Rattle.block.specs.Block.{at, Rows, Joined};
+ghost use Rattle.block.specs.Block.{at, Rows, Below, Joined};
+ghost use Rattle.block.specs.Live.{Live};
 ghost use Rattle.block.specs.Small.{SmallPairs};
 ghost use Rattle.block.specs.Near.{rowNear, anyNear, NextNear};
 
-// Whether row i + 1 of x and row j + 1 of y lie within the radius.
+// Whether row i + 1 of x and row j + 1 of y qualify: neither is withdrawn, and they lie within the radius.
 fn near(q: Query, x: &[i32], i: usize, y: &[i32], j: usize) -> bool
     requires { ⌜ (4 * i + 4 ≤ length (now x)) × (4 * j + 4 ≤ length (now y)) ⌝ }
     ensures { λ r. ⌜ r ≡ terms q .near (row (now (x .entry)) i) (row (now (y .entry)) j) ⌝ }
 {
+    let first_gone = tables::is_withdrawn(x, i);
+    let second_gone = tables::is_withdrawn(y, j);
     let first = tables::shade(x, i);
     let second = tables::shade(y, j);
-    distance::qualifies(q.radius, first, second)
+    let within = distance::qualifies(q.radius, first, second);
+    !first_gone & (!second_gone & within)
 }
 
 // Whether row i + 1 of x lies near any row of y. It looks at all of them: no branch stands in the loop.
@@ -71,27 +75,44 @@ fn pair_at(q: Query, x: &[i32], a: usize, i: usize, y: &[i32], c: usize, j: usiz
     }
 }
 
-// Whether row i + 1 of x and row j + 1 of y lie within the radius, tested at 32 bits where the flag says so.
+// How many rows of x are not withdrawn: withdrawn rows stand at the end.
+fn live_rows(x: &[i32]) -> usize
+    requires { ⌜ Below (now x) ⌝ }
+    ensures { λ r. ⌜ Live (now (x .entry)) r ⌝ }
+{
+    let mut n = x.len() / 4;
+    while 0 < n {
+        if !tables::is_withdrawn(x, n - 1) {
+            return n;
+        }
+        n -= 1;
+    }
+    n
+}
+
+// Whether row i + 1 of x and row j + 1 of y, neither of them withdrawn, lie within the radius, tested at 32 bits where
+// the flag says so.
 fn near_by(small: bool, q: Query, x: &[i32], i: usize, y: &[i32], j: usize) -> bool
     requires { ⌜ (4 * i + 4 ≤ length (now x)) × (4 * j + 4 ≤ length (now y)) ⌝ }
+    requires { ⌜ (withdrawn (row (now x) i) ≡ false) × (withdrawn (row (now y) j) ≡ false) ⌝ }
     requires { ⌜ SmallPairs (q .radius) (now x) (now y) ⌝ }
     ensures { λ r. ⌜ r ≡ terms q .near (row (now (x .entry)) i) (row (now (y .entry)) j) ⌝ }
 {
-    if !small {
-        return near(q, x, i, y, j);
-    }
     let first = tables::shade(x, i);
     let second = tables::shade(y, j);
+    if !small {
+        return distance::qualifies(q.radius, first, second);
+    }
     distance::near_small(q.radius, first, second)
 }
 
-// The first row of y from row j + 1 on that lies near row i + 1 of x, counted from 0; y's row count where none does.
-fn next_near(small: bool, q: Query, x: &[i32], i: usize, y: &[i32], j: usize) -> usize
-    requires { ⌜ (4 * i + 4 ≤ length (now x)) × (j ≤ length (now y) / 4) ⌝ }
+// The first of y's n live rows from row j + 1 on that lies near row i + 1 of x, a live row too, counted from 0; n where
+// none does. No score is looked at.
+fn next_near(small: bool, q: Query, x: &[i32], i: usize, y: &[i32], n: usize, j: usize) -> usize
+    requires { ⌜ (4 * i + 4 ≤ length (now x)) × (withdrawn (row (now x) i) ≡ false) × Live (now y) n × (j ≤ n) ⌝ }
     requires { ⌜ SmallPairs (q .radius) (now x) (now y) ⌝ }
-    ensures { λ r. ⌜ NextNear (terms q) (now (x .entry)) i (now (y .entry)) j r ⌝ }
+    ensures { λ r. ⌜ NextNear (terms q) (now (x .entry)) i (now (y .entry)) n j r ⌝ }
 {
-    let n = y.len() / 4;
     let mut k = j;
     while k < n {
         if near_by(small, q, x, i, y, k) {
@@ -103,9 +124,9 @@ fn next_near(small: bool, q: Query, x: &[i32], i: usize, y: &[i32], j: usize) ->
 }
 
 // The block join: of the pairs held and the qualifying pairs of x and y the best-ranked, at most room: how many are
-// held then. It goes from one near pair to the next; where the room is used up, a pair that would fall off is not put.
-// Rows that passed 6 may be tested at 32 bits. They are where it pays: in long blocks, and at a radius at which a first
-// gap within it is not rare, so that the branch on it is hard to foresee.
+// held then. It goes from one near pair of live rows to the next; where the room is used up, a pair that would fall off
+// is not put. Rows that passed 6 may be tested at 32 bits. They are where it pays: in long blocks, and at a radius at
+// which a first gap within it is not rare, so that the branch on it is hard to foresee.
 pub fn join(
     q: Query,
     room: usize,
@@ -121,15 +142,15 @@ pub fn join(
     ensures { λ r. ⌜ Joined (terms q) room (at a (now (x .entry))) (at c (now (y .entry))) held
         (now (keys .entry)) r (now (keys .exit)) ⌝ }
 {
-    let m = x.len() / 4;
-    let n = y.len() / 4;
+    let m = live_rows(x);
+    let n = live_rows(y);
     let last = (room + 63) % 64;
     let small = (128 < x.len()) & (64 <= q.radius);
     let mut g = held;
     let mut i: usize = 0;
     let mut j: usize = 0;
     while i < m {
-        let k = next_near(small, q, x, i, y, j);
+        let k = next_near(small, q, x, i, y, n, j);
         if k < n {
             let p = pair_at(q, x, a, i, y, c, k);
             let key = keys::key(p);

@@ -37,10 +37,12 @@ pub fn number(a: Answer) -> u32 {
     }
 }
 
-// A query over two tables, and the most rows that it may read of one.
+// A query over two tables, how many rows they have and how many of these stand above a withdrawn one, and the most rows
+// that it may read of one.
 pub struct Case {
     pub query: Query,
     pub rows: Counts,
+    pub live: Counts,
     pub limit: u32,
 }
 
@@ -67,26 +69,40 @@ pub fn opened(query: Query, rows: Counts) -> Session {
     }
 }
 
+// Whether each table is read out: all its rows, or a withdrawn one, are read.
+fn field_out(c: Case, d: Counts) -> bool {
+    (d.field.0 == c.rows.field.0) | (c.live.field.0 < d.field.0)
+}
+
+fn trim_out(c: Case, d: Counts) -> bool {
+    (d.trim.0 == c.rows.trim.0) | (c.live.trim.0 < d.trim.0)
+}
+
+// Whether a table of so many rows, so many of them live, counts as empty at a depth.
+fn is_empty(rows: u32, live: u32, depth: u32) -> bool {
+    (rows == 0) | ((live == 0) & (0 < depth))
+}
+
 // Whether a table is empty, or both are read out.
 fn all_read(c: Case, d: Counts) -> bool {
-    let m = c.rows.field.0;
-    let n = c.rows.trim.0;
-    ((m == 0) | (n == 0)) | ((d.field.0 == m) & (d.trim.0 == n))
+    let field = is_empty(c.rows.field.0, c.live.field.0, d.field.0);
+    let trim = is_empty(c.rows.trim.0, c.live.trim.0, d.trim.0);
+    (field | trim) | (field_out(c, d) & trim_out(c, d))
 }
 
 // How many of the pairs read no pair with an unread row can outdo.
 fn secured(c: Case, m: &Sums, d: Counts) -> u32 {
     let p = d.field.0;
     let q = d.trim.0;
-    let field = if p < c.rows.field.0 {
+    let field = if field_out(c, d) {
+        0
+    } else {
         plain::sum_at(m, p, 1)
-    } else {
-        0
     };
-    let trim = if q < c.rows.trim.0 {
-        plain::sum_at(m, 1, q)
-    } else {
+    let trim = if trim_out(c, d) {
         0
+    } else {
+        plain::sum_at(m, 1, q)
     };
     plain::reaching(m, d, plain::higher(field, trim))
 }
@@ -116,10 +132,11 @@ fn least_sure(c: Case, m: &Sums) -> u32 {
     least
 }
 
-pub fn case_of(query: Query, rows: Counts, m: &Sums) -> Case {
+pub fn case_of(query: Query, rows: Counts, live: Counts, m: &Sums) -> Case {
     let mut c = Case {
         query,
         rows,
+        live,
         limit: 0,
     };
     let least = least_sure(c, m);
@@ -146,8 +163,8 @@ fn field_next(c: Case, m: &Sums, d: Counts) -> bool {
     if (p == 0) | (q == 0) {
         return p == 0;
     }
-    if (p == c.rows.field.0) | (q == c.rows.trim.0) {
-        return p != c.rows.field.0;
+    if field_out(c, d) | trim_out(c, d) {
+        return !field_out(c, d);
     }
     let first = plain::sum_at(m, 1, 1);
     let x = plain::apart(first, plain::sum_at(m, p, 1));

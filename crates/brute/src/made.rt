@@ -1,5 +1,6 @@
 // Tables and queries made from a seed: ties, plateaus, zero scores, empty tables, extreme shades.
 use crate::dice;
+use crate::plain;
 use crate::plain::Table;
 use rules::FieldWeight;
 use rules::Query;
@@ -10,8 +11,9 @@ use std::num::wrapping_add_u32;
 // How scores and shades are spread.
 pub struct Spread {
     pub top: u32,
-    // The most that a score falls from row to row.
+    // The most that a score falls from row to row, and where it stops.
     pub fall: u32,
+    pub least: u32,
     // Scores fall over the first three rows only.
     pub plateau: bool,
     // How many of the small shades there are beside the first.
@@ -20,9 +22,12 @@ pub struct Spread {
 }
 
 fn spread_of(seed: u64) -> Spread {
+    let least = dice::pick(seed, 14, [0, 0, 0, 1, 1, 1, 1, 1]);
+    let top = dice::pick(seed, 1, [0, 1, 3, 8, 20, 60, 400, 9999]);
     Spread {
-        top: dice::pick(seed, 1, [0, 1, 3, 8, 20, 60, 400, 9999]),
+        top: plain::higher(top, least),
         fall: dice::pick(seed, 2, [1, 1, 2, 2, 5, 5, 60, 1000]),
+        least,
         plateau: dice::one_in(seed, 3, 3),
         shades: dice::pick(seed, 4, [0, 1, 3, 3, 5, 7, 9, 11]),
         extreme: dice::one_in(seed, 5, 6),
@@ -64,9 +69,9 @@ fn score(seed: u64, i: u32, w: Spread, s: u32) -> u32 {
     }
     let fall = dice::below(seed, i as u64, wrapping_add_u32(w.fall, 1));
     if s < fall {
-        return 0;
+        return w.least;
     }
-    s - fall
+    plain::higher(s - fall, w.least)
 }
 
 // Sets row i + 1.

@@ -20,7 +20,11 @@ fn case(seed: u64, tally: &mut [u64; 48]) {
     let rows = due::counts(dice::below(seed, 10, 13), dice::below(seed, 11, 13));
     let query = made::query(seed);
     let sums = plain::sums(query, &field, &trim);
-    let c = due::case_of(query, rows, &sums);
+    let live = due::counts(
+        plain::live(&field, rows.field.0),
+        plain::live(&trim, rows.trim.0),
+    );
+    let c = due::case_of(query, rows, live, &sums);
     let seen = play::whole(c, &sums, calls::first_rows(field, trim, rows), seed, tally);
     counted(c, seen.said, seen.fault, seen.session.depth, tally);
 }
@@ -30,6 +34,9 @@ fn counted(c: Case, said: u32, fault: u32, d: Counts, tally: &mut [u64; 48]) {
     let exact = !empty & (plain::higher(d.field.0, d.trim.0) == c.limit);
     tally::count(tally, tally::CASES);
     tally::count_if(tally, empty, tally::EMPTY);
+    let field = c.live.field.0 < c.rows.field.0;
+    let trim = c.live.trim.0 < c.rows.trim.0;
+    tally::count_if(tally, field | trim, tally::WITHDRAWN);
     tally::count_if(tally, said != due::FINISHED, tally::UNFINISHED);
     tally::count_if(tally, fault != 0, tally::MISMATCHES);
     tally::count_if(tally, exact, tally::EXACT);
@@ -53,6 +60,7 @@ fn line(tally: [u64; 48], i: u32, name: &[u8]) {
 fn totals(a: [u64; 48]) {
     line(a, tally::CASES, b"cases: ");
     line(a, tally::EMPTY, b"with an empty table: ");
+    line(a, tally::WITHDRAWN, b"with a withdrawn row: ");
     line(a, due::READ, b"blocks read: ");
     line(a, due::SETTLED, b"settled: ");
     line(a, due::GIVEN, b"pairs: ");

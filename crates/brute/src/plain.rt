@@ -61,11 +61,28 @@ fn sum(query: Query, f: &Table, i: u32, t: &Table, j: u32) -> u32 {
     wrapping_add_u32(field, weighted(query.weights.trim.0, t, j))
 }
 
+// Whether a row is withdrawn.
+fn is_withdrawn(t: &Table, row: u32) -> bool {
+    number(t, row, 1) == 20000
+}
+
+// How many of the rows stand above the first that is withdrawn.
+pub fn live(t: &Table, rows: u32) -> u32 {
+    let mut n = 0;
+    for i in 0u32..12 {
+        if (n == i) & ((i < rows) & !is_withdrawn(t, i + 1)) {
+            n = i + 1;
+        }
+    }
+    n
+}
+
 // Whether a pair qualifies.
 fn qualifies(query: Query, f: &Table, i: u32, t: &Table, j: u32) -> bool {
+    let gone = is_withdrawn(f, i) | is_withdrawn(t, j);
     let a = square(apart(number(f, i, 2), number(t, j, 2)));
     let b = square(apart(number(f, i, 3), number(t, j, 3)));
-    wrapping_add_u64(a, b) <= square(query.radius)
+    !gone & (wrapping_add_u64(a, b) <= square(query.radius))
 }
 
 // Puts in a pair.

@@ -16,6 +16,8 @@ pub const UNFINISHED: u32 = 35;
 
 pub const MISMATCHES: u32 = 36;
 
+pub const WITHDRAWN: u32 = 37;
+
 pub fn count(tally: &mut [u64; 48], i: u32) {
     if i < 48 {
         let at = i as usize;

@@ -56,7 +56,12 @@ fn sums() -> Sums {
 }
 
 fn case(m: &Sums) -> Case {
-    due::case_of(calls::query(3, 2, 5), due::counts(3, 3), m)
+    due::case_of(
+        calls::query(3, 2, 5),
+        due::counts(3, 3),
+        due::counts(3, 3),
+        m,
+    )
 }
 
 // What the comparer must see at its end.

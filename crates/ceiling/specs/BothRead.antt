@@ -1,13 +1,35 @@
--- What the calls know of the tables once their checks have passed and rows of both were read. Assumes nothing.
-use Prim.Native.Nat.{_*_, _≤_, _<_}
+-- What the calls know of the rows read once their checks have passed, and of both tables once rows of both were read.
+-- Assumes nothing.
+use Prim.Native.Nat.{ℕ, _*_, _≤_, _<_}
+use native.Mathlib.Omega.{arith}
 use mathlib.Core.List.{List}
 use lib.IntN.{ℤ}
 use lib.ListN.{length}
 use Rattle.rules.specs.declared.Session.{Session}
+use Rattle.session_laws.specs.Tables.{RowFits}
+use Rattle.session_laws.specs.Calls.{SameSize, Accepted}
 
--- rows of both tables were read, and the slices have them
+-- the rows of a table down to a depth: the slice has them, and 6 and 7 refuse none
+pub record RowsRead (t : List ℤ) (depth : ℕ) : Type 0 where
+  pub there : 4 * depth ≤ length t
+  pub fit : (i : ℕ) → i < depth → RowFits t i
+
+-- rows of both tables were read
 pub record BothRead (f t : List ℤ) (s : Session) : Type 0 where
-  pub field-read : 0 < s .depth .field .0
-  pub trim-read : 0 < s .depth .trim .0
-  pub field-rows : 4 * s .depth .field .0 ≤ length f
-  pub trim-rows : 4 * s .depth .trim .0 ≤ length t
+  pub field-some : 0 < s .depth .field .0
+  pub trim-some : 0 < s .depth .trim .0
+  pub field : RowsRead f (s .depth .field .0)
+  pub trim : RowsRead t (s .depth .trim .0)
+
+rows-read : (t : List ℤ) (rows depth : ℕ) → SameSize rows t → depth ≤ rows → ((i : ℕ) → i < depth → RowFits t i)
+    → RowsRead t depth
+rows-read t rows depth size within fit = record { there = omega (arith, size .size .whole, size .count); fit = fit }
+
+-- a record and two slices that were accepted
+pub accepted-rows : (f t : List ℤ) (s : Session) → Accepted f t s
+    → RowsRead f (s .depth .field .0) × RowsRead t (s .depth .trim .0)
+accepted-rows f t s a =
+    let l = a .lent in (
+      rows-read f (s .rows .field .0) (s .depth .field .0) (l .field) (l .fits .field .within) (a .field-rows),
+      rows-read t (s .rows .trim .0) (s .depth .trim .0) (l .trim) (l .fits .trim .within) (a .trim-rows),
+    )

@@ -23,8 +23,8 @@ use Rattle.rules.specs.Session.{noPair, heldPairs, bothReadOut, aDepthIsZero, a
 use Rattle.rules.specs.Session.{secured}
 use Rattle.rules.specs.Read.{lowest}
 use Rattle.session_laws.specs.Record.{RecordFits, first-fits}
-use Rattle.session_laws.specs.Calls.{Lent}
-use Rattle.ceiling.specs.BothRead.{BothRead}
+use Rattle.session_laws.specs.Calls.{Accepted}
+use Rattle.ceiling.specs.BothRead.{BothRead, accepted-rows}
 
 -- what is not ahead has no higher sum
 pub not-higher : (p q : Pair) → ahead q p ≡ false → q .sum ≤ p .sum
@@ -82,7 +82,7 @@ every-last test mono (p ∷ q ∷ l) h o =
 module _ (f t : List ℤ) (s : Session) where
   secured-higher : (p q : Pair) → q .sum ≤ p .sum → secured f t s q ≡ true → secured f t s p ≡ true
   unfolding securedBy
-  secured-higher p q h = go (aDepthIsZero s && not (aTableIsEmpty s)) (bothReadOut s)
+  secured-higher p q h = go (aDepthIsZero s && not (aTableIsEmpty f t s)) (bothReadOut f t s)
     where
       go : (a b : Bool) → cond a false (cond b true (leb (ceiling f t s) (q .sum))) ≡ true
           → cond a false (cond b true (leb (ceiling f t s) (p .sum))) ≡ true
@@ -97,22 +97,24 @@ module _ (f t : List ℤ) (s : Session) where
 
 -- once rows of both tables were read, only the read-out tables and the ceiling decide
 pub read-secured : (f t : List ℤ) (s : Session) (p : Pair) → BothRead f t s →
-    secured f t s p ≡ cond (bothReadOut s) true (leb (ceiling f t s) (p .sum))
+    secured f t s p ≡ cond (bothReadOut f t s) true (leb (ceiling f t s) (p .sum))
 unfolding securedBy
 read-secured f t s p r =
-    let d : s .depth .field .0 ≡ 0 → ⊥ = omega (arith, r .field-read) in
-    let e : s .depth .trim .0 ≡ 0 → ⊥ = omega (arith, r .trim-read) in
+    let d : s .depth .field .0 ≡ 0 → ⊥ = omega (arith, r .field-some) in
+    let e : s .depth .trim .0 ≡ 0 → ⊥ = omega (arith, r .trim-some) in
     rw (ne-eqb (s .depth .field .0) 0 d, ne-eqb (s .depth .trim .0) 0 e)
 
 -- a record with a pair held, over its tables
-pub held-then-read : (f t : List ℤ) (s : Session) → Lent f t s → 0 < length (s .pairs) → 0 < s .held → BothRead f t s
-held-then-read f t s l n h =
-    let p = first-fits s (l .fits) n h in
+pub held-then-read : (f t : List ℤ) (s : Session) → Accepted f t s → 0 < length (s .pairs) → 0 < s .held
+    → BothRead f t s
+held-then-read f t s a n h =
+    let p = first-fits s (a .lent .fits) n h in
+    let rows = accepted-rows f t s a in
     record {
-      field-read = omega (arith, p .field-row);
-      trim-read = omega (arith, p .trim-row);
-      field-rows = omega (arith, l .field .size .whole, l .field .count, l .fits .field .within);
-      trim-rows = omega (arith, l .trim .size .whole, l .trim .count, l .fits .trim .within);
+      field-some = omega (arith, p .field-row);
+      trim-some = omega (arith, p .trim-row);
+      field = rows .0;
+      trim = rows .1;
     }
 
 -- the last of the first n places

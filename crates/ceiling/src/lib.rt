@@ -1,11 +1,13 @@
-// The ceiling, and whether a held pair is secured: the threshold of the rules' sessions.
+// The ceiling, and whether a held pair is secured: the threshold of the rules' sessions. And what they ask of a table:
+// whether it is read out; whether it is empty.
 use rules::Pair;
 use rules::Session;
 ghost use mathlib.Core.Path.{_≡_};
 ghost use mathlib.Core.Bool.{cond};
-ghost use Prim.Native.Nat.{_+_, _<_, max};
-ghost use Rattle.rules.specs.Session.{ceiling, secured};
-ghost use Rattle.ceiling.specs.BothRead.{BothRead};
+ghost use Prim.Native.Nat.{_+_, _*_, _≤_, _<_, max};
+ghost use lib.ListN.{length};
+ghost use Rattle.rules.specs.Session.{readOut, isEmpty, ceiling, secured};
+ghost use Rattle.ceiling.specs.BothRead.{RowsRead, BothRead};
 
 fn pick(t: bool, a: u64, b: u64) -> u64
     ensures { λ r. ⌜ r ≡ cond t a b ⌝ }
@@ -19,12 +21,42 @@ fn higher(a: u64, b: u64) -> u64
     if a < b { b } else { a }
 }
 
+// Whether a table is read out: all its rows are read, or a withdrawn one is. Scores fall, so the last row read tells.
+pub fn read_out(t: &[i32], rows: u32, depth: u32) -> bool
+    requires { ⌜ RowsRead (now t) depth ⌝ }
+    ensures { λ r. ⌜ r ≡ readOut (now (t .entry)) rows depth ⌝ }
+{
+    if depth == rows {
+        return true;
+    }
+    if depth == 0 {
+        return false;
+    }
+    tables::is_withdrawn(t, depth as usize - 1)
+}
+
+// Whether a table is empty: it has no rows, or its first row was read and is withdrawn.
+pub fn is_empty(t: &[i32], rows: u32, depth: u32) -> bool
+    requires { ⌜ 4 * depth ≤ length (now t) ⌝ }
+    ensures { λ r. ⌜ r ≡ isEmpty (now (t .entry)) rows depth ⌝ }
+{
+    if rows == 0 {
+        return true;
+    }
+    if 0 < depth {
+        return tables::is_withdrawn(t, 0);
+    }
+    false
+}
+
 // The ceiling: the higher of HF + LT, if trim rows are unread, and LF + HT, if field rows are unread. Each score counts
 // by its table's weight.
 pub fn threshold(f: &[i32], t: &[i32], s: Session) -> u64
     requires { ⌜ BothRead (now f) (now t) s ⌝ }
     ensures { λ r. ⌜ r ≡ ceiling (now (f .entry)) (now (t .entry)) s ⌝ }
 {
+    let m = s.rows.field.0;
+    let n = s.rows.trim.0;
     let d = s.depth.field.0;
     let e = s.depth.trim.0;
     let v = s.query.weights.field.0;
@@ -33,8 +65,10 @@ pub fn threshold(f: &[i32], t: &[i32], s: Session) -> u64
     let lt = tables::weighted(w, t, e as usize - 1);
     let lf = tables::weighted(v, f, d as usize - 1);
     let ht = tables::weighted(w, t, 0);
-    let a = pick(e == s.rows.trim.0, 0, hf + lt);
-    let b = pick(d == s.rows.field.0, 0, lf + ht);
+    let trim_out = read_out(t, n, e);
+    let field_out = read_out(f, m, d);
+    let a = pick(trim_out, 0, hf + lt);
+    let b = pick(field_out, 0, lf + ht);
     higher(a, b)
 }
 
@@ -43,9 +77,9 @@ pub fn is_secured(f: &[i32], t: &[i32], s: Session, p: Pair) -> bool
     requires { ⌜ BothRead (now f) (now t) s ⌝ }
     ensures { λ r. ⌜ r ≡ secured (now (f .entry)) (now (t .entry)) s p ⌝ }
 {
-    let d = s.depth.field.0;
-    let e = s.depth.trim.0;
-    if (d == s.rows.field.0) & (e == s.rows.trim.0) {
+    let field_out = read_out(f, s.rows.field.0, s.depth.field.0);
+    let trim_out = read_out(t, s.rows.trim.0, s.depth.trim.0);
+    if field_out & trim_out {
         return true;
     }
     threshold(f, t, s) <= p.sum as u64

@@ -10,7 +10,7 @@ ghost use Rattle.rules.specs.Tables.{mostRows, weighted};
 ghost use Rattle.rules.specs.Session.{settled};
 ghost use Rattle.rules.specs.Read.{scoreDrop, fieldNext, nextDepth};
 ghost use Rattle.rules.specs.Calls.{newBlockCode};
-ghost use Rattle.session_laws.specs.Calls.{Lent};
+ghost use Rattle.session_laws.specs.Calls.{Accepted};
 ghost use Rattle.checks.specs.Codes.{LastHeld};
 
 // How far a table's score, by its weight, has dropped from its first row to the last row read.
@@ -28,7 +28,7 @@ fn drop_of(weight: u32, t: &[i32], depth: u32) -> u64
 
 // Whether the field table is read next.
 pub fn field_next(f: &[i32], t: &[i32], s: Session) -> bool
-    requires { ⌜ Lent (now f) (now t) s ⌝ }
+    requires { ⌜ Accepted (now f) (now t) s ⌝ }
     ensures { λ r. ⌜ r ≡ fieldNext (now (f .entry)) (now (t .entry)) s ⌝ }
 {
     let d = s.depth.field.0;
@@ -39,10 +39,10 @@ pub fn field_next(f: &[i32], t: &[i32], s: Session) -> bool
     if e == 0 {
         return false;
     }
-    if e == s.rows.trim.0 {
+    if ceiling::read_out(t, s.rows.trim.0, e) {
         return true;
     }
-    if d == s.rows.field.0 {
+    if ceiling::read_out(f, s.rows.field.0, d) {
         return false;
     }
     let x = drop_of(s.query.weights.field.0, f, d);
@@ -58,15 +58,17 @@ pub fn field_next(f: &[i32], t: &[i32], s: Session) -> bool
 
 // Whether nothing unread can matter. `last` is the last held pair: of ranked pairs it decides.
 pub fn is_settled(f: &[i32], t: &[i32], s: Session, last: Pair) -> bool
-    requires { ⌜ Lent (now f) (now t) s × LastHeld s last ⌝ }
+    requires { ⌜ Accepted (now f) (now t) s × LastHeld s last ⌝ }
     ensures { λ r. ⌜ r ≡ settled (now (f .entry)) (now (t .entry)) s ⌝ }
 {
     let m = s.rows.field.0;
     let n = s.rows.trim.0;
-    if (m == 0) | (n == 0) {
+    let d = s.depth.field.0;
+    let e = s.depth.trim.0;
+    if ceiling::is_empty(f, m, d) | ceiling::is_empty(t, n, e) {
         return true;
     }
-    if (s.depth.field.0 == m) & (s.depth.trim.0 == n) {
+    if ceiling::read_out(f, m, d) & ceiling::read_out(t, n, e) {
         return true;
     }
     if s.out == s.query.k {
@@ -98,7 +100,7 @@ pub fn next_depth(block: u32, rows: u32, depth: u32) -> u32
 
 // What 6 and 7 say of the new block, of the table that is read next.
 pub fn new_block_code(f: &[i32], t: &[i32], s: Session) -> u32
-    requires { ⌜ Lent (now f) (now t) s × (settled (now f) (now t) s ≡ false) ⌝ }
+    requires { ⌜ Accepted (now f) (now t) s × (settled (now f) (now t) s ≡ false) ⌝ }
     ensures { λ r. ⌜ r ≡ newBlockCode (now (f .entry)) (now (t .entry)) s ⌝ }
 {
     let field = field_next(f, t, s);

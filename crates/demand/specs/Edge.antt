@@ -3,7 +3,6 @@
 use mathlib.Core.Path.{_≡_, refl}
 use mathlib.Core.Bool.{true}
 use mathlib.Core.List.{List, [], _∷_}
-use lib.Dec.{lit≤}
 use lib.IntN.{ℤ, pos}
 use Rattle.lists.specs.Lists.{atLeast}
 use Rattle.rules.specs.declared.Query.{Query}
@@ -12,7 +11,7 @@ use Rattle.rules.specs.Tables.{legal}
 use Rattle.rules.specs.Sure.{Sure, qualifyingSums}
 use Rattle.rules.specs.Calls.{queryCode, openCall}
 use Rattle.rules.specs.Run.{run}
-use Rattle.tables_join.specs.Sure.{isSure, ceilingAt, sure-is-test}
+use Rattle.tables_join.specs.Sure.{isSure, readOutBy, emptyBy, ceilingAt, sure-is-test}
 use Rattle.demand.specs.Demand.{Call, reading, Line, Demand3, lastRecord}
 use Rattle.demand.specs.Sequences.{DepthsUpTo}
 use Rattle.demand.specs.Proved.{demand3}
@@ -43,8 +42,8 @@ abbrev trims : List ℤ
 trims = rowThen (pos 5) (pos 9) (rowThen (pos 5) (pos 0) (rowThen (pos 3) (pos 9) []))
 
 sure-uneven : Sure (topOne 1) fields trims (fieldRows 1) (trimRows 2)
-unfolding run isSure ceilingAt qualifyingSums atLeast
-sure-uneven = sure-is-test (topOne 1) fields trims refl refl (fieldRows 1) (trimRows 2) refl .1 refl
+unfolding run isSure readOutBy emptyBy ceilingAt qualifyingSums atLeast
+sure-uneven = sure-is-test (topOne 1) refl fields trims refl refl (fieldRows 1) (trimRows 2) .1 refl
 
 pub limit-uneven : DepthsUpTo 2 (lastOf (topOne 1) fields trims)
 unfolding run
@@ -61,8 +60,8 @@ abbrev table : List ℤ
 table = rowThen (pos 5) (pos 0) (rowThen (pos 4) (pos 0) (rowThen (pos 3) (pos 0) []))
 
 sure-one : Sure (topOne 2) table table (fieldRows 1) (trimRows 1)
-unfolding run isSure ceilingAt qualifyingSums atLeast
-sure-one = sure-is-test (topOne 2) table table refl refl (fieldRows 1) (trimRows 1) refl .1 refl
+unfolding run isSure readOutBy emptyBy ceilingAt qualifyingSums atLeast
+sure-one = sure-is-test (topOne 2) refl table table refl refl (fieldRows 1) (trimRows 1) .1 refl
 
 pub limit-two : DepthsUpTo 2 (lastOf (topOne 2) table table)
 unfolding run

@@ -47,7 +47,7 @@ module _ (f t : List ℤ) (s : Session) (a : callCode f t s ≡ 0) where
 
   take-accepted : said (takeCall f t s .answer) .accepted ≡ true
   unfolding takeCallBy
-  take-accepted = rw (eq-eqb (callCode f t s) 0 a) (go (givesPair f t s) (finished s))
+  take-accepted = rw (eq-eqb (callCode f t s) 0 a) (go (givesPair f t s) (finished f t s))
     where
       given : Step
       given = step (Given (firstHeld s)) (movedOut s)

@@ -25,7 +25,8 @@ use Rattle.rules.specs.Query.{given}
 use Rattle.session_laws.specs.Calls.{call-accepted, call-record, new-block-accepted, read-settled, read-goes}
 use Rattle.session_laws.specs.Calls.{take-gives, take-finishes, take-waits}
 use Rattle.session_laws.specs.Read.{read-field, read-trim, read-grows}
-use Rattle.session_laws.specs.Alike.{SameRows, same-less, same-secured, same-settled, same-next, same-read}
+use Rattle.session_laws.specs.Alike.{SameRows, same-less, same-secured, same-settled, same-finished, same-next}
+use Rattle.session_laws.specs.Alike.{same-read}
 use Rattle.tables_join.specs.Reached.{Reached, first-inside, empty-none}
 use Rattle.demand.specs.Demand.{Call, reading, taking, promised}
 use Rattle.demand.specs.Steps.{Happened, refused, settling, going, giving, finishing, waiting}
@@ -56,12 +57,12 @@ module _ (f t : List ℤ) (s : Session) where
 
   take-outcome : Happened f t s taking (takeCall f t s)
   unfolding takeCallBy
-  take-outcome = go (eqb (callCode f t s) 0) (givesPair f t s) (finished s) refl refl refl
+  take-outcome = go (eqb (callCode f t s) 0) (givesPair f t s) (finished f t s) refl refl refl
     where
       given : Step
       given = step (Given (firstHeld s)) (movedOut s)
 
-      go : (x y z : Bool) → eqb (callCode f t s) 0 ≡ x → givesPair f t s ≡ y → finished s ≡ z
+      go : (x y z : Bool) → eqb (callCode f t s) 0 ≡ x → givesPair f t s ≡ y → finished f t s ≡ z
           → Happened f t s taking
           (cond x (cond y given (cond z (step Finished s) (step NotYet s))) (step (Refused (callCode f t s)) s))
       go true true z a b c = giving refl (eqb-true (callCode f t s) 0 a) b refl
@@ -119,7 +120,7 @@ module _ (f t : List ℤ) (s : Session) (c : Call) (g : Step) where
   said-given p w (finishing i b d k e) = differ cc
   said-given p w (waiting i b d k e) = differ cc
 
-  pub said-finished : g .answer ≡ Finished → Happened f t s c g → finished s ≡ true
+  pub said-finished : g .answer ≡ Finished → Happened f t s c g → finished f t s ≡ true
   said-finished w (refused n e) = differ cc
   said-finished w (settling i b d e) = differ cc
   said-finished w (going i b d k e) = differ cc
@@ -127,7 +128,7 @@ module _ (f t : List ℤ) (s : Session) (c : Call) (g : Step) where
   said-finished w (finishing i b d k e) = k
   said-finished w (waiting i b d k e) = differ cc
 
-  pub said-not-yet : g .answer ≡ NotYet → Happened f t s c g → (givesPair f t s ≡ false) × (finished s ≡ false)
+  pub said-not-yet : g .answer ≡ NotYet → Happened f t s c g → (givesPair f t s ≡ false) × (finished f t s ≡ false)
   said-not-yet w (refused n e) = differ cc
   said-not-yet w (settling i b d e) = differ cc
   said-not-yet w (going i b d k e) = differ cc
@@ -148,11 +149,13 @@ reached-grows {f = f} {t = t} {s = s} a =
 abbrev pub AlikeTo : List ℤ → List ℤ → List ℤ → List ℤ → Session → Type 0
 AlikeTo f t f′ t′ r = SameRows (r .depth .field .0) f f′ × SameRows (r .depth .trim .0) t t′
 
-module _ {q : Query} {f t : List ℤ} {out : List Pair} {s : Session} (a : Reached q f t out s) (f′ t′ : List ℤ)
-    (g : legal f′ ≡ true) (h : legal t′ ≡ true) (m : rowCount f′ ≡ rowCount f) (n : rowCount t′ ≡ rowCount t) where
+module _ {q : Query} {f t : List ℤ} {out : List Pair} {s : Session} (a : Reached q f t out s) (own : legal f ≡ true)
+    (own-trim : legal t ≡ true) (f′ t′ : List ℤ) (g : legal f′ ≡ true) (h : legal t′ ≡ true)
+    (m : rowCount f′ ≡ rowCount f) (n : rowCount t′ ≡ rowCount t) where
   -- a held pair needs rows of both tables
-  held-live : 1 ≤ s .held → aTableIsEmpty s ≡ false
-  held-live some = fails (aTableIsEmpty s) (λ e. empty-none a e (firstHeld s) (first-inside a some .fits))
+  held-live : 1 ≤ s .held → aTableIsEmpty f t s ≡ false
+  held-live some =
+      fails (aTableIsEmpty f t s) (λ e. empty-none a own own-trim e (firstHeld s) (first-inside a some .fits))
 
   same-gives : AlikeTo f t f′ t′ s → givesPair f′ t′ s ≡ givesPair f t s
   unfolding givesPairBy
@@ -231,7 +234,11 @@ module _ {q : Query} {f t : List ℤ} {out : List Pair} {s : Session} (a : Reach
           gave taking given i e (take-gives f′ t′ s (same-accepted b) (gives (at given e) true d))
       go (finishing i b d k e) =
           let y = step Finished s in
-          gave taking y i e (take-finishes f′ t′ s (same-accepted b) (gives (at y e) false d) k)
+          let u = at y e in
+          gave taking y i e
+          (take-finishes f′ t′ s (same-accepted b) (gives u false d) (same-finished f t f′ t′ s (u .0) (u .1) ∙ k))
       go (waiting i b d k e) =
           let y = step NotYet s in
-          gave taking y i e (take-waits f′ t′ s (same-accepted b) (gives (at y e) false d) k)
+          let u = at y e in
+          gave taking y i e
+          (take-waits f′ t′ s (same-accepted b) (gives u false d) (same-finished f t f′ t′ s (u .0) (u .1) ∙ k))

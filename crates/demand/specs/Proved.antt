@@ -70,7 +70,7 @@ module _ {q : Query} {f t : List ℤ} (g : legal f ≡ true) (h : legal t ≡ tr
 
   call-complete : (c : Call) (x : Step) → x .answer ≡ Finished → Happened f t s c x → Complete q f t before
   call-complete c x w o =
-      ⊎-elim (λ e. inl e) (λ all. inr (all-in all)) (finished-complete a (said-finished f t s c x w o))
+      ⊎-elim (λ e. inl e) (λ all. inr (all-in all)) (finished-complete a g h (said-finished f t s c x w o))
     where
       all-in : ((p : Pair) → QualifyingPair q f t p → List·Memᴰ p (outs before)) → (i j : ℕ)
           → Qualifying q f t i j

@@ -11,8 +11,6 @@ use Rattle.rules.specs.declared.Session.{Session}
 use Rattle.rules.specs.declared.Step.{Step}
 use Rattle.rules.specs.declared.Pair.{Pair}
 use Rattle.rules.specs.declared.Query.{Query}
-use Rattle.rules.specs.declared.Answer.{Answer}
-use Rattle.rules.specs.declared.Answer.the-variants.{Refused, Opened, Read, Settled, Given, NotYet, Finished}
 use Rattle.rules.specs.Tables.{rowCount, legal}
 use Rattle.rules.specs.Read.{fieldNext, readBlock}
 use Rattle.rules.specs.Take.{movedOut}
@@ -144,7 +142,7 @@ module _ (q : Query) (f t : List ℤ) (g : legal f ≡ true) (h : legal t ≡ tr
       where
         go : (b : Bool) → isAccepted l ≡ b
             → promised (l .call) (cond b f′ (l .field)) (cond b t′ (l .trim)) s ≡ l .gave
-        go true z = same-call a f′ t′ g′ h′ m n (l .call) (l .gave) z alike (line-happened a l lines w)
+        go true z = same-call a g h f′ t′ g′ h′ m n (l .call) (l .gave) z alike (line-happened a l lines w)
         go false z = sym (w .0)
 
     -- alike in the rows read at last, so in those read first

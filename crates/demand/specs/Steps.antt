@@ -23,9 +23,9 @@ pub data Happened (f t : List ℤ) (s : Session) (c : Call) (g : Step) : Type 0 
       → g ≡ step Read (readBlock f t s) → Happened f t s c g
   giving : c ≡ taking → callCode f t s ≡ 0 → givesPair f t s ≡ true → g ≡ step (Given (firstHeld s)) (movedOut s)
       → Happened f t s c g
-  finishing : c ≡ taking → callCode f t s ≡ 0 → givesPair f t s ≡ false → finished s ≡ true → g ≡ step Finished s
+  finishing : c ≡ taking → callCode f t s ≡ 0 → givesPair f t s ≡ false → finished f t s ≡ true → g ≡ step Finished s
       → Happened f t s c g
-  waiting : c ≡ taking → callCode f t s ≡ 0 → givesPair f t s ≡ false → finished s ≡ false → g ≡ step NotYet s
+  waiting : c ≡ taking → callCode f t s ≡ 0 → givesPair f t s ≡ false → finished f t s ≡ false → g ≡ step NotYet s
       → Happened f t s c g
 
 -- 1 for a call that read a block

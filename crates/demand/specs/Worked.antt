@@ -16,13 +16,13 @@ use Rattle.rules.specs.declared.Session.{Session}
 use Rattle.rules.specs.declared.Step.{Step}
 use Rattle.rules.specs.declared.Answer.{Answer}
 use Rattle.rules.specs.declared.Answer.the-variants.{Refused, Opened, Read, Given, Finished}
-use Rattle.rules.specs.Tables.{natOf, row, qualifies}
+use Rattle.rules.specs.Tables.{natOf, Row, row, rowsQualify}
 use Rattle.rules.specs.Session.{weights}
 use Rattle.rules.specs.Sure.{Sure, qualifyingSums}
 use Rattle.rules.specs.Calls.{openCall}
 use Rattle.rules.specs.Run.{run}
 use Rattle.rules.specs.Example as Example
-use Rattle.tables_join.specs.Sure.{isSure, ceilingAt, sure-is-test}
+use Rattle.tables_join.specs.Sure.{isSure, readOutBy, emptyBy, ceilingAt, sure-is-test}
 use Rattle.demand.specs.Demand.{reading, taking, Line, Sequence, Qualifying, sumOf, outs, IsIn, Out, lastRecord}
 use Rattle.demand.specs.Demand.{byRules, over, answersOver, Alike, Brought, Demand3}
 use Rattle.demand.specs.Proved.{demand3}
@@ -135,9 +135,12 @@ second-brought : Brought query fields trims (firstLines 10) second
 unfolding run
 second-brought = worked .brought (firstLines 10) (drop 11 lines) (lineAt 10) second refl refl
 
+abbrev patternAt : ℕ → ℕ → ℤ → ℤ → Row
+patternAt number score a b = record { pattern = number; score = score; shade = record { a = a; b = b } }
+
 -- "Each pair brought out qualifies,"
-pub qualify : (qualifies 5 (record { a = pos 0; b = pos 0 }) (record { a = pos 3; b = pos 4 }) ≡ true)
-    × (qualifies 5 (record { a = pos 100; b = pos 0 }) (record { a = pos 100; b = pos 5 }) ≡ true)
+pub qualify : (rowsQualify 5 (patternAt 101 90 (pos 0) (pos 0)) (patternAt 202 50 (pos 3) (pos 4)) ≡ true)
+    × (rowsQualify 5 (patternAt 102 80 (pos 100) (pos 0)) (patternAt 203 30 (pos 100) (pos 5)) ≡ true)
 unfolding row
 qualify = (first-brought .qualifying .near, second-brought .qualifying .near)
 
@@ -181,8 +184,8 @@ highest-two = finished-highest worked refl refl (firstLines 11) [] (lineAt 11) r
 
 -- "After the sequence no more than max(p, q) + block - 1 rows of either table have been read": four of each are sure
 sure : Sure query fields trims (fieldRows 4) (trimRows 4)
-unfolding run isSure ceilingAt qualifyingSums atLeast
-sure = sure-is-test query fields trims refl refl (fieldRows 4) (trimRows 4) refl .1 refl
+unfolding run isSure readOutBy emptyBy ceilingAt qualifyingSums atLeast
+sure = sure-is-test query refl fields trims refl refl (fieldRows 4) (trimRows 4) .1 refl
 
 pub at-most-four : (lastRecord begun lines .depth .field .0 ≤ 4) × (lastRecord begun lines .depth .trim .0 ≤ 4)
 at-most-four = worked .row-limit (fieldRows 4) (trimRows 4) sure

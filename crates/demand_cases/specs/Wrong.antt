@@ -17,7 +17,7 @@ use Rattle.rules.specs.Take.{firstHeld}
 use Rattle.rules.specs.Sure.{Sure, qualifyingSums}
 use Rattle.rules.specs.Calls.{openCall, readCall}
 use Rattle.rules.specs.Run.{run}
-use Rattle.tables_join.specs.Sure.{isSure, ceilingAt, sure-is-test}
+use Rattle.tables_join.specs.Sure.{isSure, readOutBy, emptyBy, ceilingAt, sure-is-test}
 use Rattle.demand.specs.Demand.{Qualifying, Brought}
 use Rattle.demand.specs.Transcript.{rowThen, topOne, fieldRows, trimRows}
 
@@ -27,7 +27,7 @@ use Rattle.demand.specs.Transcript.{rowThen, topOne, fieldRows, trimRows}
 abbrev chosenBy : (List ℤ → List ℤ → Session → Bool) → List ℤ → List ℤ → Session → Bool
 chosenBy rule f t s =
     cond (eqb (s .depth .field .0) 0) true
-    (cond (eqb (s .depth .trim .0) 0) false (cond (trimReadOut s) true (cond (fieldReadOut s) false (rule f t s))))
+    (cond (eqb (s .depth .trim .0) 0) false (cond (trimReadOut t s) true (cond (fieldReadOut f s) false (rule f t s))))
 
 -- Qi, Bouros and Mamoulis (2020) as printed: the table whose last score is higher
 abbrev byLastScore : List ℤ → List ℤ → Session → Bool
@@ -73,8 +73,8 @@ abbrev lowTrims : List ℤ
 lowTrims = rowThen (pos 10) (pos 9) (rowThen (pos 9) (pos 0) (rowThen (pos 8) (pos 9) []))
 
 sure-low : Sure (topOne 1) highFields lowTrims (fieldRows 2) (trimRows 2)
-unfolding run isSure ceilingAt qualifyingSums atLeast
-sure-low = sure-is-test (topOne 1) highFields lowTrims refl refl (fieldRows 2) (trimRows 2) refl .1 refl
+unfolding run isSure readOutBy emptyBy ceilingAt qualifyingSums atLeast
+sure-low = sure-is-test (topOne 1) refl highFields lowTrims refl refl (fieldRows 2) (trimRows 2) .1 refl
 
 -- the row limit, here 2, is broken by the last-score rule and kept by the rule itself
 pub last-score-breaks-limit : Sure (topOne 1) highFields lowTrims (fieldRows 2) (trimRows 2)
@@ -91,8 +91,8 @@ abbrev level : List ℤ
 level = rowThen (pos 5) (pos 9) (rowThen (pos 5) (pos 0) (rowThen (pos 5) (pos 9) []))
 
 sure-level : Sure (topOne 1) plateau level (fieldRows 2) (trimRows 2)
-unfolding run isSure ceilingAt qualifyingSums atLeast
-sure-level = sure-is-test (topOne 1) plateau level refl refl (fieldRows 2) (trimRows 2) refl .1 refl
+unfolding run isSure readOutBy emptyBy ceilingAt qualifyingSums atLeast
+sure-level = sure-is-test (topOne 1) refl plateau level refl refl (fieldRows 2) (trimRows 2) .1 refl
 
 pub equal-drops-break-limit : Sure (topOne 1) plateau level (fieldRows 2) (trimRows 2)
     × (max 2 2 + 1 - 1 < rowsBy equalDropsField (topOne 1) plateau level)
@@ -109,8 +109,8 @@ readsAll q f t =
     readTo (fieldNext f t s) (s .rows .field .0) s .depth .field .0
 
 sure-first : Sure (topOne 1) plateau plateau (fieldRows 1) (trimRows 1)
-unfolding run isSure ceilingAt qualifyingSums atLeast
-sure-first = sure-is-test (topOne 1) plateau plateau refl refl (fieldRows 1) (trimRows 1) refl .1 refl
+unfolding run isSure readOutBy emptyBy ceilingAt qualifyingSums atLeast
+sure-first = sure-is-test (topOne 1) refl plateau plateau refl refl (fieldRows 1) (trimRows 1) .1 refl
 
 pub reading-all-breaks-limit : Sure (topOne 1) plateau plateau (fieldRows 1) (trimRows 1)
     × (max 1 1 + 1 - 1 < readsAll (topOne 1) plateau plateau)

@@ -5,6 +5,8 @@ pub mod Sure
 pub mod Limit
 pub mod Plain
 pub mod PlainLaws
+pub mod Zero
+pub mod ZeroLaws
 pub mod Example
 pub mod Held
 pub mod HeldLaws

@@ -20,14 +20,14 @@ module _ {A : Type 0} (R : Rows A) where
   abbrev weightOf : List A → ℕ → ℕ
   weightOf l i = R .weight (at l i)
 
-  legal-one : (x : A) → 1 ≤ R .most → R .Good x → PlainLegal R (x ∷ [])
+  pub legal-one : (x : A) → 1 ≤ R .most → R .Good x → PlainLegal R (x ∷ [])
   legal-one x h g = record { short = h; good = only; falls = λ i k. absurd (omega arith) }
     where
       only : (i : ℕ) → i < 1 → R .Good (at (x ∷ []) i)
       only zero k = g
       only (suc i) k = absurd (omega arith)
 
-  legal-take : (n : ℕ) (l : List A) → PlainLegal R l → PlainLegal R (take n l)
+  pub legal-take : (n : ℕ) (l : List A) → PlainLegal R l → PlainLegal R (take n l)
   legal-take n l g = record {
     short = rw length-take (omega (arith, g .short));
     good = λ i h. rw (same i (inside i h)) (g .good i (omega (arith, inside i h)));
@@ -61,7 +61,7 @@ module _ {A : Type 0} (R : Rows A) where
     longer-last : (i : ℕ) → i ≡ n → at longer i ≡ x
     longer-last i e = getD-at (take n l) x [] (R .blank) i (length-take-le n l (omega arith) ∙ sym e)
 
-    legal-more : PlainLegal R l → R .Good x → (1 ≤ n → R .weight x ≤ weightOf l (n - 1)) → PlainLegal R longer
+    pub legal-more : PlainLegal R l → R .Good x → (1 ≤ n → R .weight x ≤ weightOf l (n - 1)) → PlainLegal R longer
     legal-more g y w = record {
       short = omega (arith, longer-length, g .short);
       good = λ i k. good i (ltb i n) refl (omega (arith, longer-length));

@@ -14,12 +14,13 @@ use Rattle.lists.specs.Words.{Ordered}
 use Rattle.lists.specs.Sorts.{sort-ordered, take-ordered}
 use Rattle.rules.specs.declared.Pair.{Pair}
 use Rattle.rules.specs.declared.Session.{Session}
-use Rattle.rules.specs.Tables.{rowInRange, terms, Block, qualifying, ahead}
+use Rattle.rules.specs.Tables.{rowInRange, row, rowCount, withdrawn, terms, Block, qualifying, ahead}
 use Rattle.rules.specs.Ranking.{ahead-strict}
 use Rattle.rules.specs.Session.{places, heldPairs}
 use Rattle.rules.specs.Read.{skipped, bestHeld, holding, meetBy, meet, rowsBetween, meetBlocksBy, meetBlocks}
-use Rattle.session_laws.specs.Tables.{range-part}
-use Rattle.session_laws.specs.Calls.{Accepted, NewRowsFit}
+use Rattle.session_laws.specs.Tables.{row-part, range-part}
+use Rattle.session_laws.specs.ReadOut.{withdrawn-below}
+use Rattle.session_laws.specs.Calls.{Accepted, NewRowsFit, read-rows}
 use Rattle.keys.specs.Places.{list-of-places}
 use Rattle.block.specs.Block.{at, Rows}
 use Rattle.meeting.specs.declared.Span.{Span}
@@ -68,37 +69,46 @@ blocks-ready field s new t depth (suc n) r = meet-ready _ _ _ (blocks-ready fiel
 -- ---- Parts of a table as blocks
 
 -- the numbers from row a + 1 to row e of a table, as the code cuts them out
-pub part-is : (t : List ℤ) (a e : ℕ) → at a (take (4 * e - 4 * a) (drop (4 * a) t)) ≡ rowsBetween t a e
+abbrev cut : List ℤ → ℕ → ℕ → List ℤ
+cut t a e = take (4 * e - 4 * a) (drop (4 * a) t)
+
+pub part-is : (t : List ℤ) (a e : ℕ) → at a (cut t a e) ≡ rowsBetween t a e
 part-is t a e =
     let n : 4 * e - 4 * a ≡ 4 * (e - a) = omega arith in
     ap (λ (m : ℕ). at a (take m (drop (4 * a) t))) n
 
--- they are whole rows that passed 6, within a table's 65,535
-pub part-rows : (t : List ℤ) (x : Span) → SpanFits x t
-    → Rows (x .from) (take (4 * x .to - 4 * x .from) (drop (4 * x .from) t))
+-- they are whole rows that passed 6 and 7, within a table's 65,535
+pub part-rows : (t : List ℤ) (x : Span) → SpanFits x t → Rows (x .from) (cut t (x .from) (x .to))
 part-rows t x fits =
     let a = x .from in
     let e = x .to in
-    let n : length (take (4 * e - 4 * a) (drop (4 * a) t)) ≡ 4 * e - 4 * a =
+    let n : length (cut t a e) ≡ 4 * e - 4 * a =
     length-take-le (4 * e - 4 * a) (drop (4 * a) t) (omega (arith, length-drop (4 * a) t, fits .within)) in
+    let inside : (i : ℕ) → i < rowCount (cut t a e) → i < e - a = λ i h. omega (arith, n, h) in
+    let row-is : (i : ℕ) → i < e - a → row (cut t a e) i ≡ row t (a + i) =
+    λ i k. ap (λ (b : Block). row (b .rows) i) (part-is t a e) ∙ row-part t a (e - a) i k in
     record {
       whole = omega arith;
       few = omega (arith, fits .some, fits .few);
       range =
           λ i h.
-          let k : i < e - a = omega (arith, n, h) in
+          let k = inside i h in
           ap (λ (b : Block). rowInRange (b .rows) i) (part-is t a e)
           ∙ range-part t a (e - a) i k
-          ∙ fits .range (a + i) (omega arith) (omega (arith, k));
+          ∙ fits .fit (a + i) (omega (arith, k)) .range;
+      below =
+          λ i j h k g.
+          let l = inside j k in
+          ap withdrawn (row-is j l)
+          ∙ withdrawn-below t e (fits .fit) (a + i) (a + j) (omega (arith, h)) (omega (arith, l))
+          (ap withdrawn (sym (row-is i (omega (arith, h, l)))) ∙ g);
     }
 
 -- ---- The rows of a read whose checks have passed
 
 pub passed : (field : Bool) (f t : List ℤ) (s : Session) → Accepted f t s → NewRowsFit field f t s → Passed field f t s
-passed true f t s a new =
-    record { new = λ i h k. new i h k .range; other = λ i h k. a .trim-rows i k .range }
-passed false f t s a new =
-    record { new = λ i h k. new i h k .range; other = λ i h k. a .field-rows i k .range }
+passed true f t s a new = let rows = read-rows true f t s a new in record { new = rows .0; other = rows .1 }
+passed false f t s a new = let rows = read-rows false f t s a new in record { new = rows .1; other = rows .0 }
 
 -- ---- A new block and an old one, as field and trim
 

@@ -19,7 +19,7 @@ ghost use Rattle.choosing.specs.Ready.{Ready};
 ghost use Rattle.choosing.specs.Due.{Due};
 ghost use Rattle.meeting.specs.Effect.{Effect};
 ghost use Rattle.meeting.specs.Stands.{Keys, Stands, Meets, withKeys};
-ghost use Rattle.meeting.specs.Side.{InRange, SpanFits, Passed, spanBlock, downTo};
+ghost use Rattle.meeting.specs.Side.{FirstFit, SpanFits, Passed, spanBlock, downTo};
 
 fn lesser(a: usize, b: usize) -> usize
     ensures { λ r. ⌜ r ≡ min a b ⌝ }
@@ -148,7 +148,7 @@ fn meet_blocks(
     keys: &mut [u64; 64],
 ) -> Met
     requires { ⌜ Ready s × (s .joined + n < 2 ^ 63) × Keys s (now keys) ⌝ }
-    requires { ⌜ SpanFits new (cond field (now f) (now t)) × InRange (cond field (now t) (now f)) 0 depth ⌝ }
+    requires { ⌜ SpanFits new (cond field (now f) (now t)) × FirstFit (cond field (now t) (now f)) depth ⌝ }
     requires { ⌜ (depth ≤ mostRows) × (4 * depth ≤ length (cond field (now t) (now f)))
         × (n * s .query .block < depth + s .query .block) ⌝ }
     ensures { λ r. ⌜ Stands

@@ -7,14 +7,14 @@ use rules::Step;
 ghost use mathlib.Core.Path.{_≡_};
 ghost use Prim.Native.Nat.{_+_, _-_, _≤_, _<_};
 ghost use Rattle.rules.specs.Calls.{readCall};
-ghost use Rattle.session_laws.specs.Calls.{Lent};
+ghost use Rattle.session_laws.specs.Calls.{Accepted};
 ghost use Rattle.checks.specs.Codes.{LastHeld};
 ghost use Rattle.reading.specs.Answers.{readAnswer};
 
 // What a read answers, of the code that the checks gave: refused; settled; or a block is read, unless 6 or 7 refuses
 // it.
 fn read_answer(code: u32, f: &[i32], t: &[i32], s: Session, last: Pair) -> Answer
-    requires { ⌜ (code ≡ 0 → Lent (now f) (now t) s × LastHeld s last) ⌝ }
+    requires { ⌜ (code ≡ 0 → Accepted (now f) (now t) s × LastHeld s last) ⌝ }
     ensures { λ r. ⌜ r ≡ readAnswer code (now (f .entry)) (now (t .entry)) s ⌝ }
 {
     if code != 0 {

@@ -148,7 +148,7 @@ unfoldable pub takeCallBy : (Query → Terms) → List ℤ → List ℤ → Sess
 takeCallBy g f t s =
     cond (eqb (callCode f t s) 0)
     (cond (givesPairBy g f t s) (step (Given (firstHeld s)) (movedOut s))
-    (cond (finished s) (step Finished s) (step NotYet s)))
+    (cond (finished f t s) (step Finished s) (step NotYet s)))
     (step (Refused (callCode f t s)) s)
 
 abbrev pub takeCall : List ℤ → List ℤ → Session → Step

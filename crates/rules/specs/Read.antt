@@ -27,8 +27,8 @@ fieldNextBy g f t s =
     let y = scoreDrop (g (s .query) .trim) t e in
     cond (eqb d 0) true
     (cond (eqb e 0) false
-    (cond (trimReadOut s) true
-    (cond (fieldReadOut s) false
+    (cond (trimReadOut t s) true
+    (cond (fieldReadOut f s) false
     (cond (ltb x y) true
     (cond (ltb y x) false
     (leb d e))))))

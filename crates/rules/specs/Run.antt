@@ -1,7 +1,9 @@
 -- All rules at once: a proof that says `unfolding run` computes with them. Assumes nothing.
 use Rattle.rules.specs.Tables.{within, inRange, rowInRange, rowInOrder, sizeFits, legal, row, gap}
-use Rattle.rules.specs.Tables.{squaredDistance, qualifies, weighted, pairSum, ahead, pairAt, qualifying}
-use Rattle.rules.specs.Session.{places, opened, zeros, ceilingBy, securedBy, settledBy}
+use Rattle.rules.specs.Tables.{squaredDistance, qualifies, withdrawn, rowsQualify, weighted, pairSum, ahead}
+use Rattle.rules.specs.Tables.{pairAt, qualifying}
+use Rattle.rules.specs.Session.{places, opened, zeros, withdrawnWithin, readOut, isEmpty, ceilingBy, securedBy}
+use Rattle.rules.specs.Session.{settledBy}
 use Rattle.rules.specs.Read.{fieldNextBy, lowest, skippedBy, bestHeld, holding, meetBy, meetBlocksBy, readTo}
 use Rattle.rules.specs.Read.{readTableBy}
 use Rattle.rules.specs.Take.{givesPairBy, movedOut, finished, shownRows}
@@ -18,13 +20,14 @@ use Rattle.rules.specs.Query.{refusalLine, wholeQueryCode, wholeQuery}
 use Rattle.lists.specs.Lists.{consIf, keep, every, range, each, ins, sort, ranked}
 
 unfoldable pub run : Unit {0}
-unfolding within inRange rowInRange rowInOrder sizeFits legal row gap squaredDistance qualifies weighted pairSum ahead
-    pairAt qualifying places opened zeros ceilingBy securedBy settledBy fieldNextBy lowest skippedBy bestHeld holding
-    meetBy meetBlocksBy readTo readTableBy givesPairBy movedOut finished shownRows queryCode sizeCode sameSizeCode
-    rowCode rowsCode countsFit pairFits markFits recordFits recordCode lentCode callCode newBlockCodeBy openCode
-    openCall readCallBy takeCallBy showCall showPlace afterBlanks digitsFit digitsFrom hasMinus afterMinus columnFits
-    columnNumber headerFits fileCount fileKind rowColumnsFit rowNumbers fileTable fileRowCode andRow rowsLoaded
-    kindFits headCode checkFile andSlice loadedInto loadAnswer loadNumbers checkAlone readUntilSettledBy
-    takeUntilFinishedBy settledSession list decimal pairLine pairLines queryLine lastLine listing programFileCode
-    inputCode inputQuery refusalLine wholeQueryCode wholeQuery consIf keep every range each ins sort ranked
+unfolding within inRange rowInRange rowInOrder sizeFits legal row gap squaredDistance qualifies withdrawn rowsQualify
+    weighted pairSum ahead pairAt qualifying places opened zeros withdrawnWithin readOut isEmpty ceilingBy securedBy
+    settledBy fieldNextBy lowest skippedBy bestHeld holding meetBy meetBlocksBy readTo readTableBy givesPairBy
+    movedOut finished shownRows queryCode sizeCode sameSizeCode rowCode rowsCode countsFit pairFits markFits
+    recordFits recordCode lentCode callCode newBlockCodeBy openCode openCall readCallBy takeCallBy showCall showPlace
+    afterBlanks digitsFit digitsFrom hasMinus afterMinus columnFits columnNumber headerFits fileCount fileKind
+    rowColumnsFit rowNumbers fileTable fileRowCode andRow rowsLoaded kindFits headCode checkFile andSlice loadedInto
+    loadAnswer loadNumbers checkAlone readUntilSettledBy takeUntilFinishedBy settledSession list decimal pairLine
+    pairLines queryLine lastLine listing programFileCode inputCode inputQuery refusalLine wholeQueryCode wholeQuery
+    consIf keep every range each ins sort ranked
 run = tt

@@ -1,8 +1,8 @@
 -- docs/RULES.md, "The session". Definitions only. Assumes nothing.
-use Prim.Native.Nat.{ℕ, _+_, _-_, max}
+use Prim.Native.Nat.{ℕ, zero, suc, _+_, _-_, max}
 use mathlib.Core.Bool.{Bool, true, false, cond, _&&_, _||_, not}
 use mathlib.Core.List.{List, [], _++_}
-use lib.Dec.{leb, eqb}
+use lib.Dec.{leb, ltb, eqb}
 use lib.IntN.{ℤ}
 use lib.ListN.{length, take, replicate}
 use Rattle.lists.specs.Lists.{every}
@@ -12,7 +12,7 @@ use Rattle.rules.specs.declared.Pair.{Pair}
 use Rattle.rules.specs.declared.Weights.{Weights}
 use Rattle.rules.specs.declared.Query.{Query}
 use Rattle.rules.specs.declared.Session.{Session}
-use Rattle.rules.specs.Tables.{Row, row, Terms, terms}
+use Rattle.rules.specs.Tables.{Row, row, withdrawn, Terms, terms}
 
 abbrev pub noPair : Pair
 noPair = record { sum = 0; field = 0; trim = 0 }
@@ -61,17 +61,32 @@ firstScore score t = score (row t 0)
 abbrev pub lastScore : (Row → ℕ) → List ℤ → ℕ → ℕ
 lastScore score t depth = score (row t (depth - 1))
 
-abbrev pub fieldReadOut : Session → Bool
-fieldReadOut s = eqb (s .depth .field .0) (s .rows .field .0)
+-- whether a withdrawn row is among the first n of a table
+unfoldable pub withdrawnWithin : List ℤ → ℕ → Bool
+withdrawnWithin t zero = false
+withdrawnWithin t (suc n) = withdrawnWithin t n || withdrawn (row t n)
 
-abbrev pub trimReadOut : Session → Bool
-trimReadOut s = eqb (s .depth .trim .0) (s .rows .trim .0)
+-- "read out", of a table, its row count and a depth: all its rows are read; "Because scores fall, a table counts as
+-- read out .. once a row of score 0 has been read"
+unfoldable pub readOut : List ℤ → ℕ → ℕ → Bool
+readOut t rows depth = eqb depth rows || withdrawnWithin t depth
 
-abbrev pub bothReadOut : Session → Bool
-bothReadOut s = fieldReadOut s && trimReadOut s
+-- "empty", of the same: it has no rows; "and as empty once such a first row has been read"
+unfoldable pub isEmpty : List ℤ → ℕ → ℕ → Bool
+isEmpty t rows depth = eqb rows 0 || (ltb 0 depth && withdrawn (row t 0))
 
-abbrev pub aTableIsEmpty : Session → Bool
-aTableIsEmpty s = eqb (s .rows .field .0) 0 || eqb (s .rows .trim .0) 0
+abbrev pub fieldReadOut : List ℤ → Session → Bool
+fieldReadOut f s = readOut f (s .rows .field .0) (s .depth .field .0)
+
+abbrev pub trimReadOut : List ℤ → Session → Bool
+trimReadOut t s = readOut t (s .rows .trim .0) (s .depth .trim .0)
+
+abbrev pub bothReadOut : List ℤ → List ℤ → Session → Bool
+bothReadOut f t s = fieldReadOut f s && trimReadOut t s
+
+abbrev pub aTableIsEmpty : List ℤ → List ℤ → Session → Bool
+aTableIsEmpty f t s =
+    isEmpty f (s .rows .field .0) (s .depth .field .0) || isEmpty t (s .rows .trim .0) (s .depth .trim .0)
 
 abbrev pub aDepthIsZero : Session → Bool
 aDepthIsZero s = eqb (s .depth .field .0) 0 || eqb (s .depth .trim .0) 0
@@ -85,8 +100,8 @@ unfoldable pub ceilingBy : (Query → Terms) → List ℤ → List ℤ → Sessi
 ceilingBy g f t s =
     let w = g (s .query) in
     max
-    (cond (trimReadOut s) 0 (firstScore (w .field) f + lastScore (w .trim) t (s .depth .trim .0)))
-    (cond (fieldReadOut s) 0 (lastScore (w .field) f (s .depth .field .0) + firstScore (w .trim) t))
+    (cond (trimReadOut t s) 0 (firstScore (w .field) f + lastScore (w .trim) t (s .depth .trim .0)))
+    (cond (fieldReadOut f s) 0 (lastScore (w .field) f (s .depth .field .0) + firstScore (w .trim) t))
 
 abbrev pub ceiling : List ℤ → List ℤ → Session → ℕ
 ceiling = ceilingBy terms
@@ -95,8 +110,8 @@ ceiling = ceilingBy terms
 -- secured. Otherwise a held pair is secured if its sum is at least the ceiling."
 unfoldable pub securedBy : (Query → Terms) → List ℤ → List ℤ → Session → Pair → Bool
 securedBy g f t s p =
-    cond (aDepthIsZero s && not (aTableIsEmpty s)) false
-    (cond (bothReadOut s) true (leb (ceilingBy g f t s) (p .sum)))
+    cond (aDepthIsZero s && not (aTableIsEmpty f t s)) false
+    (cond (bothReadOut f t s) true (leb (ceilingBy g f t s) (p .sum)))
 
 abbrev pub secured : List ℤ → List ℤ → Session → Pair → Bool
 secured = securedBy terms
@@ -105,8 +120,8 @@ secured = securedBy terms
 -- is secured."
 unfoldable pub settledBy : (Query → Terms) → List ℤ → List ℤ → Session → Bool
 settledBy g f t s =
-    aTableIsEmpty s
-    || (bothReadOut s
+    aTableIsEmpty f t s
+    || (bothReadOut f t s
     || (eqb (s .out) (s .query .k)
     || (eqb (s .out + s .held) (s .query .k) && every (securedBy g f t s) (heldPairs s))))
 

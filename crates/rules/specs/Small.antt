@@ -10,13 +10,13 @@ use Rattle.rules.specs.declared.Query.{Query}
 use Rattle.rules.specs.declared.Session.{Session}
 use Rattle.rules.specs.Tables.{part}
 use Rattle.lists.specs.Lists.{each}
-use Rattle.rules.specs.Session.{weights, places, zeros, ceiling}
+use Rattle.rules.specs.Session.{weights, places, zeros, readOut, isEmpty, ceiling}
 use Rattle.rules.specs.Read.{fieldNext, skipped, rowsBetween}
 use Rattle.rules.specs.Take.{lastBlock}
 use Rattle.rules.specs.Numbers.{saidOf, refusal}
 use Rattle.rules.specs.Calls.{queryCode, sizeCode, rowsCode, recordCode, callCode, openCode, openCall, showCall}
 use Rattle.rules.specs.File.{loadAnswer}
-use Rattle.rules.specs.Query.{readUntilSettled, list, wholeQuery, refusalLine}
+use Rattle.rules.specs.Query.{readUntilSettled, settledSession, list, wholeQuery, refusalLine}
 use Rattle.rules.specs.Run.{run}
 use Rattle.rules.specs.Example.{bytes, fieldFile, trimFile, fields, trims, query, afterReads}
 
@@ -196,3 +196,50 @@ oneHeld =
 pub skipping-weighted : skipped oneHeld (rowsBetween tens 1 2) (rowsBetween sixes 1 2) ≡ false
 unfolding run
 skipping-weighted = refl
+
+-- ---- Withdrawn rows
+
+-- three rows at one place, by their scores
+abbrev together : List ℤ → List ℤ
+together scores = each (λ score. pos 1 ∷ score ∷ pos 0 ∷ pos 0 ∷ []) scores
+
+abbrev oneLive : List ℤ
+oneLive = together (pos 5 ∷ pos 0 ∷ pos 0 ∷ [])
+
+abbrev allLive : List ℤ
+allLive = together (pos 4 ∷ pos 3 ∷ pos 2 ∷ [])
+
+abbrev noneLive : List ℤ
+noneLive = together (pos 0 ∷ pos 0 ∷ [])
+
+-- no pair with a withdrawn row is listed
+pub withdrawn-unlisted : map (λ p. p .sum) (list (asked 64 1 0) oneLive allLive) ≡ 9 ∷ 8 ∷ 7 ∷ []
+unfolding run
+withdrawn-unlisted = refl
+
+-- a table is read out once a withdrawn row is read, wherever it stands, and empty once it is the first
+pub second-reads-out : readOut oneLive 3 1 ∷ readOut oneLive 3 2 ∷ isEmpty oneLive 3 2 ∷ [] ≡ false ∷ true ∷ false ∷ []
+unfolding run
+second-reads-out = refl
+
+pub first-empties : isEmpty noneLive 2 0 ∷ isEmpty noneLive 2 1 ∷ readOut noneLive 2 1 ∷ [] ≡ false ∷ true ∷ true ∷ []
+unfolding run
+first-empties = refl
+
+-- two field rows and one trim row read: only an unread trim row with the first field row is left to fear
+pub ceiling-past-withdrawn : ceiling oneLive allLive (readUntilSettled 3 oneLive allLive
+    (openCall (asked 64 1 0) oneLive allLive .session))
+    ≡ 9
+unfolding run
+ceiling-past-withdrawn = refl
+
+-- a field table that begins with a withdrawn row: not settled at opening, settled after one block, no trim read
+abbrev depthsOf : Session → List ℕ
+depthsOf s = s .depth .field .0 ∷ s .depth .trim .0 ∷ []
+
+pub begins-withdrawn : depthsOf (settledSession (asked 1 1 0) noneLive allLive)
+    ∷ depthsOf (settledSession (asked 1 1 0) allLive noneLive)
+    ∷ depthsOf (settledSession (asked 1 1 0) noneLive [])
+    ∷ [] ≡ (1 ∷ 0 ∷ []) ∷ (1 ∷ 1 ∷ []) ∷ (0 ∷ 0 ∷ []) ∷ []
+unfolding run
+begins-withdrawn = refl

@@ -9,7 +9,7 @@ use Rattle.lists.specs.Lists.{best}
 use Rattle.rules.specs.declared.FieldRows.{FieldRows}
 use Rattle.rules.specs.declared.TrimRows.{TrimRows}
 use Rattle.rules.specs.declared.Query.{Query}
-use Rattle.rules.specs.Tables.{rowCount, legal, Terms, terms, Block, qualifying}
+use Rattle.rules.specs.Tables.{rowCount, legal, terms, Block, qualifying}
 
 abbrev pub whole : List ℤ → Block
 whole t = record { start = 0; rows = t }

@@ -1,6 +1,6 @@
 -- docs/RULES.md, "Tables". Definitions only. Assumes nothing.
 use Prim.Native.Nat.{ℕ, _+_, _*_, _-_, _/_, _%_}
-use mathlib.Core.Bool.{Bool, _&&_, _||_}
+use mathlib.Core.Bool.{Bool, _&&_, _||_, not}
 use mathlib.Core.List.{List, map}
 use lib.Dec.{leb, ltb, eqb}
 use lib.IntN.{ℤ, pos, negsuc, natAbs, _-ℤ_}
@@ -82,6 +82,14 @@ squaredDistance x y = gap (x .a) (y .a) * gap (x .a) (y .a) + gap (x .b) (y .b) 
 unfoldable pub qualifies : ℕ → Shade → Shade → Bool
 qualifies radius x y = leb (squaredDistance x y) (radius * radius)
 
+-- "a score of 0 means that the pattern is out of the collection"
+unfoldable pub withdrawn : Row → Bool
+withdrawn x = eqb (x .score) 0
+
+-- "Such a row is legal and can be read, but no pair with it qualifies."
+unfoldable pub rowsQualify : ℕ → Row → Row → Bool
+rowsQualify radius x y = not (withdrawn x) && (not (withdrawn y) && qualifies radius (x .shade) (y .shade))
+
 -- What the rules ask of rows: what a field row and a trim row add to the sum of a pair, and whether the two qualify.
 pub record Terms : Type 0 where
   pub field : Row → ℕ
@@ -98,7 +106,7 @@ terms q =
     record {
       field = weighted (q .weights .field .0);
       trim = weighted (q .weights .trim .0);
-      near = λ x y. qualifies (q .radius) (x .shade) (y .shade);
+      near = rowsQualify (q .radius);
     }
 
 -- without weights: scores as they are

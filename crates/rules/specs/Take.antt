@@ -37,8 +37,8 @@ movedOut s =
     }
 
 -- ""Finished" if k are out, a table is empty, or both are read out and none is held."
-unfoldable pub finished : Session → Bool
-finished s = eqb (s .out) (s .query .k) || (aTableIsEmpty s || (bothReadOut s && eqb (s .held) 0))
+unfoldable pub finished : List ℤ → List ℤ → Session → Bool
+finished f t s = eqb (s .out) (s .query .k) || (aTableIsEmpty f t s || (bothReadOut f t s && eqb (s .held) 0))
 
 -- "the rows last read": from the first to the last row of the last block down to a depth
 abbrev pub lastBlock : ℕ → ℕ → ℕ

@@ -10,19 +10,22 @@ use lib.Dec.{leb, ltb, eqb, lit≤}
 use lib.IntN.{ℤ, pos}
 use lib.ListN.{length, getD, take, drop}
 use lib.Seq.{getD-take, take-take, take-nil, length-take-le}
-use borrow.Author.Tests.{eqb-false}
+use borrow.Author.Tests.{eqb-false, ltb-true}
 use Rattle.lists.specs.Lists.{every}
 use Rattle.lists.specs.Bools.{or-none-out}
 use Rattle.lists.specs.Parts.{every-same}
 use Rattle.rules.specs.declared.Pair.{Pair}
 use Rattle.rules.specs.declared.Session.{Session}
-use Rattle.rules.specs.Tables.{num, mostRows, rowCount, rowInRange, rowInOrder, legal, natOf, row, Terms, terms}
+use Rattle.rules.specs.Tables.{num, mostRows, rowCount, rowInRange, rowInOrder, legal, natOf, row, withdrawn, Terms}
+use Rattle.rules.specs.Tables.{terms}
 use Rattle.rules.specs.Tables.{part, Block}
+use Rattle.rules.specs.Session.{withdrawnWithin, readOut, isEmpty}
 use Rattle.rules.specs.Session.{heldPairs, firstScore, lastScore, fieldReadOut, trimReadOut, bothReadOut}
 use Rattle.rules.specs.Session.{aTableIsEmpty, aDepthIsZero, ceilingBy, ceiling, securedBy, secured, settledBy, settled}
 use Rattle.rules.specs.Read.{scoreDrop, fieldNextBy, fieldNext, rowsBetween, blockCount, meet, meetBlocksBy, meetBlocks}
 use Rattle.rules.specs.Read.{readTo}
 use Rattle.rules.specs.Read.{oldDepth, newDepth, readTableBy, readTable}
+use Rattle.rules.specs.Take.{finished}
 use Rattle.session_laws.specs.Tables.{RowFits, legal-in}
 
 -- two tables with the same first n rows
@@ -84,6 +87,27 @@ module _ (n : ℕ) (t u : List ℤ) (same : SameRows n t u) where
           let z : b - a ≡ 0 = omega arith in
           ap (part u a) z ∙ sym (ap (part t a) z)
 
+-- ---- Read out, and empty
+
+module _ (n : ℕ) (t u : List ℤ) (same : SameRows n t u) where
+  same-within : (k : ℕ) → k ≤ n → withdrawnWithin u k ≡ withdrawnWithin t k
+  unfolding withdrawnWithin
+  same-within zero h = refl
+  same-within (suc k) h =
+      ap₂ (λ a b. a || b) (same-within k (omega arith)) (ap withdrawn (same-row n t u same k (omega arith)))
+
+  same-read-out : (rows : ℕ) → readOut u rows n ≡ readOut t rows n
+  unfolding readOut
+  same-read-out rows = ap (λ b. eqb n rows || b) (same-within n (omega arith))
+
+  same-empty : (rows : ℕ) → isEmpty u rows n ≡ isEmpty t rows n
+  unfolding isEmpty
+  same-empty rows = ap (λ b. eqb rows 0 || b) (go (ltb 0 n) refl)
+    where
+      go : (b : Bool) → ltb 0 n ≡ b → (b && withdrawn (row u 0)) ≡ (b && withdrawn (row t 0))
+      go true e = ap withdrawn (same-row n t u same 0 (ltb-true 0 n e))
+      go false e = refl
+
 -- ---- The first n rows of a table, as a table by themselves
 
 module _ (t : List ℤ) (n : ℕ) (fits : n ≤ rowCount t) where
@@ -121,6 +145,19 @@ module _ (f t f′ t′ : List ℤ) (s : Session) (ef : SameRows (s .depth .fiel
   abbrev w : Terms
   w = terms (s .query)
 
+  field-out : fieldReadOut f′ s ≡ fieldReadOut f s
+  field-out = same-read-out d f f′ ef (s .rows .field .0)
+
+  trim-out : trimReadOut t′ s ≡ trimReadOut t s
+  trim-out = same-read-out e t t′ et (s .rows .trim .0)
+
+  both-out : bothReadOut f′ t′ s ≡ bothReadOut f t s
+  both-out = ap₂ (λ a b. a && b) field-out trim-out
+
+  either-empty : aTableIsEmpty f′ t′ s ≡ aTableIsEmpty f t s
+  either-empty =
+      ap₂ (λ a b. a || b) (same-empty d f f′ ef (s .rows .field .0)) (same-empty e t t′ et (s .rows .trim .0))
+
   module _ (hd : 1 ≤ d) (he : 1 ≤ e) where
     first-field : firstScore (w .field) f′ ≡ firstScore (w .field) f
     first-field = ap (w .field) (same-row d f f′ ef 0 (omega arith))
@@ -136,7 +173,7 @@ module _ (f t f′ t′ : List ℤ) (s : Session) (ef : SameRows (s .depth .fiel
 
     same-ceiling : ceiling f′ t′ s ≡ ceiling f t s
     unfolding ceilingBy
-    same-ceiling = rw (first-field, last-field, first-trim, last-trim)
+    same-ceiling = rw (field-out, trim-out, first-field, last-field, first-trim, last-trim)
 
   some-field : aDepthIsZero s ≡ false → 1 ≤ d
   some-field z = let k = eqb-false d 0 (or-none-out (eqb d 0) (eqb e 0) z .0) in omega arith
@@ -144,52 +181,64 @@ module _ (f t f′ t′ : List ℤ) (s : Session) (ef : SameRows (s .depth .fiel
   some-trim : aDepthIsZero s ≡ false → 1 ≤ e
   some-trim z = let k = eqb-false e 0 (or-none-out (eqb d 0) (eqb e 0) z .1) in omega arith
 
-  pub same-secured : aTableIsEmpty s ≡ false → (p : Pair) → secured f′ t′ s p ≡ secured f t s p
+  pub same-secured : aTableIsEmpty f t s ≡ false → (p : Pair) → secured f′ t′ s p ≡ secured f t s p
   unfolding securedBy
-  same-secured live p = go (aDepthIsZero s) refl
+  same-secured live p =
+      (λ i. judged (aDepthIsZero s) (either-empty i) (both-out i) (ceiling f′ t′ s)) ∙ go (aDepthIsZero s) refl
     where
-      judged : Bool → ℕ → Bool
-      judged none c = cond (none && not (aTableIsEmpty s)) false (cond (bothReadOut s) true (leb c (p .sum)))
+      judged : Bool → Bool → Bool → ℕ → Bool
+      judged none empty out c = cond (none && not empty) false (cond out true (leb c (p .sum)))
 
-      go : (b : Bool) → aDepthIsZero s ≡ b → judged b (ceiling f′ t′ s) ≡ judged b (ceiling f t s)
+      go : (b : Bool) → aDepthIsZero s ≡ b
+          → judged b (aTableIsEmpty f t s) (bothReadOut f t s) (ceiling f′ t′ s)
+          ≡ judged b (aTableIsEmpty f t s) (bothReadOut f t s) (ceiling f t s)
       go true z = rw live
-      go false z = ap (judged false) (same-ceiling (some-field z) (some-trim z))
+      go false z =
+          ap (judged false (aTableIsEmpty f t s) (bothReadOut f t s)) (same-ceiling (some-field z) (some-trim z))
 
   pub same-settled : settled f′ t′ s ≡ settled f t s
   unfolding settledBy
-  same-settled = go (aTableIsEmpty s) refl
+  same-settled =
+      (λ i. rule (either-empty i) (both-out i) (every (secured f′ t′ s) (heldPairs s))) ∙ go (aTableIsEmpty f t s) refl
     where
-      rule : Bool → Bool → Bool
-      rule none all =
-          none || (bothReadOut s || (eqb (s .out) (s .query .k) || (eqb (s .out + s .held) (s .query .k) && all)))
+      rule : Bool → Bool → Bool → Bool
+      rule none out all =
+          none || (out || (eqb (s .out) (s .query .k) || (eqb (s .out + s .held) (s .query .k) && all)))
 
-      go : (b : Bool) → aTableIsEmpty s ≡ b
-          → rule b (every (secured f′ t′ s) (heldPairs s)) ≡ rule b (every (secured f t s) (heldPairs s))
+      go : (b : Bool) → aTableIsEmpty f t s ≡ b
+          → rule b (bothReadOut f t s) (every (secured f′ t′ s) (heldPairs s))
+          ≡ rule b (bothReadOut f t s) (every (secured f t s) (heldPairs s))
       go true z = refl
       go false z =
-          ap (rule false)
+          ap (rule false (bothReadOut f t s))
           (every-same (secured f′ t′ s) (secured f t s) (heldPairs s) (λ p m. same-secured z p))
+
+  pub same-finished : finished f′ t′ s ≡ finished f t s
+  unfolding finished
+  same-finished =
+      λ i. eqb (s .out) (s .query .k) || (either-empty i || (both-out i && eqb (s .held) 0))
 
   pub same-next : fieldNext f′ t′ s ≡ fieldNext f t s
   unfolding fieldNextBy
-  same-next = go (eqb d 0) (eqb e 0) refl refl
+  same-next =
+      (λ i. rule (eqb d 0) (eqb e 0) (trim-out i) (field-out i) (scoreDrop (w .field) f′ d) (scoreDrop (w .trim) t′ e))
+      ∙ go (eqb d 0) (eqb e 0) refl refl
     where
-      rule : Bool → Bool → ℕ → ℕ → Bool
-      rule x y m n =
+      rule : Bool → Bool → Bool → Bool → ℕ → ℕ → Bool
+      rule x y trim field m n =
           cond x true
-          (cond y false
-          (cond (trimReadOut s) true
-          (cond (fieldReadOut s) false (cond (ltb m n) true (cond (ltb n m) false (leb d e))))))
+          (cond y false (cond trim true (cond field false (cond (ltb m n) true (cond (ltb n m) false (leb d e))))))
 
       go : (x y : Bool) → eqb d 0 ≡ x → eqb e 0 ≡ y
-          → rule x y (scoreDrop (w .field) f′ d) (scoreDrop (w .trim) t′ e)
-          ≡ rule x y (scoreDrop (w .field) f d) (scoreDrop (w .trim) t e)
+          → rule x y (trimReadOut t s) (fieldReadOut f s) (scoreDrop (w .field) f′ d) (scoreDrop (w .trim) t′ e)
+          ≡ rule x y (trimReadOut t s) (fieldReadOut f s) (scoreDrop (w .field) f d) (scoreDrop (w .trim) t e)
       go true y p q = refl
       go false true p q = refl
       go false false p q =
           let hd : 1 ≤ d = let k = eqb-false d 0 p in omega arith in
           let he : 1 ≤ e = let k = eqb-false e 0 q in omega arith in
-          ap₂ (rule false false) (ap₂ (λ a b. a - b) (first-field hd he) (last-field hd he))
+          ap₂ (rule false false (trimReadOut t s) (fieldReadOut f s))
+          (ap₂ (λ a b. a - b) (first-field hd he) (last-field hd he))
           (ap₂ (λ a b. a - b) (first-trim hd he) (last-trim hd he))
 
 -- ---- Reading

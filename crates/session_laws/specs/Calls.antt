@@ -225,11 +225,11 @@ module _ (f t : List ℤ) (s : Session) (a : callCode f t s ≡ 0) where
   unfolding takeCallBy
   take-gives e = rw (eq-eqb (callCode f t s) 0 a, e)
 
-  pub take-finishes : givesPair f t s ≡ false → finished s ≡ true → takeCall f t s ≡ step Finished s
+  pub take-finishes : givesPair f t s ≡ false → finished f t s ≡ true → takeCall f t s ≡ step Finished s
   unfolding takeCallBy
   take-finishes e b = rw (eq-eqb (callCode f t s) 0 a, e, b)
 
-  pub take-waits : givesPair f t s ≡ false → finished s ≡ false → takeCall f t s ≡ step NotYet s
+  pub take-waits : givesPair f t s ≡ false → finished f t s ≡ false → takeCall f t s ≡ step NotYet s
   unfolding takeCallBy
   take-waits e b = rw (eq-eqb (callCode f t s) 0 a, e, b)
 
@@ -275,7 +275,7 @@ module _ (f t : List ℤ) (s : Session) where
 
   pub was-given-out : wasGiven (takeCall f t s .answer) ≡ true → Takes f t s
   unfolding takeCallBy
-  was-given-out h = go (eqb (callCode f t s) 0) (givesPair f t s) (finished s) refl refl h
+  was-given-out h = go (eqb (callCode f t s) 0) (givesPair f t s) (finished f t s) refl refl h
     where
       code : ℕ
       code = callCode f t s

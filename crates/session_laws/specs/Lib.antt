@@ -1,4 +1,5 @@
 pub mod Tables
+pub mod ReadOut
 pub mod Record
 pub mod Calls
 pub mod Read

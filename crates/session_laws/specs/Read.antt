@@ -1,17 +1,19 @@
 -- An unsettled read: what it keeps, which table it reads, and that it raises a depth. Assumes nothing.
-use mathlib.Core.Path.{_≡_, refl, sym, ap, _∙_}
+use mathlib.Core.Path.{_≡_, refl, ap, _∙_}
 use mathlib.Core.Bool.{Bool, true, false, cond, _&&_, _||_}
 use mathlib.Core.List.{List}
 use Prim.Native.Nat.{ℕ, zero, suc, _+_, _-_, _≤_, _<_}
 use native.Mathlib.Omega.{arith}
 use lib.Dec.{eqb, leb, ltb}
 use lib.IntN.{ℤ}
-use borrow.Author.Tests.{eqb-true, eqb-false, eq-eqb, ne-eqb}
+use borrow.Author.Tests.{eqb-false, eq-eqb}
 use Rattle.lists.specs.Lists.{every}
 use Rattle.lists.specs.Bools.{clash, or-none-out}
 use Rattle.rules.specs.declared.Session.{Session}
 use Rattle.rules.specs.Tables.{rowCount, terms, Block, qualifying}
-use Rattle.rules.specs.Session.{fieldReadOut, trimReadOut, bothReadOut, aTableIsEmpty, heldPairs, secured, settledBy}
+use Rattle.session_laws.specs.ReadOut.{unread-out, unread-first, live-out}
+use Rattle.rules.specs.Session.{isEmpty, fieldReadOut, trimReadOut, bothReadOut, aTableIsEmpty, heldPairs, secured}
+use Rattle.rules.specs.Session.{settledBy}
 use Rattle.rules.specs.Session.{settled}
 use Rattle.rules.specs.Read.{scoreDrop, fieldNextBy, fieldNext, rowsBetween, blockCount, blockAt, bestHeld, holding}
 use Rattle.rules.specs.Read.{skipped, meetBy}
@@ -129,9 +131,11 @@ read-grows false f t s h k = (omega (arith, read-field false f t s), omega (arit
 
 -- the grounds of settled, none of which holds
 pub record Unsettled (f t : List ℤ) (s : Session) : Type 0 where
+  pub field-live : isEmpty f (s .rows .field .0) (s .depth .field .0) ≡ false
+  pub trim-live : isEmpty t (s .rows .trim .0) (s .depth .trim .0) ≡ false
   pub field-some : s .rows .field .0 ≡ 0 → ⊥
   pub trim-some : s .rows .trim .0 ≡ 0 → ⊥
-  pub unread : bothReadOut s ≡ false
+  pub unread : bothReadOut f t s ≡ false
   pub wanted : s .out ≡ s .query .k → ⊥
   pub unsecured : s .out + s .held ≡ s .query .k → every (secured f t s) (heldPairs s) ≡ true → ⊥
 
@@ -140,13 +144,19 @@ unfolding settledBy
 unsettled-out f t s h =
     let last = eqb (s .out + s .held) (s .query .k) && every (secured f t s) (heldPairs s) in
     let rest = eqb (s .out) (s .query .k) || last in
-    let a = or-none-out (aTableIsEmpty s) (bothReadOut s || rest) h in
-    let b = or-none-out (bothReadOut s) rest (a .1) in
+    let a = or-none-out (aTableIsEmpty f t s) (bothReadOut f t s || rest) h in
+    let b = or-none-out (bothReadOut f t s) rest (a .1) in
     let c = or-none-out (eqb (s .out) (s .query .k)) last (b .1) in
-    let some = or-none-out (eqb (s .rows .field .0) 0) (eqb (s .rows .trim .0) 0) (a .0) in
+    let field = isEmpty f (s .rows .field .0) (s .depth .field .0) in
+    let trim = isEmpty t (s .rows .trim .0) (s .depth .trim .0) in
+    let some = or-none-out field trim (a .0) in
+    let live = live-out f (s .rows .field .0) (s .depth .field .0) (some .0) in
+    let live-trim = live-out t (s .rows .trim .0) (s .depth .trim .0) (some .1) in
     record {
-      field-some = eqb-false (s .rows .field .0) 0 (some .0);
-      trim-some = eqb-false (s .rows .trim .0) 0 (some .1);
+      field-live = some .0;
+      trim-live = some .1;
+      field-some = live .0;
+      trim-some = live-trim .0;
       unread = b .0;
       wanted = eqb-false (s .out) (s .query .k) (c .0);
       unsecured = λ full all. clash (rw (eq-eqb (s .out + s .held) (s .query .k) full) all) (c .1);
@@ -165,27 +175,24 @@ unread false false false true g h k l = refl
 unread false false false false true h k l = refl
 unread false false false false false h k l = refl
 
--- a table with rows of which none is read is not read out
-not-out : (depth rows : ℕ) → (rows ≡ 0 → ⊥) → eqb depth 0 ≡ true → eqb depth rows ≡ false
-not-out depth rows h k = ne-eqb depth rows (λ e. h (sym e ∙ eqb-true depth 0 k))
-
 module _ (f t : List ℤ) (s : Session) (u : Unsettled f t s) where
-  chosen-unread : cond (fieldNext f t s) (fieldReadOut s) (trimReadOut s) ≡ false
+  chosen-unread : cond (fieldNext f t s) (fieldReadOut f s) (trimReadOut t s) ≡ false
   unfolding fieldNextBy
   chosen-unread =
       let d = s .depth .field .0 in
       let e = s .depth .trim .0 in
       let x = scoreDrop (terms (s .query) .field) f d in
       let y = scoreDrop (terms (s .query) .trim) t e in
-      unread (eqb d 0) (eqb e 0) (trimReadOut s) (fieldReadOut s)
+      unread (eqb d 0) (eqb e 0) (trimReadOut t s) (fieldReadOut f s)
       (cond (ltb x y) true (cond (ltb y x) false (leb d e)))
-      (not-out d (s .rows .field .0) (u .field-some)) (not-out e (s .rows .trim .0) (u .trim-some)) (u .unread)
+      (unread-first f (s .rows .field .0) d (u .field-some)) (unread-first t (s .rows .trim .0) e (u .trim-some))
+      (u .unread)
 
   module _ (m : s .depth .field .0 ≤ s .rows .field .0) (n : s .depth .trim .0 ≤ s .rows .trim .0) where
-    left : (field : Bool) → cond field (fieldReadOut s) (trimReadOut s) ≡ false
+    left : (field : Bool) → cond field (fieldReadOut f s) (trimReadOut t s) ≡ false
         → oldDepth field s < cond field (s .rows .field .0) (s .rows .trim .0)
-    left true h = let k : s .depth .field .0 ≡ s .rows .field .0 → ⊥ = eqb-false _ _ h in omega arith
-    left false h = let k : s .depth .trim .0 ≡ s .rows .trim .0 → ⊥ = eqb-false _ _ h in omega arith
+    left true h = let k = unread-out f (s .rows .field .0) (s .depth .field .0) h .0 in omega arith
+    left false h = let k = unread-out t (s .rows .trim .0) (s .depth .trim .0) h .0 in omega arith
 
     -- the table that is read next has unread rows
     pub next-unread : oldDepth (fieldNext f t s) s < cond (fieldNext f t s) (s .rows .field .0) (s .rows .trim .0)

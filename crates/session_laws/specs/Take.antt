@@ -9,12 +9,14 @@ use lib.Dec.{eqb, ltb}
 use lib.IntN.{ℤ}
 use lib.ListN.{length, getD, take, drop, length-take}
 use lib.Seq.{take-append-le}
-use borrow.Author.Tests.{eqb-true, eqb-false, eq-eqb, ltb-true, ltb-false}
+use borrow.Author.Tests.{eqb-true, eqb-false, eq-eqb, ne-eqb, ltb-true, ltb-false}
 use Rattle.lists.specs.Lists.{every}
 use Rattle.lists.specs.Bools.{clash, and-out, or-none-out, or-true}
 use Rattle.lists.specs.Parts.{every-at, every-same}
 use Rattle.rules.specs.declared.Pair.{Pair}
 use Rattle.rules.specs.declared.Session.{Session}
+use Rattle.session_laws.specs.ReadOut.{live-out, read-out-some}
+use Rattle.rules.specs.Session.{isEmpty, fieldReadOut, trimReadOut}
 use Rattle.rules.specs.Session.{noPair, heldPairs, aTableIsEmpty, bothReadOut, ceilingBy, securedBy, secured}
 use Rattle.rules.specs.Session.{settledBy, settled}
 use Rattle.rules.specs.Take.{firstHeld, givesPairBy, givesPair, movedOut, finished}
@@ -63,21 +65,19 @@ module _ (s : Session) (stored : length (heldPairs s) ≡ s .held) (some : 1 ≤
 -- ---- A settled session
 
 -- read out, all is secured
-read-out-secured : (f t : List ℤ) (s : Session) (p : Pair) → aTableIsEmpty s ≡ false → bothReadOut s ≡ true
+read-out-secured : (f t : List ℤ) (s : Session) (p : Pair) → aTableIsEmpty f t s ≡ false → bothReadOut f t s ≡ true
     → secured f t s p ≡ true
 unfolding securedBy
 read-out-secured f t s p e b =
-    let rows = or-none-out (eqb (s .rows .field .0) 0) (eqb (s .rows .trim .0) 0) e in
-    let field = eqb (s .depth .field .0) (s .rows .field .0) in
-    let ends = and-out field (eqb (s .depth .trim .0) (s .rows .trim .0)) b in
-    rw (
-      eqb-true (s .depth .field .0) (s .rows .field .0) (ends .0),
-      eqb-true (s .depth .trim .0) (s .rows .trim .0) (ends .1),
-      rows .0,
-      rows .1,
-      eq-eqb (s .rows .field .0) (s .rows .field .0) refl,
-      eq-eqb (s .rows .trim .0) (s .rows .trim .0) refl,
-    )
+    let m = s .rows .field .0 in
+    let n = s .rows .trim .0 in
+    let c = s .depth .field .0 in
+    let d = s .depth .trim .0 in
+    let live = or-none-out (isEmpty f m c) (isEmpty t n d) e in
+    let ends = and-out (fieldReadOut f s) (trimReadOut t s) b in
+    let first = read-out-some f m c (live-out f m c (live .0) .0) (ends .0) in
+    let second = read-out-some t n d (live-out t n d (live .1) .0) (ends .1) in
+    rw (ne-eqb c 0 (λ z. omega arith), ne-eqb d 0 (λ z. omega arith), ends .0, ends .1)
 
 module _ (f t : List ℤ) (s : Session) (stored : length (heldPairs s) ≡ s .held) where
   -- k pairs are held or out, and each held one is secured
@@ -90,12 +90,12 @@ module _ (f t : List ℤ) (s : Session) (stored : length (heldPairs s) ≡ s .he
       (eqb-true (s .out + s .held) (s .query .k) (b .0), b .1)
 
   -- a take has a secured pair to give, or the list is complete
-  pub settled-take : settled f t s ≡ true → givesPair f t s ≡ false → finished s ≡ true
+  pub settled-take : settled f t s ≡ true → givesPair f t s ≡ false → finished f t s ≡ true
   unfolding settledBy givesPairBy finished
   settled-take =
-      go (eqb (s .out) (s .query .k)) (aTableIsEmpty s) (bothReadOut s) (ltb 0 (s .held)) refl refl refl refl
+      go (eqb (s .out) (s .query .k)) (aTableIsEmpty f t s) (bothReadOut f t s) (ltb 0 (s .held)) refl refl refl refl
     where
-      go : (k e b h : Bool) → eqb (s .out) (s .query .k) ≡ k → aTableIsEmpty s ≡ e → bothReadOut s ≡ b
+      go : (k e b h : Bool) → eqb (s .out) (s .query .k) ≡ k → aTableIsEmpty f t s ≡ e → bothReadOut f t s ≡ b
           → ltb 0 (s .held) ≡ h → (e || (b || (k || full))) ≡ true → (h && secured f t s (firstHeld s)) ≡ false
           → (k || (e || (b && eqb (s .held) 0))) ≡ true
       go true e b h ek ee eb eh w n = refl
@@ -112,7 +112,7 @@ module _ (f t : List ℤ) (s : Session) (stored : length (heldPairs s) ≡ s .he
   pub settled-moves : 1 ≤ s .held → s .out + s .held ≤ s .query .k → settled f t s ≡ true
       → settled f t (movedOut s) ≡ true
   unfolding settledBy movedOut
-  settled-moves some room e = go (aTableIsEmpty s) (bothReadOut s) (eqb (s .out) (s .query .k)) refl e
+  settled-moves some room e = go (aTableIsEmpty f t s) (bothReadOut f t s) (eqb (s .out) (s .query .k)) refl e
     where
       left : Bool
       left =

@@ -5,7 +5,8 @@ ghost use mathlib.Core.List.{[], _∷_};
 ghost use Prim.Native.Nat.{_+_, _*_, _≤_, _<_, _^_};
 ghost use lib.Dec.{eqb};
 ghost use lib.ListN.{length};
-ghost use Rattle.rules.specs.Tables.{mostRows, inRange, rowInRange, rowInOrder, natOf, row, weighted};
+ghost use Rattle.rules.specs.Tables.{mostRows, inRange, rowInRange, rowInOrder, natOf, row, withdrawn};
+ghost use Rattle.rules.specs.Tables.{weighted};
 ghost use Rattle.rules.specs.Numbers.{unless, first};
 ghost use Rattle.rules.specs.Calls.{rowCode, rowsCode};
 
@@ -83,6 +84,14 @@ pub fn weighted(weight: u32, t: &[i32], i: usize) -> u64
 {
     let score = score(t, i);
     weight as u64 * score as u64
+}
+
+// Whether row i + 1 is withdrawn: its score is 0.
+pub fn is_withdrawn(t: &[i32], i: usize) -> bool
+    requires { ⌜ 4 * i + 4 ≤ length (now t) ⌝ }
+    ensures { λ r. ⌜ r ≡ withdrawn (row (now (t .entry)) i) ⌝ }
+{
+    score(t, i) == 0
 }
 
 // The shade of row i + 1.

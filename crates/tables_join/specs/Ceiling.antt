@@ -1,7 +1,7 @@
 -- The rules' ceiling is the join's, what is secured is as high as any pair that is not out, and an unsettled session
 -- lacks k sums at its ceiling. Assumes legal tables.
 use mathlib.Core.Path.{_≡_, refl, sym, ap, ap₂, subst, subst₂, _∙_}
-use mathlib.Core.Bool.{Bool, true, false, cond, _&&_, not}
+use mathlib.Core.Bool.{Bool, true, false, cond, _&&_, _||_, not}
 use mathlib.Core.List.{List, map, List·Memᴰ, Memᴰ·map}
 use mathlib.Core.Logic.{_⊎_, inl, inr, ⊎-elim}
 use Prim.Native.Nat.{ℕ, _+_, _-_, _≤_, _<_}
@@ -17,20 +17,21 @@ use Rattle.lists.specs.Sorts.{all-at}
 use Rattle.lists.specs.Parts.{every-of}
 use Rattle.join.specs.Join as Join
 use Rattle.join.specs.Join.{Side, sumsOf, weightAt, region}
-use Rattle.join.specs.Plain.{plain}
+use Rattle.join.specs.Zero.{falling}
 use Rattle.join.specs.Ceiling.{outside-low}
 use Rattle.join.specs.HeldLaws.{held-cover}
 use Rattle.rules.specs.declared.Pair.{Pair}
 use Rattle.rules.specs.declared.Query.{Query}
 use Rattle.rules.specs.declared.Session.{Session}
 use Rattle.rules.specs.Tables.{rowCount, legal, Row, row, part, terms, pairSum, qualifying}
+use Rattle.rules.specs.Session.{readOut}
 use Rattle.rules.specs.Session.{heldPairs, firstScore, lastScore, fieldReadOut, trimReadOut, bothReadOut, aTableIsEmpty}
 use Rattle.rules.specs.Session.{aDepthIsZero, ceilingBy, ceiling, securedBy, secured, settled}
 use Rattle.rules.specs.Read.{rowsBetween}
 use Rattle.rules.specs.Take.{firstHeld}
 use Rattle.session_laws.specs.Read.{unsettled-out}
 use Rattle.tables_join.specs.Rows.{rowsOf, rowsBy, fieldSide, trimSide, near, Rises, field-rises, trim-rises}
-use Rattle.tables_join.specs.Rows.{length-rows, rows-at, legal-rows, rows-take, laws}
+use Rattle.tables_join.specs.Rows.{length-rows, rows-at, zero-read, legal-rows, rows-take, laws}
 use Rattle.tables_join.specs.Sure.{sums-rows}
 use Rattle.tables_join.specs.Pairs.{QualifyingPair, Region, pair-rank, qualifying-distinct, mem-qualifying}
 use Rattle.tables_join.specs.Reached.{Reached, first-inside, first-best, read-out-region}
@@ -44,15 +45,15 @@ ended-is n rows depth e h = go (eqb depth rows) refl
     go false z = lt-leb n depth (let k = eqb-false depth rows z in omega arith)
 
 weight-is : (weight : Row → ℕ) (t : List ℤ) (i : ℕ) → i < rowCount t
-    → weightAt (plain (rowsBy weight)) (rowsOf t) i ≡ weight (row t i)
+    → weightAt (falling (rowsBy weight)) (rowsOf t) i ≡ weight (row t i)
 unfolding weightAt
 weight-is weight t i h = ap weight (rows-at t i h)
 
 -- what it takes to be secured
 secured-cases : (f t : List ℤ) (s : Session) (p : Pair) → secured f t s p ≡ true
-    → (bothReadOut s ≡ true) ⊎ (ceiling f t s ≤ p .sum)
+    → (bothReadOut f t s ≡ true) ⊎ (ceiling f t s ≤ p .sum)
 unfolding securedBy
-secured-cases f t s p h = go (aDepthIsZero s && not (aTableIsEmpty s)) (bothReadOut s) h
+secured-cases f t s p h = go (aDepthIsZero s && not (aTableIsEmpty f t s)) (bothReadOut f t s) h
   where
     go : (x y : Bool) → cond x false (cond y true (leb (ceiling f t s) (p .sum))) ≡ true
         → (y ≡ true) ⊎ (ceiling f t s ≤ p .sum)
@@ -69,7 +70,7 @@ secured-high f t s p hd he h =
       ne-eqb (s .depth .trim .0) 0 (λ z. omega arith),
       le-leb (ceiling f t s) (p .sum) h,
     )
-    (go (bothReadOut s))
+    (go (bothReadOut f t s))
   where
     go : (b : Bool) → cond b true true ≡ true
     go true = refl
@@ -94,15 +95,21 @@ module _ {q : Query} {f t : List ℤ} {out : List Pair} {s : Session} (a : Reach
   abbrev T : List Row
   T = rowsOf t
 
-  pub field-ended : S .ended F d ≡ fieldReadOut s
+  pub field-ended : S .ended F d ≡ fieldReadOut f s
+  unfolding readOut
   field-ended =
-      ended-is (length F) (s .rows .field .0) d (length-rows f ∙ sym (a .field-rows))
-      (omega (arith, length-rows f, a .field-depth))
+      ap₂ (λ a b. a || b)
+      (ended-is (length F) (s .rows .field .0) d (length-rows f ∙ sym (a .field-rows))
+      (omega (arith, length-rows f, a .field-depth)))
+      (zero-read (field-rises q (a .accepted)) f d (a .field-depth))
 
-  pub trim-ended : U .ended T e ≡ trimReadOut s
+  pub trim-ended : U .ended T e ≡ trimReadOut t s
+  unfolding readOut
   trim-ended =
-      ended-is (length T) (s .rows .trim .0) e (length-rows t ∙ sym (a .trim-rows))
-      (omega (arith, length-rows t, a .trim-depth))
+      ap₂ (λ a b. a || b)
+      (ended-is (length T) (s .rows .trim .0) e (length-rows t ∙ sym (a .trim-rows))
+      (omega (arith, length-rows t, a .trim-depth)))
+      (zero-read (trim-rises q (a .accepted)) t e (a .trim-depth))
 
   module _ (hd : 1 ≤ d) (he : 1 ≤ e) where
     field-at : (i : ℕ) → i < d → weightAt S F i ≡ terms (s .query) .field (row f i)
@@ -135,7 +142,7 @@ module _ {q : Query} {f t : List ℤ} {out : List Pair} {s : Session} (a : Reach
 
   module _ (g : legal f ≡ true) (h : legal t ≡ true) where
     begins-itself : {weight : Row → ℕ} → Rises weight → (n : ℕ) (u : List ℤ) → legal u ≡ true
-        → Join.Begins (plain (rowsBy weight)) n (rowsOf u) (rowsOf u)
+        → Join.Begins (falling (rowsBy weight)) n (rowsOf u) (rowsOf u)
     begins-itself rises n u l = record { legal = legal-rows u l rises; rows = refl; ends = λ k. refl }
 
     outside : 1 ≤ d → 1 ≤ e → (p : Pair) → QualifyingPair q f t p → (d < p .field) ⊎ (e < p .trim)
@@ -173,7 +180,7 @@ module _ {q : Query} {f t : List ℤ} {out : List Pair} {s : Session} (a : Reach
 
         beyond : (d < p .field) ⊎ (e < p .trim) → p .sum ≤ firstHeld s .sum
         beyond o =
-            ⊎-elim (λ b. first-best a some p (read-out-region a b p m) new)
+            ⊎-elim (λ b. first-best a some p (read-out-region a g h b p m) new)
             (λ c. omega (arith, outside (omega (arith, first .own-part)) (omega (arith, first .other-part)) p m o))
             (secured-cases f t s (firstHeld s) z)
 

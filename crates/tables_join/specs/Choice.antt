@@ -8,8 +8,7 @@ use Prim.Native.Nat.{ℕ, _≤_, _<_, max, _+_, _-_}
 use native.Mathlib.Omega.{arith}
 use lib.Dec.{leb, ltb, eqb}
 use lib.IntN.{ℤ}
-use lib.ListN.{length}
-use borrow.Author.Tests.{leb-true, leb-false, lt-leb, ltb-true, ltb-false, eqb-true, eqb-false}
+use borrow.Author.Tests.{leb-true, leb-false, ltb-true, ltb-false, eqb-true, eqb-false}
 use Rattle.lists.specs.Bools.{clash}
 use Rattle.join.specs.Join.{Chosen, dropAt}
 use Rattle.join.specs.Limit.{row-limit, row-limit-trim}
@@ -24,7 +23,7 @@ use Rattle.rules.specs.Read.{scoreDrop, fieldNextBy, fieldNext, readTable, read
 use Rattle.rules.specs.Sure.{Sure}
 use Rattle.session_laws.specs.Read.{read-field, read-trim, unsettled-out}
 use Rattle.session_laws.specs.Until.{wanted}
-use Rattle.tables_join.specs.Rows.{rowsOf, fieldSide, trimSide, near, field-rises, trim-rises, length-rows}
+use Rattle.tables_join.specs.Rows.{rowsOf, fieldSide, trimSide, near, field-rises, trim-rises, empty-read}
 use Rattle.tables_join.specs.Rows.{legal-rows, laws}
 use Rattle.tables_join.specs.Sure.{sure-rows}
 use Rattle.tables_join.specs.Reached.{Reached}
@@ -32,7 +31,7 @@ use Rattle.tables_join.specs.Ceiling.{field-ended, trim-ended, first-fie
 use Rattle.tables_join.specs.Ceiling.{unsettled-short}
 
 module _ {q : Query} {f t : List ℤ} {out : List Pair} {s : Session} (a : Reached q f t out s)
-    (more : bothReadOut s ≡ false) where
+    (more : bothReadOut f t s ≡ false) where
   abbrev d : ℕ
   d = s .depth .field .0
 
@@ -54,13 +53,13 @@ module _ {q : Query} {f t : List ℤ} {out : List Pair} {s : Session} (a : Reach
   -- what each test of the choice says
   abbrev Choosing : (Bool → Type 0) → Type 0
   Choosing C =
-      (z w x y l m : Bool) → eqb d 0 ≡ z → eqb e 0 ≡ w → trimReadOut s ≡ x → fieldReadOut s ≡ y
+      (z w x y l m : Bool) → eqb d 0 ≡ z → eqb e 0 ≡ w → trimReadOut t s ≡ x → fieldReadOut f s ≡ y
       → ltb u v ≡ l → ltb v u ≡ m → C (next z w x y l m)
 
   by-tests : (C : Bool → Type 0) → Choosing C → C (fieldNext f t s)
   unfolding fieldNextBy
   by-tests C go =
-      go (eqb d 0) (eqb e 0) (trimReadOut s) (fieldReadOut s) (ltb u v) (ltb v u) refl refl refl refl refl refl
+      go (eqb d 0) (eqb e 0) (trimReadOut t s) (fieldReadOut f s) (ltb u v) (ltb v u) refl refl refl refl refl refl
 
   module _ (d0 : eqb d 0 ≡ false) (e0 : eqb e 0 ≡ false) where
     field-some : 1 ≤ d
@@ -125,15 +124,16 @@ module _ {q : Query} {f t : List ℤ} {out : List Pair} {s : Session} (a : Reach
 module _ {q : Query} {f t : List ℤ} {out : List Pair} {s : Session} (a : Reached q f t out s) (g : legal f ≡ true)
     (h : legal t ≡ true) (wanted : 1 ≤ q .k) (u : settled f t s ≡ false) (m : FieldRows) (n : TrimRows)
     (sure : Sure q f t m n) where
-  live : leb (length (rowsOf f)) 0 ≡ false
+  live : fieldSide q .empty (rowsOf f) (s .depth .field .0) ≡ false
   live =
-      let z = unsettled-out f t s u .field-some in
-      lt-leb (length (rowsOf f)) 0 (omega (arith, length-rows f, a .field-rows))
+      empty-read (field-rises q (a .accepted)) f (s .depth .field .0) (s .rows .field .0) (a .field-rows)
+      (a .field-depth)
+      ∙ unsettled-out f t s u .field-live
 
-  live-trim : leb (length (rowsOf t)) 0 ≡ false
+  live-trim : trimSide q .empty (rowsOf t) (s .depth .trim .0) ≡ false
   live-trim =
-      let z = unsettled-out f t s u .trim-some in
-      lt-leb (length (rowsOf t)) 0 (omega (arith, length-rows t, a .trim-rows))
+      empty-read (trim-rises q (a .accepted)) t (s .depth .trim .0) (s .rows .trim .0) (a .trim-rows) (a .trim-depth)
+      ∙ unsettled-out f t s u .trim-live
 
   unended : (fieldSide q .ended (rowsOf f) (s .depth .field .0) && trimSide q .ended (rowsOf t) (s .depth .trim .0))
       ≡ false

@@ -6,4 +6,5 @@ pub mod Reached
 pub mod Ceiling
 pub mod Choice
 pub mod WholeList
+pub mod Withdrawn
 pub mod Unskipped

@@ -4,7 +4,7 @@ use mathlib.Core.Path.{_≡_, sym, ap, ap₂, subst, subst₂, _∙_}
 use mathlib.Core.Bool.{true, Bool, cond, false}
 use mathlib.Core.List.{List, map, List·Memᴰ, Memᴰ·cast, Memᴰ·map, Memᴰ·of-map}
 use mathlib.Core.Logic.{_↔_, inl}
-use Prim.Native.Nat.{ℕ, _-_, _≤_, _<_, _+_, _*_}
+use Prim.Native.Nat.{ℕ, _-_, _≤_, _<_, _+_}
 use native.Mathlib.Omega.{arith}
 use lib.IntN.{ℤ}
 use lib.ListN.{length-take, length-drop}
@@ -14,7 +14,7 @@ use Rattle.lists.specs.Parts.{mem-range, range-distinct, mem-keep, keep-distinc
 use Rattle.join.specs.Held.{Rank}
 use Rattle.rules.specs.declared.Pair.{Pair}
 use Rattle.rules.specs.declared.Query.{Query}
-use Rattle.rules.specs.Tables.{rowCount, row, Row, terms, pairSum, legal, part, ahead, Block, pairAt}
+use Rattle.rules.specs.Tables.{rowCount, row, terms, pairSum, legal, part, ahead, Block, pairAt}
 use Rattle.rules.specs.Tables.{qualifying}
 use Rattle.rules.specs.Session.{firstScore}
 use Rattle.rules.specs.Read.{rowsBetween}

@@ -20,11 +20,13 @@ use Rattle.rules.specs.declared.Pair.{Pair}
 use Rattle.rules.specs.declared.Query.{Query}
 use Rattle.rules.specs.declared.Session.{Session}
 use Rattle.rules.specs.declared.Counts.{Counts}
-use Rattle.rules.specs.Tables.{rowCount, ahead, legal, pairSum}
-use Rattle.rules.specs.Session.{heldPairs, opened, bothReadOut, aTableIsEmpty, fieldReadOut, trimReadOut, settled}
+use Rattle.rules.specs.Tables.{rowCount, row, ahead, legal, pairSum}
+use Rattle.rules.specs.Session.{isEmpty, heldPairs, opened, bothReadOut, aTableIsEmpty, fieldReadOut, trimReadOut}
+use Rattle.rules.specs.Session.{settled}
 use Rattle.rules.specs.Read.{readTo, newDepth, readTableBy, readTable, readBlock}
 use Rattle.rules.specs.Take.{firstHeld, movedOut, finished}
 use Rattle.rules.specs.Calls.{queryCode, pairFits, recordFits}
+use Rattle.session_laws.specs.ReadOut.{rows-qualify-out, live-above, live-never}
 use Rattle.session_laws.specs.Tables.{weighted-most, legal-out}
 use Rattle.session_laws.specs.Record.{query-out, pair-in, record-in}
 use Rattle.session_laws.specs.Read.{new-grows, new-within, own-within, Kept, metAll, met-all-keeps, depths, read-deeper}
@@ -211,46 +213,49 @@ module _ {q : Query} {f t : List ℤ} {out : List Pair} {s : Session} (a : Reach
 
   -- ---- The list is complete
 
-  read-out : bothReadOut s ≡ true → (s .depth .field .0 ≡ rowCount f) × (s .depth .trim .0 ≡ rowCount t)
-  read-out e =
-      let b = and-out (fieldReadOut s) (trimReadOut s) e in (
-        eqb-true (s .depth .field .0) (s .rows .field .0) (b .0) ∙ a .field-rows,
-        eqb-true (s .depth .trim .0) (s .rows .trim .0) (b .1) ∙ a .trim-rows,
-      )
+  module _ (x : legal f ≡ true) (y : legal t ≡ true) where
+    -- read out, the region has every pair
+    pub read-out-region : bothReadOut f t s ≡ true → (p : Pair) → QualifyingPair q f t p → R p
+    read-out-region e p h =
+        let live = rows-qualify-out (q .radius) (row f (p .field - 1)) (row t (p .trim - 1)) (h .near) in
+        let b = and-out (fieldReadOut f s) (trimReadOut t s) e in
+        let first =
+        live-above f x (s .rows .field .0) (s .depth .field .0) (p .field) (a .field-rows) (h .field-row) (live .0)
+        (b .0) in
+        let second =
+        live-above t y (s .rows .trim .0) (s .depth .trim .0) (p .trim) (a .trim-rows) (h .trim-row) (live .1) (b .1) in
+        record { fits = h; own-part = (h .field-row .0, first); other-part = (h .trim-row .0, second) }
 
-  -- read out, the region has every pair
-  pub read-out-region : bothReadOut s ≡ true → (p : Pair) → QualifyingPair q f t p → R p
-  read-out-region e p h =
-      let d = read-out e in
-      record { fits = h; own-part = omega (arith, h .field-row); other-part = omega (arith, h .trim-row) }
+    pub empty-none : aTableIsEmpty f t s ≡ true → (p : Pair) → QualifyingPair q f t p → ⊥
+    empty-none e p h =
+        let live = rows-qualify-out (q .radius) (row f (p .field - 1)) (row t (p .trim - 1)) (h .near) in
+        let m = s .rows .field .0 in
+        let n = s .rows .trim .0 in
+        ⊎-elim (λ z. live-never f x m (s .depth .field .0) (p .field) (a .field-rows) (h .field-row) (live .0) z)
+        (λ z. live-never t y n (s .depth .trim .0) (p .trim) (a .trim-rows) (h .trim-row) (live .1) z)
+        (or-out (isEmpty f m (s .depth .field .0)) (isEmpty t n (s .depth .trim .0)) e)
 
-  pub empty-none : aTableIsEmpty s ≡ true → (p : Pair) → QualifyingPair q f t p → ⊥
-  empty-none e p h =
-      ⊎-elim (λ z. omega (arith, eqb-true (s .rows .field .0) 0 z, a .field-rows, h .field-row))
-      (λ z. omega (arith, eqb-true (s .rows .trim .0) 0 z, a .trim-rows, h .trim-row))
-      (or-out (eqb (s .rows .field .0) 0) (eqb (s .rows .trim .0) 0) e)
+    abbrev Complete : Type 0
+    Complete = (length out ≡ q .k) ⊎ ((p : Pair) → QualifyingPair q f t p → List·Memᴰ p out)
 
-  abbrev Complete : Type 0
-  Complete = (length out ≡ q .k) ⊎ ((p : Pair) → QualifyingPair q f t p → List·Memᴰ p out)
+    pub finished-complete : finished f t s ≡ true → Complete
+    unfolding finished
+    finished-complete e =
+        ⊎-elim (λ z. inl (sym (a .keeping .counted) ∙ eqb-true (s .out) (s .query .k) z ∙ wanted))
+        (λ z.
+        ⊎-elim (λ n. inr (λ p h. absurd (empty-none n p h)))
+        (λ n. none (and-out (bothReadOut f t s) (eqb (s .held) 0) n))
+        (or-out (aTableIsEmpty f t s) (bothReadOut f t s && eqb (s .held) 0) z))
+        (or-out (eqb (s .out) (s .query .k)) (aTableIsEmpty f t s || (bothReadOut f t s && eqb (s .held) 0)) e)
+      where
+        wanted : s .query .k ≡ q .k
+        wanted = ap (λ q. q .k) (a .query)
 
-  pub finished-complete : finished s ≡ true → Complete
-  unfolding finished
-  finished-complete e =
-      ⊎-elim (λ z. inl (sym (a .keeping .counted) ∙ eqb-true (s .out) (s .query .k) z ∙ wanted))
-      (λ z.
-      ⊎-elim (λ n. inr (λ p h. absurd (empty-none n p h)))
-      (λ n. none (and-out (bothReadOut s) (eqb (s .held) 0) n))
-      (or-out (aTableIsEmpty s) (bothReadOut s && eqb (s .held) 0) z))
-      (or-out (eqb (s .out) (s .query .k)) (aTableIsEmpty s || (bothReadOut s && eqb (s .held) 0)) e)
-    where
-      wanted : s .query .k ≡ q .k
-      wanted = ap (λ q. q .k) (a .query)
-
-      none : (bothReadOut s ≡ true) × (eqb (s .held) 0 ≡ true) → Complete
-      none n =
-          let held : ℕ → Type 0 = λ m. Holds ahead (s .query .k) R out (a .keeping .rest) (take m (s .pairs)) in
-          ⊎-elim (λ z. inl (z ∙ wanted)) (λ z. inr (λ p h. z p (read-out-region (n .0) p h)))
-          (none-held pair-rank (subst held (eqb-true (s .held) 0 (n .1)) (a .keeping .holds)))
+        none : (bothReadOut f t s ≡ true) × (eqb (s .held) 0 ≡ true) → Complete
+        none n =
+            let held : ℕ → Type 0 = λ m. Holds ahead (s .query .k) R out (a .keeping .rest) (take m (s .pairs)) in
+            ⊎-elim (λ z. inl (z ∙ wanted)) (λ z. inr (λ p h. z p (read-out-region (n .0) p h)))
+            (none-held pair-rank (subst held (eqb-true (s .held) 0 (n .1)) (a .keeping .holds)))
 
   -- ---- The record is never refused
 

@@ -1,31 +1,35 @@
 -- The rules' tables as plain tables of the join, lists of rows: legal tables and their rows correspond one to one,
 -- and keep the laws of the join. Assumes nothing.
-use mathlib.Core.Path.{_≡_, refl, sym, ap, subst, subst₂, _∙_}
-use mathlib.Core.Bool.{Bool, true}
+use mathlib.Core.Path.{_≡_, refl, sym, ap, ap₂, subst, subst₂, _∙_}
+use mathlib.Core.Bool.{Bool, true, false, _&&_, _||_, not}
 use mathlib.Core.List.{List, [], _∷_, map}
 use mathlib.Core.Logic.{⊎-elim}
 use Prim.Native.Nat.{ℕ, zero, suc, _+_, _*_, _-_, _/_, _%_, _≤_, _<_}
 use native.Mathlib.Omega.{arith}
 use native.Mathlib.Decide.{le-ind, decLe}
-use native.Mathlib.Nat.{mul-le-mul-left, mul-suc}
-use lib.Dec.{eqb, lit≤}
+use native.Mathlib.Nat.{mul-le-mul-left, mul-suc, mul-zero}
+use lib.Dec.{eqb, leb, ltb, lit≤}
 use lib.IntN.{ℤ, pos, negsuc}
 use lib.Signed.{leZ}
 use lib.ListN.{length, getD, take}
 use lib.Seq.{ext-getD, take-nil}
-use borrow.Author.Tests.{leb-true, le-leb, eqb-true, ne-eqb, le-ltb}
+use borrow.Author.Tests.{leb-true, le-leb, eqb-true, eqb-false, eq-eqb, ne-eqb, lt-leb, le-ltb}
 use Rattle.lists.specs.Lists.{range}
-use Rattle.lists.specs.Bools.{clash, and-out, or-out}
+use Rattle.lists.specs.Bools.{clash, and-false, or-out}
 use Rattle.lists.specs.Parts.{map-range-at, length-map-range}
-use Rattle.join.specs.Join.{Side, Laws, flip}
-use Rattle.join.specs.Plain.{Rows, plain, PlainLegal, Matches}
-use Rattle.join.specs.PlainLaws.{plain-laws}
+use Rattle.join.specs.Join.{Side, Laws}
+use Rattle.join.specs.Plain.{Rows, PlainLegal}
+use Rattle.join.specs.Zero.{zeroAmong, falling, Mates}
+use Rattle.join.specs.ZeroLaws.{falling-laws}
 use Rattle.rules.specs.Tables.{mostRows, rowCount, inRange, Row, row, qualifies, num, within, rowInRange, rowInOrder}
-use Rattle.rules.specs.Tables.{weighted, terms}
+use Rattle.rules.specs.Tables.{withdrawn, rowsQualify, weighted, terms}
+use Rattle.rules.specs.Session.{withdrawnWithin, isEmpty}
+use Rattle.rules.specs.declared.Shade.{Shade}
 use Rattle.rules.specs.Tables.{legal}
 use Rattle.rules.specs.Tables.{natOf, gap, squaredDistance}
 use Rattle.rules.specs.declared.Query.{Query}
 use Rattle.rules.specs.Calls.{queryCode}
+use Rattle.session_laws.specs.ReadOut.{rows-qualify-in}
 use Rattle.session_laws.specs.Record.{query-out}
 use Rattle.session_laws.specs.Tables.{pattern-kept, score-kept, range-out, range-in, legal-out, legal-in}
 
@@ -49,10 +53,10 @@ rowsBy weight = record { blank = blankRow; weight = weight; Good = GoodRow; most
 
 -- the field table and the trim table of a query
 abbrev pub fieldSide : Query → Side Row
-fieldSide query = plain (rowsBy (terms query .field))
+fieldSide query = falling (rowsBy (terms query .field))
 
 abbrev pub trimSide : Query → Side Row
-trimSide query = plain (rowsBy (terms query .trim))
+trimSide query = falling (rowsBy (terms query .trim))
 
 -- the test on a field row and a trim row
 abbrev pub near : Query → Row → Row → Bool
@@ -62,6 +66,7 @@ near query = terms query .near
 pub record Rises (weight : Row → ℕ) : Type 0 where
   pub up : (x y : Row) → x .score ≤ y .score → weight x ≤ weight y
   pub down : (x y : Row) → weight x ≤ weight y → x .score ≤ y .score
+  pub none : (x : Row) → x .score ≡ 0 → weight x ≡ 0
 
 -- rows written out, four numbers to each
 unfoldable pub flat : List Row → List ℤ
@@ -84,6 +89,10 @@ weighted-down weight x y some h = go (decLe (x .score) (y .score))
         let more : suc (y .score) ≤ x .score = omega arith in
         absurd (omega (arith, mul-le-mul-left weight more, mul-suc weight (y .score)))
 
+weighted-none : (weight : ℕ) (x : Row) → x .score ≡ 0 → weighted weight x ≡ 0
+unfolding weighted
+weighted-none weight x e = ap (λ n. weight * n) e ∙ mul-zero weight
+
 -- in any query's terms, no more than a row of a higher score
 module _ (query : Query) (x y : Row) (h : x .score ≤ y .score) where
   pub field-up : terms query .field x ≤ terms query .field y
@@ -99,6 +108,7 @@ module _ (query : Query) (accepted : queryCode query ≡ 0) where
       record {
         up = field-up query;
         down = λ x y h. weighted-down (query .weights .field .0) x y (query-out query accepted .field-weight .0) h;
+        none = weighted-none (query .weights .field .0);
       }
 
   pub trim-rises : Rises (terms query .trim)
@@ -106,6 +116,7 @@ module _ (query : Query) (accepted : queryCode query ≡ 0) where
       record {
         up = trim-up query;
         down = λ x y h. weighted-down (query .weights .trim .0) x y (query-out query accepted .trim-weight .0) h;
+        none = weighted-none (query .weights .trim .0);
       }
 
 -- ---- Their laws
@@ -293,11 +304,9 @@ gap-same (pos zero) = refl
 gap-same (pos (suc n)) = rw (le-ltb (suc n) (suc n) (omega arith)) (omega arith)
 gap-same (negsuc n) = rw (le-ltb (suc n) (suc n) (omega arith)) (omega arith)
 
-same-place : (query : Query) (x : Row) → near query x x ≡ true
+same-place : (radius : ℕ) (x : Shade) → qualifies radius x x ≡ true
 unfolding qualifies squaredDistance
-same-place query x =
-    let r = query .radius in
-    rw (gap-same (x .shade .a), gap-same (x .shade .b)) (le-leb 0 (r * r) (omega arith))
+same-place radius x = rw (gap-same (x .a), gap-same (x .b)) (le-leb 0 (radius * radius) (omega arith))
 
 -- x at y's place
 abbrev moved : Row → Row → Row
@@ -310,27 +319,118 @@ moved-good x y g h =
     range-in (pos (x .pattern)) (pos (x .score)) (y .shade .a) (y .shade .b)
     (record { pattern = a .pattern; score = a .score; a = b .a; b = b .b })
 
+-- a row's weight and its score are 0 together
+module _ {weight : Row → ℕ} (rises : Rises weight) (x : Row) where
+  pub weight-none : weight x ≡ 0 → withdrawn x ≡ true
+  unfolding withdrawn
+  weight-none e =
+      let low = rises .down x blankRow (omega (arith, rises .none blankRow refl)) in
+      eq-eqb (x .score) 0 (omega arith)
+
+  pub weight-some : (weight x ≡ 0 → ⊥) → withdrawn x ≡ false
+  unfolding withdrawn
+  weight-some h = ne-eqb (x .score) 0 (λ e. h (rises .none x e))
+
+  pub weight-zero : eqb (weight x) 0 ≡ withdrawn x
+  unfolding withdrawn
+  weight-zero = go (eqb (x .score) 0) refl
+    where
+      go : (b : Bool) → eqb (x .score) 0 ≡ b → eqb (weight x) 0 ≡ b
+      go true e = eq-eqb (weight x) 0 (rises .none x (eqb-true (x .score) 0 e))
+      go false e =
+          ne-eqb (weight x) 0
+          (λ z. eqb-false (x .score) 0 e (eqb-true (x .score) 0 (weight-none z)))
+
+-- the test on rows: at one place they pass it, unless one is withdrawn
+module _ (query : Query) (x y : Row) where
+  live-field : withdrawn x ≡ false → withdrawn y ≡ false → near query (moved x y) y ≡ true
+  unfolding withdrawn
+  live-field h k =
+      rows-qualify-in (query .radius) (moved x y) y h k ∙ same-place (query .radius) (y .shade)
+
+  live-trim : withdrawn y ≡ false → withdrawn x ≡ false → near query x (moved y x) ≡ true
+  unfolding withdrawn
+  live-trim h k =
+      rows-qualify-in (query .radius) x (moved y x) k h ∙ same-place (query .radius) (x .shade)
+
+  pub dead-field : withdrawn x ≡ true → near query x y ≡ false
+  unfolding rowsQualify
+  dead-field h = rw h
+
+  pub dead-trim : withdrawn y ≡ true → near query x y ≡ false
+  unfolding rowsQualify
+  dead-trim h = rw h (and-false (not (withdrawn x)))
+
+-- a row that is not withdrawn
+abbrev some : Row
+some = record { pattern = 1; score = 1; shade = record { a = pos 0; b = pos 0 } }
+
+some-live : withdrawn some ≡ false
+unfolding withdrawn
+some-live = refl
+
+mates : {weight other : Row → ℕ} {test : Row → Row → Bool} → Rises weight → Rises other
+    → ((x y : Row) → withdrawn x ≡ false → withdrawn y ≡ false → test (moved x y) y ≡ true)
+    → ((x y : Row) → withdrawn x ≡ true → test x y ≡ false) → Mates (rowsBy weight) (rowsBy other) test
+mates rises others live dead =
+    record {
+      like = moved;
+      good = moved-good;
+      level = λ x y g h.
+          let low = rises .up (moved x y) x (omega arith) in
+          let high = rises .up x (moved x y) (omega arith) in
+          omega arith;
+      fits = λ x y g h a b. live x y (weight-some rises x a) (weight-some others y b);
+      dead = λ x y e. dead x y (weight-none rises x e);
+      some = some;
+      some-good = unfold inRange within in refl;
+      some-high = λ e. clash (weight-none rises some e) some-live;
+    }
+
 pub laws : (query : Query) → queryCode query ≡ 0 → Laws (fieldSide query) (trimSide query) (near query)
 laws query accepted =
-    plain-laws (rowsBy (terms query .field)) (rowsBy (terms query .trim)) (near query)
-    (match (field-rises query accepted) (λ x y. same-place query y))
-    (match (trim-rises query accepted) (λ x y. same-place query y)) (lit≤ tt) (lit≤ tt) some some good good
-  where
-    match : {weight other : Row → ℕ} {test : Row → Row → Bool} → Rises weight
-        → ((x y : Row) → test (moved x y) y ≡ true) → Matches (rowsBy weight) (rowsBy other) test
-    match rises same =
-        record {
-          like = moved;
-          good = moved-good;
-          level = λ x y g h.
-              let low = rises .up (moved x y) x (omega arith) in
-              let high = rises .up x (moved x y) (omega arith) in
-              omega arith;
-          fits = λ x y g h. same x y;
-        }
+    let field = field-rises query accepted in
+    let trim = trim-rises query accepted in
+    falling-laws (rowsBy (terms query .field)) (rowsBy (terms query .trim)) (near query)
+    (mates field trim (live-field query) (dead-field query))
+    (mates trim field (λ y x. live-trim query x y) (λ y x. dead-trim query x y)) (lit≤ tt) (lit≤ tt)
 
-    some : Row
-    some = record { pattern = 1; score = 0; shade = record { a = pos 0; b = pos 0 } }
+-- ---- A withdrawn row among the first, of a table or of its rows
 
-    good : GoodRow some
-    good = unfold inRange within in refl
+zero-rows : {weight : Row → ℕ} → Rises weight → (t : List ℤ) (n : ℕ)
+    → ((i : ℕ) → i < n → getD (rowsOf t) i blankRow ≡ row t i) → zeroAmong (rowsBy weight) (rowsOf t) n
+    ≡ withdrawnWithin t n
+unfolding zeroAmong withdrawnWithin
+zero-rows rises t zero same = refl
+zero-rows {weight} rises t (suc n) same =
+    ap₂ (λ a b. a || b) (zero-rows rises t n (λ i h. same i (omega arith)))
+    (ap (λ x. eqb (weight x) 0) (same n (omega arith)) ∙ weight-zero rises (row t n))
+
+module _ {weight : Row → ℕ} (rises : Rises weight) (t : List ℤ) (n : ℕ) where
+  -- down to a depth
+  pub zero-read : n ≤ rowCount t → zeroAmong (rowsBy weight) (rowsOf t) n ≡ withdrawnWithin t n
+  zero-read h = zero-rows rises t n (λ i k. rows-at t i (omega arith))
+
+  -- whether it counts as empty then
+  pub empty-read : (rows : ℕ) → rows ≡ rowCount t → n ≤ rowCount t
+      → falling (rowsBy weight) .empty (rowsOf t) n ≡ isEmpty t rows n
+  unfolding isEmpty
+  empty-read rows count h = ap₂ (λ a b. a || b) (go (eqb rows 0) refl) (first (decLe 1 n))
+    where
+      go : (b : Bool) → eqb rows 0 ≡ b → leb (length (rowsOf t)) 0 ≡ b
+      go true e = le-leb (length (rowsOf t)) 0 (omega (arith, length-rows t, eqb-true rows 0 e))
+      go false e =
+          lt-leb (length (rowsOf t)) 0 (let k = eqb-false rows 0 e in omega (arith, length-rows t))
+
+      weight-first : ℕ
+      weight-first = weight (getD (rowsOf t) 0 blankRow)
+
+      first : Dec (1 ≤ n) → (leb 1 n && eqb weight-first 0) ≡ (ltb 0 n && withdrawn (row t 0))
+      first (yes k) =
+          rw (le-leb 1 n k)
+          (ap (λ x. eqb (weight x) 0) (rows-at t 0 (omega arith)) ∙ weight-zero rises (row t 0))
+      first (no k) = rw (lt-leb 1 n (omega arith))
+
+  -- of a legal table, past its end too
+  pub zero-legal : legal t ≡ true → zeroAmong (rowsBy weight) (rowsOf t) n ≡ withdrawnWithin t n
+  zero-legal g = zero-rows rises t n (λ i k. row-at t g i)

@@ -4,7 +4,7 @@ use mathlib.Core.Path.{_≡_, sym, ap, ap₂, _∙_, refl}
 use mathlib.Core.Bool.{Bool, cond, _&&_, _||_, true, false}
 use mathlib.Core.List.{List, map, map-map}
 use mathlib.Core.Logic.{_↔_}
-use Prim.Native.Nat.{ℕ, _+_, _*_, max, _-_, _≤_}
+use Prim.Native.Nat.{ℕ, _+_, _*_, max, _-_}
 use native.Mathlib.Omega.{arith}
 use lib.Dec.{leb, eqb}
 use lib.IntN.{ℤ}
@@ -14,36 +14,43 @@ use Rattle.lists.specs.Lists.{atLeast, keep, range, each, best}
 use Rattle.lists.specs.Parts.{map-each, each-map, keep-map}
 use Rattle.join.specs.Join as Join
 use Rattle.join.specs.Join.{Side, sumsOf, weightAt, sureTest}
-use Rattle.join.specs.Plain.{plain}
+use Rattle.join.specs.Zero.{falling}
 use Rattle.join.specs.Sure.{sure-is}
 use Rattle.rules.specs.declared.FieldRows.{FieldRows}
 use Rattle.rules.specs.declared.TrimRows.{TrimRows}
 use Rattle.rules.specs.declared.Query.{Query}
-use Rattle.rules.specs.Tables.{rowCount, legal, Row, row, Terms, terms, pairSum, Block, pairAt, qualifying}
-use Rattle.rules.specs.Session.{firstScore, lastScore}
+use Rattle.rules.specs.Tables.{rowCount, legal, Row, row, withdrawn, Terms, terms, pairSum, Block, pairAt, qualifying}
+use Rattle.rules.specs.Session.{withdrawnWithin, firstScore, lastScore}
 use Rattle.rules.specs.Calls.{queryCode}
 use Rattle.rules.specs.Sure.{qualifyingSums, whole, Begins, Sure}
 use Rattle.session_laws.specs.Record.{query-out}
 use Rattle.tables_join.specs.Rows.{rowsOf, rowsBy, fieldSide, trimSide, near, Rises, flat, length-rows}
 use Rattle.tables_join.specs.Rows.{legal-rows, field-rises, trim-rises, rows-flat, flat-rows}
-use Rattle.tables_join.specs.Rows.{row-at, flat-take, rows-take, flat-legal, laws}
+use Rattle.tables_join.specs.Rows.{row-at, weight-zero, zero-legal, flat-take, rows-take, flat-legal, laws}
 
--- the ceiling of a reading: the higher of HF + LT, if trim rows are unread, and LF + HT, if field rows are unread
+-- a reading of n rows has read a table out: its last row, or a withdrawn one, is within it
+unfoldable pub readOutBy : List ℤ → ℕ → Bool
+readOutBy t n = leb (rowCount t) n || withdrawnWithin t n
+
+-- it shows that the table is empty: there are no rows, or the first one is within it and withdrawn
+unfoldable pub emptyBy : List ℤ → ℕ → Bool
+emptyBy t n = eqb (rowCount t) 0 || (leb 1 n && withdrawn (row t 0))
+
+-- the ceiling of a reading: the higher of HF + LT, unless trim is read out, and LF + HT, unless field is
 unfoldable pub ceilingAt : Query → List ℤ → List ℤ → FieldRows → TrimRows → ℕ
 ceilingAt query f t p q =
     let w = terms query in
     max
-    (cond (leb (rowCount t) (q .0)) 0 (firstScore (w .field) f + lastScore (w .trim) t (q .0)))
-    (cond (leb (rowCount f) (p .0)) 0 (lastScore (w .field) f (p .0) + firstScore (w .trim) t))
+    (cond (readOutBy t (q .0)) 0 (firstScore (w .field) f + lastScore (w .trim) t (q .0)))
+    (cond (readOutBy f (p .0)) 0 (lastScore (w .field) f (p .0) + firstScore (w .trim) t))
 
--- a table is empty, or both end within the reading, or rows of both are read and k sums of theirs are at least the
--- ceiling
+-- a table is empty, or both are read out, or rows of both are read and k sums of theirs are at least the ceiling
 unfoldable pub isSure : Query → List ℤ → List ℤ → FieldRows → TrimRows → Bool
 isSure query f t p q =
     let sums = qualifyingSums query (take (4 * p .0) f) (take (4 * q .0) t) in
-    eqb (rowCount f) 0
-    || (eqb (rowCount t) 0
-    || ((leb (rowCount f) (p .0) && leb (rowCount t) (q .0))
+    emptyBy f (p .0)
+    || (emptyBy t (q .0)
+    || ((readOutBy f (p .0) && readOutBy t (q .0))
     || (leb 1 (p .0) && (leb 1 (q .0) && leb (query .k) (atLeast (ceilingAt query f t p q) sums)))))
 
 -- ---- The sums of the tables are those of their rows
@@ -86,14 +93,14 @@ sums-rows query x y =
 
 -- tables that begin alike have rows that do, and the other way round
 module _ {weight : Row → ℕ} (rises : Rises weight) (n : ℕ) (t : List ℤ) (g : legal t ≡ true) where
-  begins-flat : (l : List Row) → Join.Begins (plain (rowsBy weight)) n (rowsOf t) l → Begins n t (flat l)
+  begins-flat : (l : List Row) → Join.Begins (falling (rowsBy weight)) n (rowsOf t) l → Begins n t (flat l)
   begins-flat l b = record {
     lawful = flat-legal rises l (b .legal);
     alike = flat-take n l ∙ ap flat (sym (b .rows)) ∙ sym (flat-take n (rowsOf t)) ∙ ap (take (4 * n)) (flat-rows t g);
     ends = λ h. ap flat (b .ends (omega (arith, length-rows t))) ∙ flat-rows t g;
   }
 
-  begins-rows : (u : List ℤ) → Begins n t u → Join.Begins (plain (rowsBy weight)) n (rowsOf t) (rowsOf u)
+  begins-rows : (u : List ℤ) → Begins n t u → Join.Begins (falling (rowsBy weight)) n (rowsOf t) (rowsOf u)
   begins-rows u b = record {
     legal = legal-rows u (b .lawful) rises;
     rows =
@@ -164,19 +171,36 @@ none-is n = go (eqb n 0) refl
     go false e = lt-leb n 0 (let k = eqb-false n 0 e in omega arith)
 
 weight-at : (weight : Row → ℕ) (t : List ℤ) → legal t ≡ true → (i : ℕ)
-    → weightAt (plain (rowsBy weight)) (rowsOf t) i ≡ weight (row t i)
+    → weightAt (falling (rowsBy weight)) (rowsOf t) i ≡ weight (row t i)
 unfolding weightAt
 weight-at weight t g i = ap weight (row-at t g i)
 
-module _ (query : Query) (f t : List ℤ) (g : legal f ≡ true) (h : legal t ≡ true) (m : FieldRows) (n : TrimRows) where
+-- what a reading of the rows has ended, or shows to be empty
+module _ {weight : Row → ℕ} (rises : Rises weight) (t : List ℤ) (g : legal t ≡ true) (n : ℕ) where
+  ended-by : falling (rowsBy weight) .ended (rowsOf t) n ≡ readOutBy t n
+  unfolding readOutBy
+  ended-by = rw (length-rows t, zero-legal rises t n g)
+
+  empty-by : falling (rowsBy weight) .empty (rowsOf t) n ≡ emptyBy t n
+  unfolding emptyBy
+  empty-by = rw (length-rows t, none-is (rowCount t), row-at t g 0, weight-zero rises (row t 0))
+
+module _ (query : Query) (accepted : queryCode query ≡ 0) (f t : List ℤ) (g : legal f ≡ true) (h : legal t ≡ true)
+    (m : FieldRows) (n : TrimRows) where
+  abbrev first : Rises (terms query .field)
+  first = field-rises query accepted
+
+  abbrev second : Rises (terms query .trim)
+  second = trim-rises query accepted
+
   ceiling-at : Join.ceiling (fieldSide query) (trimSide query) (rowsOf f) (m .0) (rowsOf t) (n .0)
       ≡ ceilingAt query f t m n
   unfolding ceilingAt Join.ceiling
   ceiling-at =
       let w = terms query in
       rw (
-        length-rows f,
-        length-rows t,
+        ended-by first f g (m .0),
+        ended-by second t h (n .0),
         weight-at (w .field) f g 0,
         weight-at (w .field) f g (m .0 - 1),
         weight-at (w .trim) t h 0,
@@ -194,11 +218,18 @@ module _ (query : Query) (f t : List ℤ) (g : legal f ≡ true) (h : legal t �
       ≡ isSure query f t m n
   unfolding sureTest isSure
   test-is =
-      rw (length-rows f, length-rows t, none-is (rowCount f), none-is (rowCount t), ceiling-at, reading-sums)
+      rw (
+        empty-by first f g (m .0),
+        empty-by second t h (n .0),
+        ended-by first f g (m .0),
+        ended-by second t h (n .0),
+        ceiling-at,
+        reading-sums,
+      )
 
   -- a reading is sure of k exactly if the test passes
-  pub sure-is-test : queryCode query ≡ 0 → Sure query f t m n ↔ (isSure query f t m n ≡ true)
-  sure-is-test accepted =
+  pub sure-is-test : Sure query f t m n ↔ (isSure query f t m n ≡ true)
+  sure-is-test =
       let a = sure-rows query accepted f t m n g h in
       let b =
       sure-is (fieldSide query) (trimSide query) (near query) (laws query accepted) (query .k) (rowsOf f) (rowsOf t)

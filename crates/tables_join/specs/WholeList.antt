@@ -57,11 +57,11 @@ pub record Listed (q : Query) (f t : List ℤ) (out l : List Pair) : Type 0 wher
 -- ---- The loops
 
 module _ (n : ℕ) (f t : List ℤ) (s : Session) where
-  until-settled : readCall f t s ≡ step Settled s → readUntilSettled (suc n) f t s ≡ s
+  pub until-settled : readCall f t s ≡ step Settled s → readUntilSettled (suc n) f t s ≡ s
   unfolding readUntilSettledBy
   until-settled e = rw (e, readUntilSettledBy)
 
-  until-deeper : (r : Session) → readCall f t s ≡ step Read r
+  pub until-deeper : (r : Session) → readCall f t s ≡ step Read r
       → readUntilSettled (suc n) f t s ≡ readUntilSettled n f t r
   unfolding readUntilSettledBy
   until-deeper r e = rw (e, readUntilSettledBy) (ap (λ x. readUntilSettled n f t (x .session)) e)
@@ -138,9 +138,9 @@ listed-more {q} {f} {t} {out} p l highest r =
     }
 
 -- at the end
-listed-none : {q : Query} {f t : List ℤ} {out : List Pair} {s : Session} → Reached q f t out s → finished s ≡ true
-    → Listed q f t out []
-listed-none {q} {f} {t} {out} {s} a e =
+listed-none : {q : Query} {f t : List ℤ} {out : List Pair} {s : Session} → legal f ≡ true → legal t ≡ true
+    → Reached q f t out s → finished f t s ≡ true → Listed q f t out []
+listed-none {q} {f} {t} {out} {s} g h a e =
     let z : out ++ [] ≡ out = append-nil out in
     record {
       fit =
@@ -151,7 +151,7 @@ listed-none {q} {f} {t} {out} {s} a e =
           subst (λ m. length m ≤ q .k) (sym z) (omega (arith, a .keeping .holds .room, ap (λ q. q .k) (a .query)));
       complete =
           subst (λ m. (length m ≡ q .k) ⊎ ((x : Pair) → QualifyingPair q f t x → List·Memᴰ x m)) (sym z)
-          (finished-complete a e);
+          (finished-complete a g h e);
       best-first = tt;
     }
 
@@ -185,9 +185,9 @@ module _ (q : Query) (f t : List ℤ) (g : legal f ≡ true) (h : legal t ≡ tr
           (secured-best (a .reached) g h some (gives-secured f t s e))
           (next moved (omega (arith, length-append out (p ∷ [])))))
       go false e next =
-          let done : finished s ≡ true = settled-take f t s (a .reached .keeping .stored) (a .is-settled) e in
+          let done : finished f t s ≡ true = settled-take f t s (a .reached .keeping .stored) (a .is-settled) e in
           subst (Listed q f t out) (sym (until-finished n f t s (take-finishes f t s passes e done)))
-          (listed-none (a .reached) done)
+          (listed-none g h (a .reached) done)
 
 -- ---- The whole query
 

@@ -17,7 +17,8 @@ use Rattle.rules.specs.Calls.{callCode, step, takeCallBy, takeCall}
 
 unfoldable pub takeAnswer : ℕ → List ℤ → List ℤ → Session → Answer
 takeAnswer code f t s =
-    cond (eqb code 0) (cond (givesPair f t s) (Given (firstHeld s)) (cond (finished s) Finished NotYet)) (Refused code)
+    cond (eqb code 0) (cond (givesPair f t s) (Given (firstHeld s)) (cond (finished f t s) Finished NotYet))
+    (Refused code)
 
 -- the record that goes with an answer: only a pair that is given changes it
 module _ (f t : List ℤ) (s : Session) where
@@ -26,7 +27,7 @@ module _ (f t : List ℤ) (s : Session) where
 
   take-is : step (takeAnswer (callCode f t s) f t s) (afterTake (takeAnswer (callCode f t s) f t s)) ≡ takeCall f t s
   unfolding takeCallBy takeAnswer
-  take-is = go (callCode f t s) (eqb (callCode f t s) 0) (givesPair f t s) (finished s)
+  take-is = go (callCode f t s) (eqb (callCode f t s) 0) (givesPair f t s) (finished f t s)
     where
       go : (code : ℕ) (a b c : Bool)
           → let x = cond a (cond b (Given (firstHeld s)) (cond c Finished NotYet)) (Refused code) in
@@ -52,7 +53,7 @@ module _ (f t : List ℤ) (s : Session) where
 module _ (code : ℕ) (f t : List ℤ) (s : Session) where
   pub take-asked : wasGiven (takeAnswer code f t s) ≡ true → (code ≡ 0) × (givesPair f t s ≡ true)
   unfolding takeAnswer
-  take-asked e = go (eqb code 0) refl (givesPair f t s) refl (finished s) e
+  take-asked e = go (eqb code 0) refl (givesPair f t s) refl (finished f t s) e
     where
       go : (a : Bool) → eqb code 0 ≡ a → (b : Bool) → givesPair f t s ≡ b → (c : Bool)
           → wasGiven (cond a (cond b (Given (firstHeld s)) (cond c Finished NotYet)) (Refused code)) ≡ true

@@ -9,7 +9,6 @@ use Rattle.lists.specs.Lists.{every}
 use Rattle.rules.specs.declared.Pair.{Pair}
 use Rattle.rules.specs.declared.Query.{Query}
 use Rattle.rules.specs.declared.Session.{Session}
-use Rattle.rules.specs.declared.Step.{Step}
 use Rattle.rules.specs.declared.Answer.the-variants.{Refused, Read, Settled, Given, NotYet, Finished}
 use Rattle.rules.specs.Tables.{Terms, terms, Block, qualifying}
 use Rattle.rules.specs.Session.{heldPairs, firstScore, lastScore, fieldReadOut, trimReadOut, bothReadOut}
@@ -52,24 +51,24 @@ module _ (g : Query → Terms) (s : Session) (e : g (s .query) ≡ terms (s .que
     ceiling-agrees =
         ap
         (λ (w : Terms).
-        max (cond (trimReadOut s) 0 (firstScore (w .field) f + lastScore (w .trim) t (s .depth .trim .0)))
-        (cond (fieldReadOut s) 0 (lastScore (w .field) f (s .depth .field .0) + firstScore (w .trim) t)))
+        max (cond (trimReadOut t s) 0 (firstScore (w .field) f + lastScore (w .trim) t (s .depth .trim .0)))
+        (cond (fieldReadOut f s) 0 (lastScore (w .field) f (s .depth .field .0) + firstScore (w .trim) t)))
         e
 
     secured-agrees : securedBy g f t s ≡ securedBy terms f t s
     unfolding securedBy
     secured-agrees =
         λ i p.
-        cond (aDepthIsZero s && not (aTableIsEmpty s)) false
-        (cond (bothReadOut s) true (leb (ceiling-agrees i) (p .sum)))
+        cond (aDepthIsZero s && not (aTableIsEmpty f t s)) false
+        (cond (bothReadOut f t s) true (leb (ceiling-agrees i) (p .sum)))
 
     settled-agrees : settledBy g f t s ≡ settledBy terms f t s
     unfolding settledBy
     settled-agrees =
         ap
         (λ (secured : Pair → Bool).
-        aTableIsEmpty s
-        || (bothReadOut s
+        aTableIsEmpty f t s
+        || (bothReadOut f t s
         || (eqb (s .out) (s .query .k)
         || (eqb (s .out + s .held) (s .query .k) && every secured (heldPairs s)))))
         secured-agrees
@@ -83,8 +82,8 @@ module _ (g : Query → Terms) (s : Session) (e : g (s .query) ≡ terms (s .que
         (λ (x y : ℕ).
         cond (eqb d 0) true
         (cond (eqb c 0) false
-        (cond (trimReadOut s) true
-        (cond (fieldReadOut s) false (cond (ltb x y) true (cond (ltb y x) false (leb d c)))))))
+        (cond (trimReadOut t s) true
+        (cond (fieldReadOut f s) false (cond (ltb x y) true (cond (ltb y x) false (leb d c)))))))
         (ap (λ (w : Terms). scoreDrop (w .field) f d) e) (ap (λ (w : Terms). scoreDrop (w .trim) t c) e)
 
     new-block-agrees : newBlockCodeBy g f t s ≡ newBlockCodeBy terms f t s
@@ -122,6 +121,6 @@ module _ (g : Query → Terms) (s : Session) (e : g (s .query) ≡ terms (s .que
         (λ (secured : Pair → Bool).
         cond (eqb (callCode f t s) 0)
         (cond (ltb 0 (s .held) && secured (firstHeld s)) (step (Given (firstHeld s)) (movedOut s))
-        (cond (finished s) (step Finished s) (step NotYet s)))
+        (cond (finished f t s) (step Finished s) (step NotYet s)))
         (step (Refused (callCode f t s)) s))
         secured-agrees

@@ -4,7 +4,7 @@ use mathlib.Core.Path.{_≡_, refl, sym, ap, subst, _∙_}
 use mathlib.Core.Bool.{Bool, true, false, cond}
 use mathlib.Core.List.{List, [], _∷_, _++_, List·Memᴰ, List·Memᴰ·append-cases}
 use mathlib.Core.Logic.{⊎-elim}
-use Prim.Native.Nat.{ℕ, zero, suc, _+_, _*_, _-_, _≤_, _<_, min}
+use Prim.Native.Nat.{ℕ, zero, suc, _+_, _*_, _-_, _≤_, min}
 use native.Mathlib.Omega.{arith}
 use native.Mathlib.Nat.{one-mul}
 use lib.IntN.{ℤ}
@@ -25,7 +25,7 @@ use Rattle.rules.specs.Take.{movedOut}
 use Rattle.session_laws.specs.Tables.{RowFits, score-most}
 use Rattle.session_laws.specs.Calls.{Accepted, NewRowsFit, read-rows}
 use Rattle.session_laws.specs.Read.{new-within, own-within, blocks-keep}
-use Rattle.tables_join.specs.Pairs.{QualifyingPair, ownRow, otherRow, Between, mem-between}
+use Rattle.tables_join.specs.Pairs.{QualifyingPair, Between, mem-between}
 use Rattle.tables_join.specs.Held.{held-holding}
 use Rattle.unweighted.specs.Unweighted.{isLow}
 

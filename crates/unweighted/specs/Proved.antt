@@ -98,7 +98,7 @@ module _ (f t : List ℤ) (s : Session) (plain : Plain s) where
 
   take-plain : Plain (takeCall f t s .session)
   unfolding takeCallBy
-  take-plain = go (eqb (callCode f t s) 0) (givesPair f t s) (finished s)
+  take-plain = go (eqb (callCode f t s) 0) (givesPair f t s) (finished f t s)
     where
       code : ℕ
       code = callCode f t s

@@ -1,6 +1,6 @@
 -- The rules without weights: what a row adds to a sum is its score, and the largest held sum is 19,998. Definitions
 -- only. Assumes nothing.
-use Prim.Native.Nat.{ℕ, _+_}
+use Prim.Native.Nat.{_+_}
 use mathlib.Core.Bool.{Bool, cond}
 use mathlib.Core.List.{List, [], _∷_}
 use lib.Dec.{leb}

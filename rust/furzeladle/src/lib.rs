@@ -3,6 +3,9 @@
 //! A table is `&[i32]`, four numbers to a row: pattern number, score, a, b. Rows are numbered from 1. Nothing here
 //! panics or trusts its input: what does not fit is refused by the rules' number.
 //!
+//! A score of 0 means that the pattern is withdrawn: its row is read, shown and checked like any other, but no pair with
+//! it qualifies. As scores fall, a table counts as read out once such a row has been read.
+//!
 //! The boundary asks for pointers that are not null and for written slices that overlap nothing: references are both.
 use std::fmt;
 

@@ -1,4 +1,5 @@
-//! Seeded tables: ties, plateaus, zero scores, empty tables, extreme shades. Seeded queries, weighted and not.
+//! Seeded tables: ties, plateaus, withdrawn rows, empty tables, extreme shades. Seeded queries, weighted and not. Sessions
+//! over withdrawn rows by hand.
 use furzeladle::{Asked, FieldWeight, Query, TrimWeight};
 
 /// A small generator, always the same numbers from the same seed.
@@ -42,7 +43,7 @@ pub struct Spread {
 impl Spread {
     pub fn of(dice: &mut Dice) -> Spread {
         Spread {
-            top: dice.pick(&[0, 1, 3, 20, 400, 9_999]),
+            top: dice.pick(&[1, 1, 3, 20, 400, 9_999]),
             step: dice.pick(&[1, 2, 5, 60]),
             plateau: dice.one_in(3),
             shades: dice.pick(&[0, 1, 4, 12, 60]),
@@ -58,7 +59,7 @@ impl Spread {
     }
 }
 
-/// A legal table.
+/// A legal table of live rows.
 pub fn table(dice: &mut Dice, rows: u32, spread: Spread) -> Vec<i32> {
     let mut score = spread.top;
     let mut t = Vec::new();
@@ -66,7 +67,7 @@ pub fn table(dice: &mut Dice, rows: u32, spread: Spread) -> Vec<i32> {
         if i > 0 && !(spread.plateau && i > 2) {
             score -= dice.below(spread.step + 1) as i32;
         }
-        score = score.max(0);
+        score = score.max(1);
         let pattern = dice.pick(&[1, 999_999, dice_pattern(i)]);
         let (a, b) = (spread.shade(dice), spread.shade(dice));
         t.extend([pattern, score, a, b]);
@@ -77,6 +78,84 @@ pub fn table(dice: &mut Dice, rows: u32, spread: Spread) -> Vec<i32> {
 fn dice_pattern(i: u32) -> i32 {
     i as i32 % 999_999 + 1
 }
+
+/// Often withdraws rows of a table: all, all but the first, the last ones.
+pub fn withdraw(dice: &mut Dice, t: &mut [i32]) {
+    let rows = t.len() as u32 / 4;
+    let live = match dice.below(16) {
+        0 => 0,
+        1 => 1,
+        2 | 3 => dice.below(rows + 1),
+        4 | 5 => rows.saturating_sub(1 + dice.below(3)),
+        _ => return,
+    };
+    t.chunks_mut(4).skip(live as usize).for_each(|row| row[1] = 0);
+}
+
+/// A table of these scores in one shade.
+pub fn scored(scores: &[i32]) -> Vec<i32> {
+    (1..).zip(scores).flat_map(|(i, &score)| [i, score, 0, 0]).collect()
+}
+
+/// A session over two tables of these scores in one shade, read until settled and taken until finished.
+pub struct ByHand {
+    pub field: &'static [i32],
+    pub trim: &'static [i32],
+    pub k: u32,
+    pub block: u32,
+    pub sums: &'static [u32],
+    pub depths: (u32, u32),
+    pub joined: u64,
+}
+
+impl ByHand {
+    pub fn query(&self) -> Query {
+        Query { k: self.k, block: self.block, radius: 0 }
+    }
+}
+
+type Scores = (&'static [i32], &'static [i32]);
+
+const fn by_hand(
+    (field, trim): Scores,
+    (k, block): (u32, u32),
+    sums: &'static [u32],
+    depths: (u32, u32),
+    joined: u64,
+) -> ByHand {
+    ByHand { field, trim, k, block, sums, depths, joined }
+}
+
+pub const WITHDRAWN: [ByHand; 20] = [
+    // a first field row, and no trim is read; without trim rows nothing is
+    by_hand((&[0], &[7, 6]), (1, 1), &[], (1, 0), 0),
+    by_hand((&[0, 0, 0], &[7, 6]), (2, 2), &[], (2, 0), 0),
+    by_hand((&[0, 0, 0], &[0, 0, 0]), (2, 2), &[], (2, 0), 0),
+    by_hand((&[0, 0, 0], &[0, 0, 0]), (64, 1_024), &[], (3, 0), 0),
+    by_hand((&[0, 0], &[]), (2, 1), &[], (0, 0), 0),
+    by_hand((&[], &[0, 0]), (2, 1), &[], (0, 0), 0),
+    // a first trim row: its block is joined
+    by_hand((&[9, 8, 7], &[0, 0, 0]), (2, 2), &[], (2, 2), 1),
+    by_hand((&[9], &[0]), (1, 1), &[], (1, 1), 1),
+    // in the middle of a block, the rest of which counts in the depth
+    by_hand((&[9, 8, 0, 0, 0], &[7, 0, 0, 0]), (4, 3), &[16, 15], (3, 3), 1),
+    by_hand((&[9, 8, 0, 0, 0], &[7, 6, 5]), (4, 3), &[16, 15, 15, 14], (3, 3), 1),
+    by_hand((&[9, 8, 7, 0, 0], &[2, 1, 0]), (64, 2), &[11, 10, 10, 9, 9, 8], (4, 3), 4),
+    // a second block that begins with one: joined while the list has room, skipped when it is full
+    by_hand((&[9, 8, 0, 0], &[7, 6, 5]), (64, 2), &[16, 15, 15, 14, 14, 13], (4, 3), 4),
+    by_hand((&[9, 8, 0, 0], &[7, 6, 5]), (4, 2), &[16, 15, 15, 14], (4, 3), 2),
+    // the other table goes on alone
+    by_hand((&[9, 0, 0, 0], &[7, 6, 5, 4]), (64, 1), &[16, 15, 14, 13], (2, 4), 8),
+    by_hand((&[9, 8, 7, 6], &[7, 0, 0, 0]), (64, 1), &[16, 15, 14, 13], (4, 2), 8),
+    // also where the table that is read out has dropped less
+    by_hand((&[2, 0, 0, 0], &[9, 5, 4, 3]), (64, 1), &[11, 7, 6, 5], (2, 4), 8),
+    by_hand((&[9, 5, 4, 3], &[2, 0, 0, 0]), (64, 1), &[11, 7, 6, 5], (4, 2), 8),
+    // the ceiling has no part of a table that is read out: it is 4 at the end, not 9
+    by_hand((&[3, 0, 0], &[9, 1, 1, 1]), (2, 1), &[12, 4], (2, 2), 3),
+    by_hand((&[9, 1, 1, 1], &[3, 0, 0]), (2, 1), &[12, 4], (2, 2), 3),
+    // the list is full before a withdrawn row is read
+    by_hand((&[9, 0, 0], &[7, 0, 0]), (1, 1), &[16], (1, 1), 1),
+];
 
 /// A query in range, small numbers being likelier.
 pub fn query(dice: &mut Dice) -> Query {

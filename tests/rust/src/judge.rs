@@ -1,5 +1,5 @@
 //! What demand 3 asks of a whole session, judged by the plain double loop over both tables.
-use crate::model::qualifies;
+use crate::model::{near, withdrawn};
 use furzeladle::{Asked, Pair};
 use std::collections::HashSet;
 
@@ -7,6 +7,7 @@ use std::collections::HashSet;
 #[derive(Clone, Copy, Debug, PartialEq, Eq, Hash)]
 pub enum Fault {
     NoSuchRow,
+    Withdrawn,
     FarApart,
     WrongSum,
     Repeated,
@@ -39,12 +40,17 @@ impl Tables<'_> {
         self.asked.field_weight.0 * field as u32 + self.asked.trim_weight.0 * trim as u32
     }
 
+    /// The live ones of the first n rows, with their places.
+    fn live(t: &[i32], n: usize) -> impl Iterator<Item = (usize, &[i32])> {
+        Self::rows(t).take(n).enumerate().filter(|(_, row)| !withdrawn(row))
+    }
+
     /// All qualifying pairs of the first p field rows and q trim rows, highest sum first.
     pub fn pairs(&self, p: usize, q: usize) -> Vec<Pair> {
         let mut all = Vec::new();
-        for (i, x) in Self::rows(self.field).take(p).enumerate() {
-            for (j, y) in Self::rows(self.trim).take(q).enumerate() {
-                if qualifies(self.asked.query.radius, x, y) {
+        for (i, x) in Self::live(self.field, p) {
+            for (j, y) in Self::live(self.trim, q) {
+                if near(self.asked.query.radius, x, y) {
                     let sum = self.sum(x[1], y[1]);
                     all.push(Pair { sum, field: i as u32 + 1, trim: j as u32 + 1 });
                 }
@@ -58,18 +64,29 @@ impl Tables<'_> {
         (self.field.len() / 4, self.trim.len() / 4)
     }
 
+    /// Whether n rows show where a table ends: the last one, or a withdrawn one, is among them.
+    fn ends_within(t: &[i32], n: usize) -> bool {
+        n == t.len() / 4 || Self::rows(t).take(n).any(withdrawn)
+    }
+
+    /// Whether n rows show that a table has no live ones: it has none at all, or the first is among them and withdrawn.
+    fn is_empty_by(t: &[i32], n: usize) -> bool {
+        t.is_empty() || Self::rows(t).take(n.min(1)).any(withdrawn)
+    }
+
     /// Whether reading (p, q) is sure of k, by the closed form.
     pub fn sure(&self, p: usize, q: usize) -> bool {
-        let (m, n) = self.counts();
-        if m == 0 || n == 0 || (p == m && q == n) {
+        let (field_ends, trim_ends) = (Self::ends_within(self.field, p), Self::ends_within(self.trim, q));
+        let is_empty = Self::is_empty_by(self.field, p) || Self::is_empty_by(self.trim, q);
+        if is_empty || (field_ends && trim_ends) {
             return true;
         }
         if p == 0 || q == 0 {
             return false;
         }
         let unread = |i: usize, j: usize| self.sum(self.field[4 * i + 1], self.trim[4 * j + 1]);
-        let trim_part = if q < n { unread(0, q - 1) } else { 0 };
-        let field_part = if p < m { unread(p - 1, 0) } else { 0 };
+        let trim_part = if trim_ends { 0 } else { unread(0, q - 1) };
+        let field_part = if field_ends { 0 } else { unread(p - 1, 0) };
         let ceiling = trim_part.max(field_part);
         let secured = self.pairs(p, q).iter().filter(|pair| pair.sum >= ceiling).count();
         secured >= self.asked.query.k as usize
@@ -97,7 +114,10 @@ impl Tables<'_> {
                 return Some(Fault::NoSuchRow);
             }
             let (x, y) = (&self.field[4 * i - 4..4 * i], &self.trim[4 * j - 4..4 * j]);
-            if !qualifies(self.asked.query.radius, x, y) {
+            if withdrawn(x) || withdrawn(y) {
+                return Some(Fault::Withdrawn);
+            }
+            if !near(self.asked.query.radius, x, y) {
                 return Some(Fault::FarApart);
             }
             if pair.sum != self.sum(x[1], y[1]) {

@@ -74,12 +74,20 @@ impl Record {
         self.places[..pairs.len()].copy_from_slice(pairs);
     }
 
-    fn read_out(&self, table: usize) -> bool {
-        self.depth[table] == self.rows[table]
+    /// All its rows are read, or a withdrawn one is: scores fall, so that the last row read tells.
+    fn read_out(&self, tables: [&[i32]; 2], table: usize) -> bool {
+        let depth = self.depth[table];
+        depth == self.rows[table] || (depth > 0 && withdrawn(row(tables[table], depth)))
     }
 
-    fn has_empty_table(&self) -> bool {
-        self.rows.contains(&0)
+    fn both_read_out(&self, tables: [&[i32]; 2]) -> bool {
+        self.read_out(tables, 0) && self.read_out(tables, 1)
+    }
+
+    /// A table without rows, or one whose first row is read and withdrawn.
+    fn has_empty_table(&self, tables: [&[i32]; 2]) -> bool {
+        let is_empty = |i: usize| self.rows[i] == 0 || (self.depth[i] > 0 && withdrawn(row(tables[i], 1)));
+        is_empty(0) || is_empty(1)
     }
 
     /// What row i of a table adds to a sum.
@@ -97,9 +105,18 @@ fn score(t: &[i32], i: u32) -> u32 {
     row(t, i)[1] as u32
 }
 
-pub fn qualifies(radius: u32, x: &[i32], y: &[i32]) -> bool {
+/// A score of 0: no pair with the row qualifies.
+pub fn withdrawn(r: &[i32]) -> bool {
+    r[1] == 0
+}
+
+pub fn near(radius: u32, x: &[i32], y: &[i32]) -> bool {
     let (da, db) = (i64::from(x[2]) - i64::from(y[2]), i64::from(x[3]) - i64::from(y[3]));
     da * da + db * db <= i64::from(radius) * i64::from(radius)
+}
+
+fn qualifies(radius: u32, x: &[i32], y: &[i32]) -> bool {
+    !withdrawn(x) && !withdrawn(y) && near(radius, x, y)
 }
 
 /// Higher sum, then lower field row, then lower trim row.
@@ -204,24 +221,24 @@ fn call_refused(tables: [&[i32]; 2], r: &Record) -> u32 {
     rows_refused(tables[1], 0, r.depth[1])
 }
 
-/// The ceiling; none where neither table has unread rows.
+/// The ceiling; none where both tables are read out.
 fn ceiling(tables: [&[i32]; 2], r: &Record) -> Option<u32> {
     let part = |table: usize| {
-        (!r.read_out(table)).then(|| r.worth(tables, 1 - table, 1) + r.worth(tables, table, r.depth[table]))
+        (!r.read_out(tables, table)).then(|| r.worth(tables, 1 - table, 1) + r.worth(tables, table, r.depth[table]))
     };
     part(0).max(part(1))
 }
 
 fn secured(tables: [&[i32]; 2], r: &Record, p: &Pair) -> bool {
-    if r.depth.contains(&0) && !r.has_empty_table() {
+    if r.depth.contains(&0) && !r.has_empty_table(tables) {
         return false;
     }
     ceiling(tables, r).is_none_or(|c| p.sum >= c)
 }
 
 fn settled(tables: [&[i32]; 2], r: &Record) -> bool {
-    r.has_empty_table()
-        || (r.read_out(0) && r.read_out(1))
+    r.has_empty_table(tables)
+        || r.both_read_out(tables)
         || r.out == r.query.k
         || (r.out + r.held == r.query.k && r.pairs().iter().all(|p| secured(tables, r, p)))
 }
@@ -233,10 +250,10 @@ fn next_table(tables: [&[i32]; 2], r: &Record) -> usize {
     if r.depth[1] == 0 {
         return 1;
     }
-    if r.read_out(1) {
+    if r.read_out(tables, 1) {
         return 0;
     }
-    if r.read_out(0) {
+    if r.read_out(tables, 0) {
         return 1;
     }
     let fall = |t: usize| r.worth(tables, t, 1) - r.worth(tables, t, r.depth[t]);
@@ -324,7 +341,7 @@ pub fn take(f: &[i32], t: &[i32], r: &mut Record) -> Said {
         r.out += 1;
         return Said::Given(given);
     }
-    let ended = r.out == r.query.k || r.has_empty_table() || (r.read_out(0) && r.read_out(1) && r.held == 0);
+    let ended = r.out == r.query.k || r.has_empty_table(tables) || (r.both_read_out(tables) && r.held == 0);
     if ended {
         Said::Finished
     } else {

@@ -1,6 +1,6 @@
 //! The session beside the model of the rules and the plain double loop, over seeded tables and random calls.
 use furzeladle::{Asked, FieldWeight, Pair, Progress, Query, Refusal, Session, Table, Taken, TrimWeight, RECORD_SIZE};
-use furzeladle_tests::cases::{asked, table, tie_by_weights, Dice, Spread};
+use furzeladle_tests::cases::{asked, scored, table, tie_by_weights, withdraw, Dice, Spread, WITHDRAWN};
 use furzeladle_tests::judge::{self, Fault, Tables};
 use furzeladle_tests::lent;
 use furzeladle_tests::model::{self, Record, Said};
@@ -68,6 +68,8 @@ struct Totals {
     unharmed: u32,
     at_limit: u32,
     deeper_than_sure: u32,
+    withdrawn_read: u32,
+    ended_by_withdrawn: u32,
 }
 
 impl Totals {
@@ -86,6 +88,16 @@ impl Totals {
         self.ties += tied.clone().count() as u32;
         self.ties_by_weights += tied.filter(|w| scores(&w[0]) != scores(&w[1])).count() as u32;
         self.largest_sums += given.iter().filter(|p| p.sum == 179_982).count() as u32;
+    }
+
+    /// Sessions that read a withdrawn row, and those that finished short of k because of one, rows being unread.
+    fn count_withdrawn(&mut self, tables: &Tables, result: &judge::Session) {
+        let (depths, (m, n)) = (result.depth, tables.counts());
+        let read = |t: &[i32], depth: u32| t.chunks(4).take(depth as usize).any(model::withdrawn);
+        let some_read = read(tables.field, depths.0) || read(tables.trim, depths.1);
+        let short = result.finished && result.given.len() < tables.asked.query.k as usize;
+        self.withdrawn_read += u32::from(some_read);
+        self.ended_by_withdrawn += u32::from(some_read && short && depths != (m as u32, n as u32));
     }
 }
 
@@ -205,6 +217,8 @@ fn sessions_beside_the_double_loop() {
         if dice.one_in(4) {
             tie_by_weights(asked, &mut field, &mut trim);
         }
+        withdraw(&mut dice, &mut field);
+        withdraw(&mut dice, &mut trim);
         let tables = Tables { asked, field: &field, trim: &trim };
         let orders = [Order::TakeAfterEachRead, Order::ReadsThenTakes, Order::TakesWhilePossible, Order::Random];
         let result = play(&mut dice, &tables, orders[seed as usize % 4], &mut totals);
@@ -212,6 +226,7 @@ fn sessions_beside_the_double_loop() {
         let limit = tables.limit(sure);
         assert_eq!(tables.judge(&result, limit), None, "seed {seed}");
         totals.count_pairs(&tables, &result.given);
+        totals.count_withdrawn(&tables, &result);
         let deepest = result.depth.0.max(result.depth.1);
         totals.at_limit += u32::from(deepest == limit && tables.asked.query.block > 1);
         totals.deeper_than_sure += u32::from(deepest > sure as u32);
@@ -222,6 +237,7 @@ fn sessions_beside_the_double_loop() {
     }
     assert!(totals.ties > 100_000 && totals.unharmed > 10_000 && totals.at_limit > 2_000);
     assert!(totals.ties_by_weights > 1_000 && totals.largest_sums > 1_000);
+    assert!(totals.withdrawn_read > 20_000 && totals.ended_by_withdrawn > 10_000);
 }
 
 #[test]
@@ -322,7 +338,7 @@ fn tiny_tables_against_every_sure_reading() {
     let (mut readings, mut sure_ones, mut exact) = (0, 0, 0);
     for seed in 0..TINY {
         let mut dice = Dice::new(seed + 1_000_001);
-        let top = dice.between(0, 2);
+        let top = dice.between(1, 2);
         let shades = [0, 7];
         let spread = Spread { top, step: 1, plateau: dice.one_in(3), shades: 0, extreme: false };
         let make = |dice: &mut Dice| {
@@ -331,6 +347,7 @@ fn tiny_tables_against_every_sure_reading() {
             for row in t.chunks_mut(4) {
                 row[2] = dice.pick(&shades);
             }
+            withdraw(dice, &mut t);
             t
         };
         let (field, trim) = (make(&mut dice), make(&mut dice));
@@ -390,6 +407,13 @@ fn the_judge_reports_wrong_sessions() {
     for (session, wanted) in wrong {
         assert_eq!(fault(session), Some(wanted));
     }
+    let mut shorter = trim;
+    shorter[5] = 0;
+    shorter[9] = 0;
+    let withdrawn = Tables { trim: &shorter, ..tables };
+    assert_eq!(withdrawn.judge(&session(&right[..2], true, (2, 2)), 3), None);
+    assert_eq!(withdrawn.judge(&session(&right, true, (2, 2)), 3), Some(Fault::Withdrawn));
+    assert_eq!(withdrawn.judge(&session(&right[..1], true, (2, 2)), 3), Some(Fault::FinishedEarly));
     let tables = Tables { asked: query.weights(FieldWeight(1), TrimWeight(3)), ..tables };
     let weighted = [pair(30, 1, 1), pair(29, 2, 1), pair(24, 1, 2)];
     assert_eq!(tables.judge(&session(&weighted, true, (2, 3)), 3), None);
@@ -536,4 +560,184 @@ fn openings_by_fewer_numbers() {
     for numbers in [&[2, 1, 5, 0][..], &[2, 1, 5, 10], &[2, 1, 5, 1, 0], &[2, 1, 5, 1, 10]] {
         assert_eq!(opened(numbers), (-12, [7; RECORD_SIZE]));
     }
+}
+
+/// A query over rows in one shade.
+fn over(k: u32, block: u32) -> Query {
+    Query { k, block, radius: 0 }
+}
+
+#[test]
+fn withdrawn_rows_by_hand() {
+    for (i, case) in WITHDRAWN.iter().enumerate() {
+        let (f, t) = (scored(case.field), scored(case.trim));
+        let (_, mut record) = model::open(case.query(), &f, &t);
+        let mut s = Session::open(case.query(), &f, &t).unwrap();
+        while call(true, &f, &t, &mut s, &mut record) == Said::Read {}
+        let mut sums = Vec::new();
+        while let Said::Given(pair) = call(false, &f, &t, &mut s, &mut record) {
+            sums.push(pair.sum);
+        }
+        assert_eq!((sums.as_slice(), s.depths(), s.joined()), (case.sums, case.depths, case.joined), "case {i}");
+        assert_eq!(s.take(&f, &t), Ok(Taken::Finished), "case {i}");
+    }
+}
+
+/// Straight after opening a field table that begins with 0 is not empty yet: one block is read, and no trim.
+#[test]
+fn a_withdrawn_first_field_row() {
+    let (f, t) = (scored(&[0, 0, 0]), scored(&[7, 6]));
+    let mut s = Session::open(over(2, 2), &f, &t).unwrap();
+    assert_eq!(s.take(&f, &t), Ok(Taken::NotYet));
+    assert_eq!(s.read(&f, &t), Ok(Progress::Read));
+    assert_eq!((s.depths(), s.joined()), ((2, 0), 0));
+    assert_eq!(s.show(&f, &t), Some((Table::Field, 1, &f[..8])));
+    assert_eq!(s.read(&f, &t), Ok(Progress::Settled));
+    assert_eq!(s.take(&f, &t), Ok(Taken::Finished));
+    let mut s = Session::open(over(2, 2), &f, &[]).unwrap();
+    assert_eq!(s.take(&f, &[]), Ok(Taken::Finished));
+    assert_eq!(s.read(&f, &[]), Ok(Progress::Settled));
+}
+
+/// A reading may be sure because of a withdrawn row, if it contains it.
+#[test]
+fn sure_readings_by_hand() {
+    let sure = |field: &[i32], trim: &[i32], p, q| {
+        let (field, trim) = (scored(field), scored(trim));
+        Tables { asked: over(2, 1).into(), field: &field, trim: &trim }.sure(p, q)
+    };
+    let (gone, live) = ([0, 0], [7, 6]);
+    assert!(!sure(&gone, &live, 0, 0) && sure(&gone, &live, 1, 0) && !sure(&gone, &live, 0, 1));
+    assert!(!sure(&live, &gone, 0, 0) && sure(&live, &gone, 0, 1) && !sure(&live, &gone, 2, 0));
+    assert!(!sure(&gone, &gone, 0, 0) && sure(&gone, &gone, 1, 0) && sure(&gone, &gone, 0, 1));
+    assert!(sure(&gone, &[], 0, 0) && sure(&[], &live, 0, 0));
+    let ends = [9, 0, 0];
+    assert!(!sure(&ends, &ends, 1, 1) && !sure(&ends, &ends, 2, 1) && sure(&ends, &ends, 2, 2));
+    assert!(!sure(&ends, &live, 1, 2) && sure(&ends, &live, 2, 2) && !sure(&ends, &[7, 6, 6], 2, 1));
+}
+
+/// The rows behind a withdrawn one are checked with their block, those of later blocks are not.
+#[test]
+fn rows_behind_a_withdrawn_one() {
+    let mut f = scored(&[9, 0, 0, 0]);
+    let t = scored(&[7]);
+    for (place, number, wanted) in [(9, 1, 7), (10, 12_701, 6), (8, 0, 6)] {
+        let right = std::mem::replace(&mut f[place], number);
+        let refused = Err(Refusal { number: wanted, row: 0 });
+        assert_eq!(Session::open(over(2, 3), &f, &t).unwrap().read(&f, &t), refused);
+        let mut s = Session::open(over(2, 2), &f, &t).unwrap();
+        while s.read(&f, &t).unwrap() == Progress::Read {}
+        assert_eq!(s.depths(), (2, 1));
+        f[place] = right;
+    }
+}
+
+/// A record that no session made: rows of both tables read, these pairs held.
+fn forged(query: Query, f: &[i32], t: &[i32], depth: [u32; 2], held: &[Pair]) -> Record {
+    let (_, mut record) = model::open(query, f, t);
+    record.depth = depth;
+    record.last = 1;
+    record.held = held.len() as u32;
+    record.places[..held.len()].copy_from_slice(held);
+    record
+}
+
+/// What calls of a record answer, reads being true, and the pairs held after them; the model answers the same.
+fn answers(record: &Record, f: &[i32], t: &[i32], calls: &[bool]) -> (Vec<Said>, u32) {
+    let mut record = record.clone();
+    let mut session = Session::from_record(record.flat().try_into().unwrap());
+    let said = calls.iter().map(|&is_read| call(is_read, f, t, &mut session, &mut record)).collect();
+    (said, record.held)
+}
+
+/// Held pairs are believed: over a table that counts as empty a secured one comes out before the session is finished. A
+/// table that is read out has no part in the ceiling, so that here it is 0 + 7, and 7 + 0.
+#[test]
+fn held_pairs_over_a_table_that_counts_as_empty() {
+    let (gone, live) = (scored(&[0, 0]), scored(&[7, 5]));
+    let pair = |sum| Pair { sum, field: 1, trim: 1 };
+    let (read, take) = (true, false);
+    for (f, t) in [(&gone, &live), (&live, &gone)] {
+        let held = |pairs: &[Pair]| forged(over(3, 1), f, t, [1, 1], pairs);
+        let secured = answers(&held(&[pair(7)]), f, t, &[read, take, read, take]);
+        assert_eq!(secured, (vec![Said::Settled, Said::Given(pair(7)), Said::Settled, Said::Finished], 0));
+        let unsecured = answers(&held(&[pair(6)]), f, t, &[read, take]);
+        assert_eq!(unsecured, (vec![Said::Settled, Said::Finished], 1));
+        let both = answers(&held(&[pair(8), pair(6), pair(0)]), f, t, &[take, take, read]);
+        assert_eq!(both, (vec![Said::Given(pair(8)), Said::Finished, Said::Settled], 2));
+    }
+    let both_read_out = forged(over(3, 1), &gone, &gone, [1, 1], &[pair(1), pair(0)]);
+    let given = vec![Said::Settled, Said::Given(pair(1)), Said::Given(pair(0)), Said::Finished];
+    assert_eq!(answers(&both_read_out, &gone, &gone, &[read, take, take, take]), (given, 0));
+}
+
+/// A depth below a withdrawn row, which no session reaches by blocks of one row, is believed: the table is read out.
+#[test]
+fn a_forged_depth_beyond_a_withdrawn_row() {
+    let (f, t) = (scored(&[9, 0, 0, 0]), scored(&[7, 6, 0, 0]));
+    let pair = Pair { sum: 15, field: 1, trim: 2 };
+    let (read, take) = (true, false);
+    let field_beyond = forged(over(2, 1), &f, &t, [3, 1], &[]);
+    let said = answers(&field_beyond, &f, &t, &[take, read, take, read, read, take]);
+    let wanted = vec![Said::NotYet, Said::Read, Said::Given(pair), Said::Read, Said::Settled, Said::Finished];
+    assert_eq!(said, (wanted, 0));
+    let both_beyond = forged(over(2, 1), &f, &t, [4, 3], &[pair]);
+    let said = answers(&both_beyond, &f, &t, &[read, take, take]);
+    assert_eq!(said, (vec![Said::Settled, Said::Given(pair), Said::Finished], 0));
+    let mut disordered = f.clone();
+    disordered[9] = 1;
+    let said = answers(&field_beyond, &disordered, &t, &[read, take]);
+    assert_eq!(said, (vec![Said::Refused(7); 2], 0));
+}
+
+/// A depth that a record may have: some blocks, or all rows.
+fn some_depth(dice: &mut Dice, block: u32, t: &[i32]) -> u32 {
+    let rows = t.len() as u32 / 4;
+    (block * dice.below(rows / block + 2)).min(rows)
+}
+
+/// Pairs of rows read, in rank; their sums are anything up to a little above the first rows' sum.
+fn some_held(dice: &mut Dice, most: u32, depth: [u32; 2], highest: u32) -> Vec<Pair> {
+    if depth.contains(&0) {
+        return Vec::new();
+    }
+    let some = |dice: &mut Dice| Pair {
+        sum: dice.below(highest + 3),
+        field: 1 + dice.below(depth[0]),
+        trim: 1 + dice.below(depth[1]),
+    };
+    let mut held: Vec<Pair> = (0..dice.below(most + 1)).map(|_| some(dice)).collect();
+    held.sort_by_key(model::rank);
+    held.dedup();
+    held
+}
+
+#[test]
+fn forged_records_over_withdrawn_rows() {
+    let (mut given, mut finished_holding, mut read) = (0, 0, 0);
+    for seed in 0..40_000 {
+        let mut dice = Dice::new(seed + 4_000_001);
+        let spread = Spread { top: 9, step: 1, plateau: false, shades: 1, extreme: false };
+        let [f, t] = [(); 2].map(|()| {
+            let rows = 1 + dice.below(8);
+            let mut t = table(&mut dice, rows, spread);
+            withdraw(&mut dice, &mut t);
+            t
+        });
+        let query = Query { k: 1 + dice.below(4), block: 1 + dice.below(3), radius: 1 };
+        let depth = [&f, &t].map(|t| some_depth(&mut dice, query.block, t));
+        let held = some_held(&mut dice, query.k, depth, (f[1] + t[1]) as u32);
+        let mut record = forged(query, &f, &t, depth, &held);
+        record.out = dice.below(query.k - record.held + 1);
+        record.last = u32::from(depth != [0, 0]) + u32::from(depth[0] == 0 && depth[1] > 0);
+        let empty = (depth[0] > 0 && f[1] == 0) || (depth[1] > 0 && t[1] == 0);
+        let (said, left) = answers(&record, &f, &t, &[true, false, false]);
+        assert!(!matches!(said[0], Said::Refused(_)), "seed {seed}");
+        assert!(!empty || said[0] == Said::Settled, "seed {seed}");
+        given += u32::from(empty && matches!(said[1], Said::Given(_)));
+        finished_holding += u32::from(empty && said[1] == Said::Finished && left > 0);
+        read += u32::from(said[0] == Said::Read);
+    }
+    println!("forged: {given} given over an empty table, {finished_holding} finished holding pairs, {read} read on");
+    assert!(given > 1_000 && finished_holding > 400 && read > 10_000);
 }

@@ -1,6 +1,6 @@
 //! The whole query beside the model: its list, depths and joined count, its refusals, and the listing's lines.
 use furzeladle::{list, listing, Asked, FieldWeight, List, Listed, Query, Refusal, TrimWeight};
-use furzeladle_tests::cases::{asked, query, table, Dice, Spread};
+use furzeladle_tests::cases::{asked, query, scored, table, withdraw, Dice, Spread, WITHDRAWN};
 use furzeladle_tests::lent::answers;
 use furzeladle_tests::model::{self, Said};
 
@@ -73,7 +73,9 @@ fn whole_queries_beside_the_model() {
         let mut dice = Dice::new(seed + 2_000_001);
         let (spread, longest) = (Spread::of(&mut dice), dice.pick(&[2, 12, 60]));
         let (m, n) = (dice.below(longest), dice.below(longest));
-        let (mut f, t) = (table(&mut dice, m, spread), table(&mut dice, n, spread));
+        let (mut f, mut t) = (table(&mut dice, m, spread), table(&mut dice, n, spread));
+        withdraw(&mut dice, &mut f);
+        withdraw(&mut dice, &mut t);
         let mut asked = asked(&mut dice);
         damage(&mut dice, &mut asked, &mut f);
         let found = list(asked, &f, &t).map_err(|refusal| refusal.number);
@@ -95,6 +97,24 @@ fn whole_queries_beside_the_model() {
     assert!(pairs > 20_000 && [1, 2, 3, 4, 6, 7, 12].iter().all(|n| refused[*n] > 100));
 }
 
+#[test]
+fn withdrawn_rows_by_hand() {
+    for (i, case) in WITHDRAWN.iter().enumerate() {
+        let (f, t) = (scored(case.field), scored(case.trim));
+        let found = list(case.query(), &f, &t).unwrap();
+        let sums: Vec<u32> = found.pairs.iter().map(|listed| listed.pair.sum).collect();
+        assert_eq!(
+            (sums.as_slice(), found.depths, found.joined),
+            (case.sums, case.depths, case.joined),
+            "case {i}"
+        );
+        let text = String::from_utf8(listing(case.query(), &f, &t).unwrap()).unwrap();
+        let (p, q) = case.depths;
+        let last = format!("\n{p:>6}{q:>6}{:>12}\n", case.joined);
+        assert!(text.ends_with(&last), "case {i}: {text}");
+    }
+}
+
 /// Who lends k, block and radius alone gets what weights 1 and 1 get; who lends one weight, what it and 1 get.
 #[test]
 fn weights_that_are_not_lent() {
@@ -102,7 +122,9 @@ fn weights_that_are_not_lent() {
         let mut dice = Dice::new(seed + 3_000_001);
         let (spread, longest) = (Spread::of(&mut dice), dice.pick(&[2, 12, 40]));
         let (m, n) = (dice.below(longest), dice.below(longest));
-        let (f, t) = (table(&mut dice, m, spread), table(&mut dice, n, spread));
+        let (mut f, mut t) = (table(&mut dice, m, spread), table(&mut dice, n, spread));
+        withdraw(&mut dice, &mut f);
+        withdraw(&mut dice, &mut t);
         let Query { k, block, radius } = query(&mut dice);
         let w = dice.below(11);
         let three = answers(&[k, block, radius], &f, &t);

@@ -1,5 +1,5 @@
--- `join` meets its contract: the pairs held are those of all pairs of rows passed so far, and pair by pair is all at
--- once. Assumes nothing.
+-- `join` meets its contract: the pairs held are those of all pairs of rows passed so far, pair by pair is all at once,
+-- and withdrawn rows qualify with none. Assumes nothing.
 use mathlib.Core.Path.{_≡_, refl, sym, ap, subst, _∙_}
 use mathlib.Core.Logic.{⊎-elim}
 use Prim.Native.Nat.{ℕ, _+_, _*_, _-_, _%_, _≤_, _<_, _/_}
@@ -12,6 +12,7 @@ use borrow.Author.Tests.{not-false, eqb-true}
 use Rattle.lists.specs.Bools.{and-out}
 use Rattle.rules.specs.Tables.{terms}
 use Rattle.block.specs.Block.{at}
+use Rattle.block.specs.Live.{none-beyond-first, none-beyond-second}
 use Rattle.block.specs.Small.{rows-small}
 use Rattle.block.proofs.Turns as Turns
 use Rattle.block.proofs.join.Statement.{statement}
@@ -33,12 +34,18 @@ row-less m n i j h =
     ap (λ (k : ℕ). k * (n + 1)) (omega (arith, h)) ∙ suc-mul a (n + 1) in
     omega (arith, e)
 
+live-rows-requires : tie.Need-live-rows-requires Inv-loop μ-loop
+live-rows-requires c κs = c .pre .1 .1 .below
+
+live-rows-requires-2 : tie.Need-live-rows-requires-2 Inv-loop μ-loop
+live-rows-requires-2 c κs = c .before .pre .1 .2 .below
+
 add-last : tie.Need-add-last Inv-loop μ-loop
 add-last c = omega arith
 
 loop-holds : tie.Need-loop-holds Inv-loop μ-loop
 loop-holds c =
-    let s = c .before in (
+    let s = c .before .before .before in (
       omega arith,
       omega arith,
       λ _. refl,
@@ -50,17 +57,30 @@ loop-holds c =
 
 next-near-requires : tie.Need-next-near-requires Inv-loop μ-loop
 next-near-requires c κs =
-    let s = c .before .before .before in
+    let live = c .before .before .before in
+    let s = live .before .before in
     let a = s .args in
-    (omega arith, rows-small (a .q) (a .a) (a .c) (a .x .now) (a .y .now) (s .pre .1 .0) (s .pre .1 .1) (s .pre .1 .2))
+    let turn = c .loop-test .taken in
+    let x = live .before .live-rows .ensures in (
+      (
+        omega (arith, x .upto, turn),
+        x .live _ (omega (arith, turn)),
+        live .live-rows2 .ensures,
+        c .before .loop .inv .1,
+      ),
+      rows-small (a .q) (a .a) (a .c) (a .x .now) (a .y .now) (s .pre .1 .0) (s .pre .1 .1) (s .pre .1 .2),
+    )
 
 pair-at-requires : tie.Need-pair-at-requires Inv-loop μ-loop
 pair-at-requires c κs =
-    let s = c .before .before .before .before .before in
+    let live = c .before .before .before .before .before in
+    let s = live .before .before in
     let x = s .pre .1 .1 in
     let y = s .pre .1 .2 in
-    let turn = c .before .before .loop-test .taken in
-    let h : c .before .next-near .result < length (s .args .y .now) / 4 = c .if1 .taken in (
+    let turn : c .before .before .before .loop .i < length (s .args .x .now) / 4 =
+    omega (arith, c .before .before .loop-test .taken, live .before .live-rows .ensures .upto) in
+    let h : c .before .next-near .result < length (s .args .y .now) / 4 =
+    omega (arith, c .if1 .taken, live .live-rows2 .ensures .upto) in (
       (s .pre .1 .0, x .range _ turn, y .range _ h),
       omega (arith, h, turn, x .whole, x .few, y .whole, y .few),
     )
@@ -77,7 +97,8 @@ element-copy-out-if2 c = omega arith
 put-requires : tie.Need-put-requires Inv-loop μ-loop
 put-requires c κs =
     let v = c .before .before .before .before .before .before .before .before in
-    (c .before .before .before .before .pair-at .ensures .1, v .loop .inv .3, v .before .before .pre .0 .1)
+    let s = v .before .before .before .before in
+    (c .before .before .before .before .pair-at .ensures .1, v .loop .inv .3, s .pre .0 .1)
 
 add-j : tie.Need-add-j Inv-loop μ-loop
 add-j c = omega arith
@@ -90,7 +111,8 @@ loop-less c =
 loop-again : tie.Need-loop-again Inv-loop μ-loop
 loop-again c =
     let found = c .before .before .before .before .before in
-    let s = c .before .before .before .before .before .before .before .before .before in
+    let live = c .before .before .before .before .before .before .before .before .before in
+    let s = live .before .before in
     let v = c .before .before .before .before .before .before .before .loop in
     let near = found .next-near in
     let x = at (s .args .a) (s .args .x .now) in
@@ -99,10 +121,10 @@ loop-again c =
     let a = s .args .keys .now in
     let p = c .before .before .before .pair-at in
     let key = c .before .before .key in
-    let h : near .result < length (s .args .y .now) / 4 = c .before .before .before .before .if1 .taken in
-    let turn : v .i < length (s .args .x .now) / 4 = found .before .loop-test .taken in
+    let h : near .result < live .live-rows2 .result = c .before .before .before .before .if1 .taken in
+    let turn : v .i < live .before .live-rows .result = found .before .loop-test .taken in
     let here =
-    Turns.skipped (terms (s .args .q)) (s .args .room) x y n a (v .i) (v .g) (v .keys) (v .j) (near .result)
+    Turns.skipped (terms (s .args .q)) (s .args .room) x y n a (v .i) (v .g) (v .keys) _ (v .j) (near .result)
     (near .ensures) (v .inv .5) in
     let Met = Turns.Met (terms (s .args .q)) (s .args .room) x y n a (v .i) (near .result + 1) in
     let after : (c .if2 .g ≤ s .args .room) × (length (c .if2 .keys) ≡ 64) × Met (c .if2 .g) (c .if2 .keys) =
@@ -130,44 +152,54 @@ add-i c = omega arith
 
 loop-less-2 : tie.Need-loop-less-2 Inv-loop μ-loop
 loop-less-2 c =
-    let s = c .before .before .before .before .before .args in
+    let live = c .before .before .before .before .before in
     let v = c .before .before .before .loop in
-    row-less (length (s .x .now) / 4) (length (s .y .now) / 4) (v .i) (v .j) (c .before .before .loop-test .taken)
+    row-less (live .before .live-rows .result) (live .live-rows2 .result) (v .i) (v .j)
+    (c .before .before .loop-test .taken)
 
 loop-again-2 : tie.Need-loop-again-2 Inv-loop μ-loop
 loop-again-2 c =
-    let s = c .before .before .before .before .before in
+    let live = c .before .before .before .before .before in
+    let s = live .before .before in
     let v = c .before .before .before .loop in
     let near = c .before .next-near in
     let x = at (s .args .a) (s .args .x .now) in
     let y = at (s .args .c) (s .args .y .now) in
     let n = s .args .held in
     let a = s .args .keys .now in
-    let e : near .result ≡ length (s .args .y .now) / 4 = omega (arith, near .ensures .upto, c .if1 .left) in
-    let here = Turns.skipped (terms (s .args .q)) (s .args .room) x y n a (v .i) (v .g) (v .keys) (v .j) (near .result)
+    let last = live .live-rows2 .ensures in
+    let passed : live .live-rows2 .result ≤ near .result = omega (arith, c .if1 .left) in
+    let none = none-beyond-second (s .args .q .radius) (x .rows) (y .rows) (live .live-rows2 .result) last (v .i) in
+    let here =
+    Turns.skipped (terms (s .args .q)) (s .args .room) x y n a (v .i) (v .g) (v .keys) _ (v .j) (near .result)
     (near .ensures) (v .inv .5) in (
       omega (arith, c .before .before .loop-test .taken),
       omega arith,
       λ _. refl,
       v .inv .3,
       v .inv .4,
-      Turns.next (terms (s .args .q)) (s .args .room) x y n a (v .i) (v .g) (v .keys) (near .result) e here,
+      Turns.next (terms (s .args .q)) (s .args .room) x y n a (v .i) (v .g) (v .keys) (near .result)
+          (omega (arith, near .ensures .upto, last .upto)) (λ j h k. none j (omega (arith, h, passed)) k) here,
     )
 
 returns : tie.Need-returns Inv-loop μ-loop
 returns c =
-    let s = c .before .before .before in
+    let live = c .before .before .before in
+    let s = live .before .before in
     let v = c .before .loop in
     let x = at (s .args .a) (s .args .x .now) in
     let y = at (s .args .c) (s .args .y .now) in
     let n = s .args .held in
     let a = s .args .keys .now in
-    let e : v .i ≡ length (s .args .x .now) / 4 = omega (arith, v .inv .0, c .loop-test .left) in
+    let last = live .before .live-rows .ensures in
+    let passed : live .before .live-rows .result ≤ v .i = omega (arith, c .loop-test .left) in
+    let none = none-beyond-first (s .args .q .radius) (x .rows) (y .rows) (live .before .live-rows .result) last in
     let z : v .j ≡ 0 = v .inv .2 (omega (arith, c .loop-test .left)) in
     let met =
     subst (λ (j : ℕ). Turns.Met (terms (s .args .q)) (s .args .room) x y n a (v .i) j (v .g) (v .keys)) z (v .inv .5) in
-    Turns.all-met (terms (s .args .q)) (s .args .room) x y n a (v .i) (v .g) (v .keys) e met (s .pre .0 .0) (v .inv .3)
-    (v .inv .4)
+    Turns.all-met (terms (s .args .q)) (s .args .room) x y n a (v .i) (v .g) (v .keys)
+    (omega (arith, v .inv .0, last .upto)) (λ i h k j _. none i j (omega (arith, h, passed)) k) met (s .pre .0 .0)
+    (v .inv .3) (v .inv .4)
 
 pub join-spec : {M : Type 1} → statement M
 join-spec =
@@ -175,6 +207,8 @@ join-spec =
     (tie.spec
     Inv-loop
     μ-loop
+    live-rows-requires
+    live-rows-requires-2
     add-last
     loop-holds
     next-near-requires

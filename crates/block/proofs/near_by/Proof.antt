@@ -1,14 +1,11 @@
--- `near_by` meets its contract: both tests are the rule's. Assumes nothing.
+-- `near_by` meets its contract: of rows that are not withdrawn both tests are the rule's. Assumes nothing.
+use mathlib.Core.Path.{_≡_, sym, ap₂, _∙_}
 use native.Mathlib.Omega.{arith}
 use borrow.Author.Needs.{needs}
+use Rattle.rules.specs.Tables.{row, qualifies, terms}
+use Rattle.session_laws.specs.ReadOut.{rows-qualify-in}
 use Rattle.block.proofs.near_by.Statement.{statement}
 use Rattle.block.proofs.near_by.Tie as tie
-
-near-requires : tie.Need-near-requires
-near-requires c κs = search needs
-
-returns : tie.Need-returns
-returns c = search needs
 
 shade-requires : tie.Need-shade-requires
 shade-requires c κs = search needs
@@ -16,19 +13,37 @@ shade-requires c κs = search needs
 shade-requires-2 : tie.Need-shade-requires-2
 shade-requires-2 c κs = search needs
 
+qualifies-requires : tie.Need-qualifies-requires
+qualifies-requires c κs = search needs
+
+-- the distance of the two shades is all that the rule asks
+asks : (c : tie.After-shade2)
+    → let a = c .before .before .args in
+    qualifies (a .q .radius) (c .before .shade .result) (c .shade2 .result)
+    ≡ terms (a .q) .near (row (a .x .now) (a .i)) (row (a .y .now) (a .j))
+asks c =
+    let s = c .before .before in
+    let a = s .args in
+    let live = s .pre .1 .0 in
+    ap₂ (qualifies (a .q .radius)) (c .before .shade .ensures) (c .shade2 .ensures)
+    ∙ sym (rows-qualify-in (a .q .radius) (row (a .x .now) (a .i)) (row (a .y .now) (a .j)) (live .0) (live .1))
+
+returns : tie.Need-returns
+returns c = c .qualifies .ensures ∙ asks (c .before .before)
+
 near-small-requires : tie.Need-near-small-requires
 near-small-requires c κs =
     let s = c .before .before .before in
-    let k = s .pre .1 in (
-      rw (c .before .shade .ensures) (k .first (s .args .i) (omega arith)),
-      rw (c .shade2 .ensures) (k .second (s .args .j) (omega arith)),
+    let k = s .pre .1 .1 in (
+      rw (c .before .before .shade .ensures) (k .first (s .args .i) (omega arith)),
+      rw (c .before .shade2 .ensures) (k .second (s .args .j) (omega arith)),
       k .within,
     )
 
 returns-2 : tie.Need-returns-2
-returns-2 c = cc
+returns-2 c = c .near-small .ensures ∙ asks (c .before .before)
 
 pub near-by-spec : {M : Type 1} → statement M
 near-by-spec =
     tie.close
-    (tie.spec near-requires returns shade-requires shade-requires-2 near-small-requires returns-2)
+    (tie.spec shade-requires shade-requires-2 qualifies-requires returns near-small-requires returns-2)

@@ -10,24 +10,26 @@ use Rattle.block.proofs.next_near.Statement.{statement}
 use Rattle.block.proofs.next_near.Tie as tie
 
 abbrev Inv-loop : tie.InvT-loop
-Inv-loop small q x i y j n k₀ k =
+Inv-loop small q x i y n j k₀ k =
     (j ≤ k) × (k ≤ n) × ((b : ℕ) → j ≤ b → b < k → terms q .near (row x i) (row y b) ≡ false)
 
 abbrev μ-loop : tie.MeasureT-loop
-μ-loop small q x i y j n k₀ k = n - k
+μ-loop small q x i y n j k₀ k = n - k
 
 loop-holds : tie.Need-loop-holds Inv-loop μ-loop
-loop-holds c = (omega arith, omega (arith, c .pre .0), λ b h k. absurd (omega (arith, h, k)))
+loop-holds c = (omega arith, omega (arith, c .pre .0 .3), λ b h k. absurd (omega (arith, h, k)))
 
 near-by-requires : tie.Need-near-by-requires Inv-loop μ-loop
 near-by-requires c κs =
     let s = c .before .before in
-    (omega (arith, s .pre .0, c .loop-test .taken), s .pre .1)
+    let turn = c .loop-test .taken in
+    let l = s .pre .0 .2 in
+    (omega (arith, s .pre .0 .0, turn, l .upto), ((s .pre .0 .1, l .live _ turn), s .pre .1))
 
 returns : tie.Need-returns Inv-loop μ-loop
 returns c =
     let v = c .before .before .before .loop in
-    let h : v .k < length (c .before .before .before .before .args .y .now) / 4 = c .before .before .loop-test .taken in
+    let h : v .k < c .before .before .before .before .args .n = c .before .before .loop-test .taken in
     record {
       from = v .inv .0;
       upto = omega (arith, h);
@@ -55,7 +57,7 @@ returns-2 : tie.Need-returns-2 Inv-loop μ-loop
 returns-2 c =
     let v = c .before .loop in
     let s = c .before .before .args in
-    let e : v .k ≡ length (s .y .now) / 4 = omega (arith, v .inv .1, c .loop-test .left) in
+    let e : v .k ≡ s .n = omega (arith, v .inv .1, c .loop-test .left) in
     record {
       from = omega (arith, v .inv .0);
       upto = omega arith;

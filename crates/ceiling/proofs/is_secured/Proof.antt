@@ -7,11 +7,19 @@ use borrow.Author.Needs.{needs}
 use Rattle.ceiling.proofs.is_secured.Statement.{statement}
 use Rattle.ceiling.proofs.is_secured.Tie as tie
 
+read-out-requires : tie.Need-read-out-requires
+read-out-requires c κs = c .pre .field
+
+read-out-requires-2 : tie.Need-read-out-requires-2
+read-out-requires-2 c κs = c .before .pre .trim
+
 returns : tie.Need-returns
 returns c =
     let s = c .before .before .before in
-    let out : bothReadOut (s .args .s) ≡ true = c .if1 .taken in
-    rw (read-secured (s .args .f .now) (s .args .t .now) (s .args .s) (s .args .p) (s .pre)) (simp out refl)
+    let a = s .args in
+    let out : bothReadOut (a .f .now) (a .t .now) (a .s) ≡ true =
+    simp (c .before .before .read-out .ensures, c .before .read-out2 .ensures) at (c .if1 .taken) in
+    rw (read-secured (a .f .now) (a .t .now) (a .s) (a .p) (s .pre)) (simp out refl)
 
 threshold-requires : tie.Need-threshold-requires
 threshold-requires c κs = search needs
@@ -22,9 +30,13 @@ cast-result c = search needs
 returns-2 : tie.Need-returns-2
 returns-2 c =
     let s = c .before .before .before .before .before in
-    let out : bothReadOut (s .args .s) ≡ false = c .before .before .if1 .left in
-    rw (read-secured (s .args .f .now) (s .args .t .now) (s .args .s) (s .args .p) (s .pre))
-    (simp (out, c .before .threshold .ensures) refl)
+    let a = s .args in
+    let out : bothReadOut (a .f .now) (a .t .now) (a .s) ≡ false =
+    simp (c .before .before .before .before .read-out .ensures, c .before .before .before .read-out2 .ensures) at
+    (c .before .before .if1 .left) in
+    rw (read-secured (a .f .now) (a .t .now) (a .s) (a .p) (s .pre)) (simp (out, c .before .threshold .ensures) refl)
 
 pub is-secured-spec : {M : Type 1} → statement M
-is-secured-spec = tie.close (tie.spec returns threshold-requires cast-result returns-2)
+is-secured-spec =
+    tie.close
+    (tie.spec read-out-requires read-out-requires-2 returns threshold-requires cast-result returns-2)

@@ -28,6 +28,12 @@ weighted-requires-3 c κs = search needs
 weighted-requires-4 : tie.Need-weighted-requires-4
 weighted-requires-4 c κs = search needs
 
+read-out-requires : tie.Need-read-out-requires
+read-out-requires c κs = c .before .before .before .before .pre .trim
+
+read-out-requires-2 : tie.Need-read-out-requires-2
+read-out-requires-2 c κs = c .before .before .before .before .before .pre .field
+
 add-pick : tie.Need-add-pick
 add-pick c = search needs
 
@@ -50,8 +56,10 @@ returns c =
     simp (
       c .higher .ensures,
       c .before .pick2 .ensures,
-      c .before .before .before .pick .ensures,
-      c .before .before .before .before .before .weighted4 .ensures .0,
+      c .before .before .pick .ensures,
+      c .before .before .before .read-out2 .ensures,
+      c .before .before .before .before .read-out .ensures,
+      at .weighted4 .ensures .0,
       at .before .weighted3 .ensures .0,
       at .before .before .weighted2 .ensures .0,
       at .before .before .before .weighted .ensures .0,
@@ -69,6 +77,8 @@ threshold-spec =
     sub-weighted-2
     weighted-requires-3
     weighted-requires-4
+    read-out-requires
+    read-out-requires-2
     add-pick
     pick-requires
     add-pick-2

@@ -1,9 +1,9 @@
 -- `field_next` meets its contract: the choice of the table, rule by rule. Assumes nothing.
-use mathlib.Core.Path.{refl}
-use native.Mathlib.Omega.{arith}
+use mathlib.Core.Path.{_≡_, refl, sym, _∙_}
+use mathlib.Core.Bool.{true, false, cond}
+use lib.Dec.{leb, ltb}
 use borrow.Author.Tests.{lt-ltb, le-ltb, eq-eqb, ne-eqb}
-use Rattle.rules.specs.Tables.{terms}
-use Rattle.rules.specs.Read.{scoreDrop, fieldNextBy}
+use Rattle.rules.specs.Read.{fieldNextBy, fieldNext}
 use borrow.Author.Needs.{needs}
 use Rattle.choosing.proofs.field_next.Statement.{statement}
 use Rattle.choosing.proofs.field_next.Tie as tie
@@ -16,14 +16,21 @@ returns-2 : tie.Need-returns-2
 unfolding fieldNextBy
 returns-2 c = simp (ne-eqb _ _ (c .before .if1 .left), eq-eqb _ _ (c .if2 .taken))
 
+read-out-requires : tie.Need-read-out-requires
+read-out-requires c κs = search needs
+
 returns-3 : tie.Need-returns-3
 unfolding fieldNextBy
 returns-3 c =
     simp (
       ne-eqb _ _ (c .before .before .before .if1 .left),
       ne-eqb _ _ (c .before .before .if2 .left),
-      eq-eqb _ _ (c .if3 .taken),
+      sym (c .before .read-out .ensures) ∙ c .if3 .taken,
     )
+    refl
+
+read-out-requires-2 : tie.Need-read-out-requires-2
+read-out-requires-2 c κs = search needs
 
 returns-4 : tie.Need-returns-4
 unfolding fieldNextBy
@@ -31,9 +38,10 @@ returns-4 c =
     simp (
       ne-eqb _ _ (c .before .before .before .before .before .if1 .left),
       ne-eqb _ _ (c .before .before .before .before .if2 .left),
-      ne-eqb _ _ (c .before .before .if3 .left),
-      eq-eqb _ _ (c .if4 .taken),
+      sym (c .before .before .before .read-out .ensures) ∙ c .before .before .if3 .left,
+      sym (c .before .read-out2 .ensures) ∙ c .if4 .taken,
     )
+    refl
 
 drop-of-requires : tie.Need-drop-of-requires
 drop-of-requires c κs = search needs
@@ -41,71 +49,34 @@ drop-of-requires c κs = search needs
 drop-of-requires-2 : tie.Need-drop-of-requires-2
 drop-of-requires-2 c κs = search needs
 
-returns-5 : tie.Need-returns-5
+-- rows of both tables were read, and neither is read out: the drops decide
+by-drops : (c : tie.After-drop-of2) → let x = c .before .drop-of .result in let y = c .drop-of2 .result in
+    let s = c .before .before .before .before .before .before .before .before .args in
+    fieldNext (s .f .now) (s .t .now) (s .s)
+    ≡ cond (ltb x y) true (cond (ltb y x) false (leb (s .s .depth .field .0) (s .s .depth .trim .0)))
 unfolding fieldNextBy
-returns-5 c =
-    let at = c .before .before .before .before .before in
-    let s = c .before .before .before .before .before .before .before .before .before .args in
-    let w = terms (s .s .query) in
-    let x = scoreDrop (w .field) (s .f .now) (s .s .depth .field .0) in
-    let y = scoreDrop (w .trim) (s .t .now) (s .s .depth .trim .0) in
+by-drops c =
+    let at = c .before .before in
     simp (
-      ne-eqb _ _ (at .before .before .before .if1 .left),
-      ne-eqb _ _ (at .before .before .if2 .left),
-      ne-eqb _ _ (c .before .before .before .before .before .if3 .left),
-      ne-eqb _ _ (c .before .before .before .if4 .left),
-      lt-ltb x y (omega (arith, c .before .before .drop-of .ensures, c .before .drop-of2 .ensures, c .if5 .taken)),
+      ne-eqb _ _ (at .before .before .before .before .before .if1 .left),
+      ne-eqb _ _ (at .before .before .before .before .if2 .left),
+      sym (at .before .before .before .read-out .ensures) ∙ at .before .before .if3 .left,
+      sym (at .before .read-out2 .ensures) ∙ at .if4 .left,
+      c .before .drop-of .ensures,
+      c .drop-of2 .ensures,
     )
+    refl
+
+returns-5 : tie.Need-returns-5
+returns-5 c = sym (by-drops (c .before) ∙ simp (lt-ltb _ _ (c .if5 .taken)) refl)
 
 returns-6 : tie.Need-returns-6
-unfolding fieldNextBy
 returns-6 c =
-    let at = c .before .before .before .before .before in
-    let s = c .before .before .before .before .before .before .before .before .before .before .args in
-    let w = terms (s .s .query) in
-    let x = scoreDrop (w .field) (s .f .now) (s .s .depth .field .0) in
-    let y = scoreDrop (w .trim) (s .t .now) (s .s .depth .trim .0) in
-    simp (
-      ne-eqb _ _ (at .before .before .before .before .if1 .left),
-      ne-eqb _ _ (at .before .before .before .if2 .left),
-      ne-eqb _ _ (at .before .if3 .left),
-      ne-eqb _ _ (c .before .before .before .before .if4 .left),
-      le-ltb x y
-          (omega (
-            arith,
-            c .before .before .before .drop-of .ensures,
-            c .before .before .drop-of2 .ensures,
-            c .before .if5 .left,
-          )),
-      lt-ltb y x
-          (omega
-          (arith, c .before .before .before .drop-of .ensures, c .before .before .drop-of2 .ensures, c .if6 .taken)),
-    )
+    sym (by-drops (c .before .before) ∙ simp (le-ltb _ _ (c .before .if5 .left), lt-ltb _ _ (c .if6 .taken)) refl)
 
 returns-7 : tie.Need-returns-7
-unfolding fieldNextBy
 returns-7 c =
-    let at = c .before .before .before .before .before in
-    let s = c .before .before .before .before .before .before .before .before .before .before .args in
-    let w = terms (s .s .query) in
-    let x = scoreDrop (w .field) (s .f .now) (s .s .depth .field .0) in
-    let y = scoreDrop (w .trim) (s .t .now) (s .s .depth .trim .0) in
-    simp (
-      ne-eqb _ _ (at .before .before .before .before .if1 .left),
-      ne-eqb _ _ (at .before .before .before .if2 .left),
-      ne-eqb _ _ (at .before .if3 .left),
-      ne-eqb _ _ (c .before .before .before .before .if4 .left),
-      le-ltb x y
-          (omega (
-            arith,
-            c .before .before .before .drop-of .ensures,
-            c .before .before .drop-of2 .ensures,
-            c .before .if5 .left,
-          )),
-      le-ltb y x
-          (omega
-          (arith, c .before .before .before .drop-of .ensures, c .before .before .drop-of2 .ensures, c .if6 .left)),
-    ) refl
+    sym (by-drops (c .before .before) ∙ simp (le-ltb _ _ (c .before .if5 .left), le-ltb _ _ (c .if6 .left)) refl)
 
 pub field-next-spec : {M : Type 1} → statement M
 field-next-spec =
@@ -113,7 +84,9 @@ field-next-spec =
     (tie.spec
     returns
     returns-2
+    read-out-requires
     returns-3
+    read-out-requires-2
     returns-4
     drop-of-requires
     drop-of-requires-2

@@ -1,11 +1,11 @@
 -- `is_settled` meets its contract: of ranked pairs the last decides. Assumes nothing.
 use mathlib.Core.Path.{_≡_, refl, sym, _∙_}
-use mathlib.Core.Bool.{true}
+use mathlib.Core.Bool.{false, _&&_, _||_}
 use Prim.Native.Nat.{_<_, _≤_}
 use native.Mathlib.Omega.{arith}
 use lib.ListN.{length, length-map}
 use borrow.Author.Tests.{eq-eqb, ne-eqb}
-use Rattle.rules.specs.Session.{aTableIsEmpty, settledBy}
+use Rattle.rules.specs.Session.{aTableIsEmpty, bothReadOut, settledBy}
 use Rattle.ceiling.specs.Last.{held-then-read, held-secured}
 use borrow.Author.Needs.{needs}
 use Rattle.choosing.proofs.is_settled.Statement.{statement}
@@ -16,61 +16,83 @@ long : (c : tie.Start) → length (c .args .s .pairs) ≡ 64
 long c = sym (length-map (c .args .s .pairs) _) ∙ c .good .1 .1 .0 .1 .1 .1 .1 .1 .1 .1 .1 .0 .1 .0 .1
 
 -- a pair is held where k are held or out, and not all are out
-some : (c : tie.Else4) → let at = c .before .before .before .before .before in
-    0 < at .before .before .before .before .args .s .held
+some : (c : tie.Else4) → let at = c .before .before .before .before .before .before in
+    0 < at .before .before .before .before .before .args .s .held
 some c = omega (arith, c .if4 .left, c .before .before .before .if3 .left)
+
+is-empty-requires : tie.Need-is-empty-requires
+is-empty-requires c κs = search needs
+
+is-empty-requires-2 : tie.Need-is-empty-requires-2
+is-empty-requires-2 c κs = search needs
+
+-- what was asked of both tables, by the rules' names
+empty : (c : tie.After-is-empty2) → let a = c .before .before .args in
+    aTableIsEmpty (a .f .now) (a .t .now) (a .s) ≡ c .before .is-empty .result || c .is-empty2 .result
+empty c = simp (c .before .is-empty .ensures, c .is-empty2 .ensures) refl
+
+out : (c : tie.After-read-out2) → let a = c .before .before .before .before .before .args in
+    bothReadOut (a .f .now) (a .t .now) (a .s) ≡ c .before .read-out .result && c .read-out2 .result
+out c = simp (c .before .read-out .ensures, c .read-out2 .ensures) refl
 
 returns : tie.Need-returns
 unfolding settledBy
-returns c =
-    let none : aTableIsEmpty (c .before .args .s) ≡ true = c .if1 .taken in
-    simp none refl
+returns c = simp (empty (c .before) ∙ c .if1 .taken) refl
+
+read-out-requires : tie.Need-read-out-requires
+read-out-requires c κs = search needs
+
+read-out-requires-2 : tie.Need-read-out-requires-2
+read-out-requires-2 c κs = search needs
 
 returns-2 : tie.Need-returns-2
 unfolding settledBy
-returns-2 c = simp (c .before .before .before .if1 .left, c .if2 .taken) refl
+returns-2 c =
+    let at = c .before .before .before in
+    simp (empty (at .before) ∙ at .if1 .left, out (c .before) ∙ c .if2 .taken) refl
+
+-- no table is empty, nor are both read out
+live : (c : tie.Else2) → let a = c .before .before .before .before .before .before .args in
+    (aTableIsEmpty (a .f .now) (a .t .now) (a .s) ≡ false) × (bothReadOut (a .f .now) (a .t .now) (a .s) ≡ false)
+live c =
+    let at = c .before .before .before in
+    (empty (at .before) ∙ at .if1 .left, out (c .before) ∙ c .if2 .left)
 
 returns-3 : tie.Need-returns-3
 unfolding settledBy
 returns-3 c =
-    simp (
-      c .before .before .before .before .before .if1 .left,
-      c .before .before .if2 .left,
-      eq-eqb _ _ (c .if3 .taken),
-    )
-    refl
+    simp (live (c .before .before) .0, live (c .before .before) .1, eq-eqb _ _ (c .if3 .taken)) refl
 
 add-if4 : tie.Need-add-if4
-add-if4 c = search needs
+add-if4 c =
+    let at = c .before .before .before .before .before .before in
+    let l = at .before .before .before .pre .0 .lent .fits in
+    record { fits = omega (arith, l .room, l .query .k .1) }
 
 returns-4 : tie.Need-returns-4
 unfolding settledBy
 returns-4 c =
     let at = c .before .before .before .before .before in
-    simp (
-      at .before .before .before .if1 .left,
-      c .before .before .before .before .before .if2 .left,
-      ne-eqb _ _ (c .before .before .before .if3 .left),
-      ne-eqb _ _ (c .if4 .taken),
-    )
-    refl
+    let more = ne-eqb _ _ (c .before .before .before .if3 .left) in
+    simp (live at .0, live at .1, more, ne-eqb _ _ (c .if4 .taken)) refl
 
 is-secured-requires : tie.Need-is-secured-requires
 is-secured-requires c κs =
-    let s = c .before .before .before .before .before .before .before .before .before in
+    let at = c .before .before .before .before .before .before in
+    let s = at .before .before .before .before .before in
     held-then-read (s .args .f .now) (s .args .t .now) (s .args .s) (s .pre .0) (omega (arith, long s)) (some c)
 
 returns-5 : tie.Need-returns-5
 unfolding settledBy
 returns-5 c =
-    let at = c .before .before .before .before .before in
-    let s = c .before .before .before .before .before .before .before .before .before .before in
-    let l = s .pre .0 .fits in
+    let at = c .before .before .before .before .before .before in
+    let s = at .before .before .before .before .before .before in
+    let l = s .pre .0 .lent .fits in
     let fit : s .args .s .held ≤ length (s .args .s .pairs) = omega (arith, long s, l .room, l .query .k .1) in
     let last = s .pre .1 (some (c .before)) in
     simp (
-      at .before .before .before .before .if1 .left,
-      at .before .if2 .left,
+      live at .0,
+      live at .1,
       ne-eqb _ _ (c .before .before .before .before .if3 .left),
       eq-eqb _ _ (c .before .if4 .left),
       held-secured (s .args .f .now) (s .args .t .now) (s .args .s) l fit (some (c .before)),
@@ -81,4 +103,15 @@ returns-5 c =
 pub is-settled-spec : {M : Type 1} → statement M
 is-settled-spec =
     tie.close
-    (tie.spec returns returns-2 returns-3 add-if4 returns-4 is-secured-requires returns-5)
+    (tie.spec
+    is-empty-requires
+    is-empty-requires-2
+    returns
+    read-out-requires
+    read-out-requires-2
+    returns-2
+    returns-3
+    add-if4
+    returns-4
+    is-secured-requires
+    returns-5)

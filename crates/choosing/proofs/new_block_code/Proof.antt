@@ -19,7 +19,8 @@ known c =
     let a = s .args in
     let long : length (a .s .pairs) ≡ 64 =
     sym (length-map (a .s .pairs) _) ∙ s .good .1 .1 .0 .1 .1 .1 .1 .1 .1 .1 .1 .0 .1 .0 .1 in
-    due (a .f .now) (a .t .now) (a .s) (s .pre .0) long (s .pre .1) (c .field-next .result) (c .field-next .ensures)
+    due (a .f .now) (a .t .now) (a .s) (s .pre .0 .lent) long (s .pre .1) (c .field-next .result)
+    (c .field-next .ensures)
 
 field-next-requires : tie.Need-field-next-requires
 field-next-requires c κs = search needs

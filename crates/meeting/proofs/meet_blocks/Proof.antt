@@ -82,7 +82,7 @@ old-inside c =
       some = omega (arith, begins (c .before), c .lesser .ensures, least);
       few = omega (arith, c .lesser .ensures, s .pre .1 .1 .0);
       within = omega (arith, c .lesser .ensures, s .pre .1 .1 .1);
-      range = λ i h k. s .pre .1 .0 .1 i (omega arith) (omega (arith, k, c .lesser .ensures));
+      fit = λ i h. s .pre .1 .0 .1 i (omega (arith, h, c .lesser .ensures));
     }
 
 inside : (c : tie.After-either2 Inv-loop μ-loop)

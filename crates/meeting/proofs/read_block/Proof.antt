@@ -10,7 +10,7 @@ use Rattle.meeting.proofs.read_block.Statement.{statement}
 use Rattle.meeting.proofs.read_block.Tie as tie
 
 field-next-requires : tie.Need-field-next-requires
-field-next-requires c κs = c .pre .0 .lent
+field-next-requires c κs = c .pre .0
 
 -- a record has 64 pair places: that is its array's type
 read-on-requires : tie.Need-read-on-requires

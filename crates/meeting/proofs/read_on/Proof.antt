@@ -58,9 +58,9 @@ meet-blocks-requires c κs =
             some = omega (arith, due .left, due .ready .query .block .0);
             few = omega (arith, due .few);
             within = omega (arith, due .rows);
-            range = λ i h k. s .pre .1 .new i (omega (arith, h)) (omega (arith, k));
+            fit = λ i h. s .pre .1 .new i (omega (arith, h));
           },
-          λ i h k. s .pre .1 .other i h (omega (arith, k)),
+          λ i h. s .pre .1 .other i (omega (arith, h)),
         ),
         (omega (arith, due .other-few), omega (arith, due .other-rows), blocks),
       ),

@@ -10,7 +10,7 @@ use Rattle.lists.specs.Bools.{clash}
 use Rattle.rules.specs.Session.{settled}
 use Rattle.rules.specs.declared.Step.{Step}
 use Rattle.rules.specs.Query.{wasRead}
-use Rattle.session_laws.specs.Calls.{call-out, call-record}
+use Rattle.session_laws.specs.Calls.{call-record}
 use Rattle.rules.specs.Calls.{recordFits, newBlockCode, step, readCall}
 use Rattle.checks.proofs.Looking.{Looking, look-starts, look-key, look-on, look-stops, look-ends}
 use Rattle.checks.specs.Codes.{depths-fit}
@@ -161,7 +161,7 @@ read-block-requires c κs =
     let k = asked (c .before) in
     let none = sym (passed call .code-is) ∙ k .0 in
     let fits = looked looking ∙ call-record (a .f .now) (a .t .now) (a .s) none in
-    let accepted = call-out (a .f .now) (a .t .now) (a .s) none in
+    let accepted = passed call .known (k .0) in
     let record-fits = accepted .lent .fits in
     (accepted, k .1, k .2, keyed looking fits (omega (arith, record-fits .room, record-fits .query .k .1)))
 

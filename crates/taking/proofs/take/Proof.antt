@@ -126,7 +126,7 @@ gives c =
     let some =
     ltb-true 0 (a .s .held)
     (and-left (ltb 0 (a .s .held)) (secured (a .f .now) (a .t .now) (a .s) (firstHeld (a .s))) (asked .1)) in
-    let k = passed call .known (asked .0) .fits in
+    let k = passed call .known (asked .0) .lent .fits in
     (some, omega (arith, k .room, k .query .k .1))
 
 loop2-holds : tie.Need-loop2-holds Inv-loop μ-loop Inv-loop2 μ-loop2

@@ -22,7 +22,7 @@ returns-2 c =
     simp (c .before .before .before .if1 .left, ← c .before .before .gives-pair .ensures, c .before .if2 .taken) refl
 
 is-finished-requires : tie.Need-is-finished-requires
-is-finished-requires c κs = search needs
+is-finished-requires c κs = c .before .before .before .pre (c .before .before .if1 .left)
 
 returns-3 : tie.Need-returns-3
 unfolding takeAnswer

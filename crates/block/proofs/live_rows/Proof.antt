@@ -1,0 +1,73 @@
+-- `live_rows` meets its contract: the rows passed from the end upward are withdrawn. Assumes nothing.
+use mathlib.Core.Path.{_≡_, sym, _∙_}
+use mathlib.Core.Bool.{true}
+use Prim.Native.Nat.{ℕ, _-_, _≤_, _<_, _/_}
+use native.Mathlib.Omega.{arith}
+use lib.ListN.{length}
+use borrow.Author.Tests.{not-true, not-false}
+use Rattle.rules.specs.Tables.{row, withdrawn}
+use Rattle.block.specs.Live.{above-live}
+use Rattle.block.proofs.live_rows.Statement.{statement}
+use Rattle.block.proofs.live_rows.Tie as tie
+
+abbrev Inv-loop : tie.InvT-loop
+Inv-loop x n₀ n =
+    (n ≤ length x / 4) × ((i : ℕ) → n ≤ i → i < length x / 4 → withdrawn (row x i) ≡ true)
+
+abbrev μ-loop : tie.MeasureT-loop
+μ-loop x n₀ n = n
+
+loop-holds : tie.Need-loop-holds Inv-loop μ-loop
+loop-holds c = (omega arith, λ i h k. absurd (omega (arith, h, k)))
+
+sub-is-withdrawn : tie.Need-sub-is-withdrawn Inv-loop μ-loop
+sub-is-withdrawn c = omega arith
+
+is-withdrawn-requires : tie.Need-is-withdrawn-requires Inv-loop μ-loop
+is-withdrawn-requires c κs = omega arith
+
+returns : tie.Need-returns Inv-loop μ-loop
+returns c =
+    let s = c .before .before .before .before in
+    let v = c .before .before .before .loop in
+    let some = c .before .before .loop-test .taken in
+    let last = sym (c .before .is-withdrawn .ensures) ∙ not-true _ (c .if1 .taken) in
+    record {
+      upto = v .inv .0;
+      live = λ i h. above-live (s .args .x .now) (s .pre) i (v .n - 1) (omega (arith, h)) (omega (arith, some)) last;
+      beyond = v .inv .1;
+    }
+
+sub-n : tie.Need-sub-n Inv-loop μ-loop
+sub-n c = omega arith
+
+loop-less : tie.Need-loop-less Inv-loop μ-loop
+loop-less c = omega arith
+
+loop-again : tie.Need-loop-again Inv-loop μ-loop
+loop-again c =
+    let s = c .before .before .before .before in
+    let v = c .before .before .before .loop in
+    let last = sym (c .before .is-withdrawn .ensures) ∙ not-false _ (c .if1 .left) in
+    (omega arith, λ i h k. s .pre (v .n - 1) i h k last)
+
+returns-2 : tie.Need-returns-2 Inv-loop μ-loop
+returns-2 c =
+    let v = c .before .loop in
+    let none = c .loop-test .left in
+    record { upto = v .inv .0; live = λ i h. absurd (omega (arith, h, none)); beyond = v .inv .1 }
+
+pub live-rows-spec : {M : Type 1} → statement M
+live-rows-spec =
+    tie.close
+    (tie.spec
+    Inv-loop
+    μ-loop
+    loop-holds
+    sub-is-withdrawn
+    is-withdrawn-requires
+    returns
+    sub-n
+    loop-less
+    loop-again
+    returns-2)

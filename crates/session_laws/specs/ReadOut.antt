@@ -1,0 +1,167 @@
+-- When a table is read out, and when it is empty, in words; and that of checked rows the last one read tells. Assumes
+-- nothing.
+use mathlib.Core.Path.{_≡_, refl, sym, ap, subst₂, _∙_}
+use mathlib.Core.Bool.{Bool, true, false, _&&_, _||_, not}
+use mathlib.Core.List.{List}
+use mathlib.Core.Logic.{_⊎_, inl, inr, ⊎-elim}
+use Prim.Native.Nat.{ℕ, zero, suc, _-_, _≤_, _<_}
+use native.Mathlib.Omega.{arith}
+use native.Mathlib.Decide.{le-ind, decLe}
+use lib.Dec.{eqb, ltb}
+use lib.IntN.{ℤ}
+use lib.Signed.{leZ}
+use borrow.Author.Tests.{eqb-true, eqb-false, eq-eqb, ne-eqb, ltb-true, lt-ltb, leb-true, not-true}
+use Rattle.lists.specs.Bools.{clash, and-out, and-in, or-out, or-true, or-none-out}
+use Rattle.rules.specs.Tables.{num, rowCount, rowInOrder, legal, Row, row, qualifies, withdrawn, rowsQualify}
+use Rattle.rules.specs.Session.{withdrawnWithin, readOut, isEmpty}
+use Rattle.session_laws.specs.Tables.{RowFits, score-kept, legal-out}
+
+or-left : (a b : Bool) → a ≡ true → a || b ≡ true
+or-left a b e = ap (λ x. x || b) e
+
+or-right : (a b : Bool) → b ≡ true → a || b ≡ true
+or-right a b e = ap (λ x. a || x) e ∙ or-true a
+
+-- ---- Rows that qualify are not withdrawn
+
+pub rows-qualify-out : (radius : ℕ) (x y : Row) → rowsQualify radius x y ≡ true
+    → (withdrawn x ≡ false) × (withdrawn y ≡ false) × (qualifies radius (x .shade) (y .shade) ≡ true)
+unfolding rowsQualify
+rows-qualify-out radius x y h =
+    let last = qualifies radius (x .shade) (y .shade) in
+    let a = and-out (not (withdrawn x)) (not (withdrawn y) && last) h in
+    let b = and-out (not (withdrawn y)) last (a .1) in
+    (not-true (withdrawn x) (a .0), not-true (withdrawn y) (b .0), b .1)
+
+pub rows-qualify-in : (radius : ℕ) (x y : Row) → withdrawn x ≡ false → withdrawn y ≡ false
+    → rowsQualify radius x y ≡ qualifies radius (x .shade) (y .shade)
+unfolding rowsQualify
+rows-qualify-in radius x y a b = rw (a, b)
+
+-- ---- A withdrawn row among the first
+
+module _ (t : List ℤ) where
+  pub within-in : (n k : ℕ) → k < n → withdrawn (row t k) ≡ true → withdrawnWithin t n ≡ true
+  unfolding withdrawnWithin
+  within-in zero k h e = absurd (omega arith)
+  within-in (suc n) k h e = go (decLe n k) (λ m. within-in n k m e)
+    where
+      go : Dec (n ≤ k) → (k < n → withdrawnWithin t n ≡ true) → withdrawnWithin t n || withdrawn (row t n) ≡ true
+      go (yes m) before =
+          let same : n ≡ k = omega arith in
+          or-right (withdrawnWithin t n) (withdrawn (row t n)) (ap (λ i. withdrawn (row t i)) same ∙ e)
+      go (no m) before = or-left (withdrawnWithin t n) (withdrawn (row t n)) (before (omega arith))
+
+  pub within-out : (n : ℕ) → withdrawnWithin t n ≡ true → (k : ℕ) × (k < n) × (withdrawn (row t k) ≡ true)
+  unfolding withdrawnWithin
+  within-out zero h = clash h refl
+  within-out (suc n) h =
+      ⊎-elim (λ e. let k = within-out n e in (k .0, omega (arith, k .1), k .2)) (λ e. (n, omega arith, e))
+      (or-out (withdrawnWithin t n) (withdrawn (row t n)) h)
+
+  -- ---- Read out
+
+  module _ (rows depth : ℕ) where
+    pub read-out-out : readOut t rows depth ≡ true → (depth ≡ rows) ⊎ (withdrawnWithin t depth ≡ true)
+    unfolding readOut
+    read-out-out h =
+        ⊎-elim (λ e. inl (eqb-true depth rows e)) inr (or-out (eqb depth rows) (withdrawnWithin t depth) h)
+
+    pub unread-out : readOut t rows depth ≡ false → (depth ≡ rows → ⊥) × (withdrawnWithin t depth ≡ false)
+    unfolding readOut
+    unread-out h =
+        let both = or-none-out (eqb depth rows) (withdrawnWithin t depth) h in
+        (eqb-false depth rows (both .0), both .1)
+
+    -- a table with rows of which none is read is not read out
+    pub unread-first : (rows ≡ 0 → ⊥) → eqb depth 0 ≡ true → readOut t rows depth ≡ false
+    unfolding readOut withdrawnWithin
+    unread-first h k =
+        let none : depth ≡ 0 = eqb-true depth 0 k in
+        rw (none, ne-eqb 0 rows (λ e. h (sym e)))
+
+    -- ---- Empty
+
+    abbrev firstWithdrawn : Bool
+    firstWithdrawn = ltb 0 depth && withdrawn (row t 0)
+
+    pub empty-out : isEmpty t rows depth ≡ true → (rows ≡ 0) ⊎ ((0 < depth) × (withdrawn (row t 0) ≡ true))
+    unfolding isEmpty
+    empty-out h =
+        ⊎-elim (λ e. inl (eqb-true rows 0 e))
+        (λ e. let both = and-out (ltb 0 depth) (withdrawn (row t 0)) e in inr (ltb-true 0 depth (both .0), both .1))
+        (or-out (eqb rows 0) firstWithdrawn h)
+
+    pub live-out : isEmpty t rows depth ≡ false → (rows ≡ 0 → ⊥) × (0 < depth → withdrawn (row t 0) ≡ true → ⊥)
+    unfolding isEmpty
+    live-out h =
+        let both = or-none-out (eqb rows 0) firstWithdrawn h in (
+          eqb-false rows 0 (both .0),
+          λ k e. clash (and-in (ltb 0 depth) (withdrawn (row t 0)) (lt-ltb 0 depth k) e) (both .1),
+        )
+
+    -- a table that has rows and is read out was read
+    pub read-out-some : (rows ≡ 0 → ⊥) → readOut t rows depth ≡ true → 0 < depth
+    read-out-some live h =
+        ⊎-elim (λ e. omega (arith, live)) (λ e. omega (arith, within-out depth e .1)) (read-out-out h)
+
+-- ---- Of rows that passed 6 and 7, scores fall, so the last one tells
+
+module _ (t : List ℤ) (n : ℕ) (fits : (i : ℕ) → i < n → RowFits t i) where
+  score-falls : (i : ℕ) → suc i < n → row t (suc i) .score ≤ row t i .score
+  unfolding rowInOrder
+  score-falls i h =
+      let below = leZ (num t (suc i) 1) (num t (suc i - 1) 1) in
+      let a : below ≡ true =
+      ⊎-elim (λ e. absurd (omega (arith, eqb-true (suc i) 0 e))) (λ e. e)
+      (or-out (eqb (suc i) 0) below (fits (suc i) h .order)) in
+      let b : suc i - 1 ≡ i = omega arith in
+      let c : leZ (num t (suc i) 1) (num t i 1) ≡ true = ap (λ j. leZ (num t (suc i) 1) (num t j 1)) (sym b) ∙ a in
+      leb-true (row t (suc i) .score) (row t i .score)
+      (subst₂ (λ x y. leZ x y ≡ true) (sym (score-kept t (suc i) (fits (suc i) h .range)))
+      (sym (score-kept t i (fits i (omega arith) .range))) c)
+
+  pub scores-fall : (i j : ℕ) → i ≤ j → j < n → row t j .score ≤ row t i .score
+  scores-fall i j h =
+      le-ind (λ j. j < n → row t j .score ≤ row t i .score) (λ k. omega arith)
+      (λ j m ih k. omega (arith, ih (omega arith), score-falls j k)) j h
+
+  -- below a withdrawn row all are
+  pub withdrawn-below : (i j : ℕ) → i ≤ j → j < n → withdrawn (row t i) ≡ true → withdrawn (row t j) ≡ true
+  unfolding withdrawn
+  withdrawn-below i j h k e =
+      eq-eqb (row t j .score) 0 (omega (arith, scores-fall i j h k, eqb-true (row t i .score) 0 e))
+
+  pub within-last : 0 < n → withdrawnWithin t n ≡ withdrawn (row t (n - 1))
+  within-last some = go (withdrawn (row t (n - 1))) refl (withdrawnWithin t n) refl
+    where
+      go : (a : Bool) → withdrawn (row t (n - 1)) ≡ a → (b : Bool) → withdrawnWithin t n ≡ b → withdrawnWithin t n ≡ a
+      go true x b y = within-in t n (n - 1) (omega arith) x
+      go false x true y =
+          let k = within-out t n y in
+          clash (withdrawn-below (k .0) (n - 1) (omega (arith, k .1)) (omega arith) (k .2)) x
+      go false x false y = y
+
+-- ---- A row of a legal table that is not withdrawn, numbered from 1
+
+module _ (t : List ℤ) (g : legal t ≡ true) (rows depth i : ℕ) (count : rows ≡ rowCount t)
+    (row-of : (1 ≤ i) × (i ≤ rowCount t)) (live : withdrawn (row t (i - 1)) ≡ false) where
+  below : (k : ℕ) → k ≤ i - 1 → withdrawn (row t k) ≡ true → ⊥
+  below k h e =
+      clash
+      (withdrawn-below t (rowCount t) (λ j m. legal-out t g .rows j m) k (i - 1) h (omega (arith, row-of)) e) live
+
+  -- stands above the depth of a table that is read out
+  pub live-above : readOut t rows depth ≡ true → i ≤ depth
+  live-above h =
+      ⊎-elim (λ e. omega (arith, row-of)) (λ e. go (within-out t depth e) (decLe i depth))
+      (read-out-out t rows depth h)
+    where
+      go : (k : ℕ) × (k < depth) × (withdrawn (row t k) ≡ true) → Dec (i ≤ depth) → i ≤ depth
+      go k (yes m) = m
+      go k (no m) = absurd (below (k .0) (omega (arith, k .1)) (k .2))
+
+  -- and in none that is empty
+  pub live-never : isEmpty t rows depth ≡ true → ⊥
+  live-never h =
+      ⊎-elim (λ e. omega (arith, row-of)) (λ e. below 0 (omega arith) (e .1)) (empty-out t rows depth h)
