@@ -49,7 +49,7 @@ pub fn is_empty(t: &[i32], rows: u32, depth: u32) -> bool
     false
 }
 
-// The ceiling: the higher of HF + LT, if trim rows are unread, and LF + HT, if field rows are unread. Each score counts
+// The ceiling: the higher of HF + LT, unless trim is read out, and LF + HT, unless field is. Each score counts
 // by its table's weight.
 pub fn threshold(f: &[i32], t: &[i32], s: Session) -> u64
     requires { ⌜ BothRead (now f) (now t) s ⌝ }
