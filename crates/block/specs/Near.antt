@@ -1,7 +1,7 @@
 -- Whether any pair of two blocks qualifies, in the code's own shape, and what it says of the qualifying pairs. Assumes
 -- nothing.
 use mathlib.Core.Path.{_≡_, refl, ap, ap₂, _∙_}
-use mathlib.Core.Bool.{Bool, true, false, _||_}
+use mathlib.Core.Bool.{Bool, true, false, _&&_, _||_, not}
 use mathlib.Core.List.{List, [], _∷_, _++_, map}
 use Prim.Native.Nat.{ℕ, zero, suc, _+_, _≤_, _<_}
 use native.Mathlib.Omega.{arith}
@@ -10,9 +10,20 @@ use lib.IntN.{ℤ}
 use borrow.Author.Tests.{eqb-true, eqb-false}
 use Rattle.lists.specs.Lists.{consIf, keep, range, each}
 use Rattle.lists.specs.Appends.{keep-append, each-append, range-end}
-use Rattle.lists.specs.Bools.{or-none-out}
+use Rattle.lists.specs.Bools.{and-false, or-none-out}
 use Rattle.rules.specs.declared.Pair.{Pair}
-use Rattle.rules.specs.Tables.{Terms, Block, row, rowCount, pairAt, qualifying}
+use Rattle.rules.specs.declared.Query.{Query}
+use Rattle.rules.specs.Tables.{qualifies, withdrawn, rowsQualify, Terms, terms, Block, Row, row, rowCount}
+use Rattle.rules.specs.Tables.{pairAt, qualifying}
+
+-- the terms of a query by places alone: a withdrawn row qualifies as any other
+abbrev pub placed : Query → Terms
+placed q =
+    record {
+      field = terms q .field;
+      trim = terms q .trim;
+      near = λ x y. qualifies (q .radius) (x .shade) (y .shade);
+    }
 
 -- row i + 1 of x and one of the first rows of y
 unfoldable pub rowNear : Terms → List ℤ → List ℤ → ℕ → ℕ → Bool
@@ -53,9 +64,34 @@ module _ (w : Terms) (x y : Block) where
       ∙ ap₂ (λ (k l : List Pair). k ++ l) (none-of n (both .0))
       (ap (λ (k : List ℕ). map (pairAt w x y n) k ++ []) (none-kept n (rowCount (y .rows)) (both .1)))
 
-  pub none-qualify : anyNear w (x .rows) (y .rows) (rowCount (x .rows)) ≡ false → qualifying w x y ≡ []
+  none-qualify : anyNear w (x .rows) (y .rows) (rowCount (x .rows)) ≡ false → qualifying w x y ≡ []
   unfolding qualifying
   none-qualify h = none-of (rowCount (x .rows)) h
+
+-- where no two rows lie near each other by their places, none qualify
+near-placed : (q : Query) (x y : Row) → placed q .near x y ≡ false → terms q .near x y ≡ false
+unfolding rowsQualify
+near-placed q x y h =
+    rw h (ap (λ b. not (withdrawn x) && b) (and-false (not (withdrawn y))) ∙ and-false (not (withdrawn x)))
+
+row-placed : (q : Query) (x y : List ℤ) (i n : ℕ) → rowNear (placed q) x y i n ≡ false
+    → rowNear (terms q) x y i n ≡ false
+unfolding rowNear
+row-placed q x y i zero h = refl
+row-placed q x y i (suc n) h =
+    let both = or-none-out (rowNear (placed q) x y i n) (placed q .near (row x i) (row y n)) h in
+    ap₂ (λ a b. a || b) (row-placed q x y i n (both .0)) (near-placed q (row x i) (row y n) (both .1))
+
+any-placed : (q : Query) (x y : List ℤ) (n : ℕ) → anyNear (placed q) x y n ≡ false → anyNear (terms q) x y n ≡ false
+unfolding anyNear
+any-placed q x y zero h = refl
+any-placed q x y (suc n) h =
+    let both = or-none-out (anyNear (placed q) x y n) (rowNear (placed q) x y n (rowCount y)) h in
+    ap₂ (λ a b. a || b) (any-placed q x y n (both .0)) (row-placed q x y n (rowCount y) (both .1))
+
+pub none-placed : (q : Query) (x y : Block) → anyNear (placed q) (x .rows) (y .rows) (rowCount (x .rows)) ≡ false
+    → qualifying (terms q) x y ≡ []
+none-placed q x y h = none-qualify (terms q) x y (any-placed q (x .rows) (y .rows) (rowCount (x .rows)) h)
 
 -- r is the first of y's first n rows from row j on that lies near row i of x, rows counted from 0, or n
 pub record NextNear (w : Terms) (x : List ℤ) (i : ℕ) (y : List ℤ) (n j r : ℕ) : Type 0 where

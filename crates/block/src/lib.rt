@@ -12,25 +12,22 @@ ghost use Rattle.keys.specs.Held.{Narrow};
 ghost use Rattle.block.specs.Block.{at, Rows, Below, Joined};
 ghost use Rattle.block.specs.Live.{Live};
 ghost use Rattle.block.specs.Small.{SmallPairs};
-ghost use Rattle.block.specs.Near.{rowNear, anyNear, NextNear};
+ghost use Rattle.block.specs.Near.{placed, rowNear, anyNear, NextNear};
 
-// Whether row i + 1 of x and row j + 1 of y qualify: neither is withdrawn, and they lie within the radius.
+// Whether row i + 1 of x and row j + 1 of y lie within the radius, withdrawn or not.
 fn near(q: Query, x: &[i32], i: usize, y: &[i32], j: usize) -> bool
     requires { ⌜ (4 * i + 4 ≤ length (now x)) × (4 * j + 4 ≤ length (now y)) ⌝ }
-    ensures { λ r. ⌜ r ≡ terms q .near (row (now (x .entry)) i) (row (now (y .entry)) j) ⌝ }
+    ensures { λ r. ⌜ r ≡ placed q .near (row (now (x .entry)) i) (row (now (y .entry)) j) ⌝ }
 {
-    let first_gone = tables::is_withdrawn(x, i);
-    let second_gone = tables::is_withdrawn(y, j);
     let first = tables::shade(x, i);
     let second = tables::shade(y, j);
-    let within = distance::qualifies(q.radius, first, second);
-    !first_gone & (!second_gone & within)
+    distance::qualifies(q.radius, first, second)
 }
 
 // Whether row i + 1 of x lies near any row of y. It looks at all of them: no branch stands in the loop.
 fn row_near(q: Query, x: &[i32], i: usize, y: &[i32]) -> bool
     requires { ⌜ 4 * i + 4 ≤ length (now x) ⌝ }
-    ensures { λ r. ⌜ r ≡ rowNear (terms q) (now (x .entry)) (now (y .entry)) i (length (now (y .entry)) / 4) ⌝ }
+    ensures { λ r. ⌜ r ≡ rowNear (placed q) (now (x .entry)) (now (y .entry)) i (length (now (y .entry)) / 4) ⌝ }
 {
     let n = y.len() / 4;
     let mut seen = false;
@@ -45,7 +42,7 @@ fn row_near(q: Query, x: &[i32], i: usize, y: &[i32]) -> bool
 
 // Whether any row of x lies near any row of y.
 pub fn any_near(q: Query, x: &[i32], y: &[i32]) -> bool
-    ensures { λ r. ⌜ r ≡ anyNear (terms q) (now (x .entry)) (now (y .entry)) (length (now (x .entry)) / 4) ⌝ }
+    ensures { λ r. ⌜ r ≡ anyNear (placed q) (now (x .entry)) (now (y .entry)) (length (now (x .entry)) / 4) ⌝ }
 {
     let m = x.len() / 4;
     let mut seen = false;

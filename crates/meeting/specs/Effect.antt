@@ -17,7 +17,7 @@ use Rattle.rules.specs.declared.Session.{Session}
 use Rattle.rules.specs.Tables.{terms, Block, rowCount, qualifying, ahead}
 use Rattle.rules.specs.Session.{heldPairs, firstScore}
 use Rattle.rules.specs.Read.{skipped, bestHeld, holding, meetBy, meet}
-use Rattle.block.specs.Near.{anyNear, none-qualify}
+use Rattle.block.specs.Near.{placed, anyNear, none-placed}
 use Rattle.choosing.specs.Ready.{Ready}
 
 -- what the first rows of two blocks add to a sum
@@ -29,7 +29,7 @@ skips full low q x y = full && ltb (firstScores q x y) low
 
 pub record Effect (full : Bool) (low : ℕ) (q : Query) (x y : List ℤ) (r : ℕ) : Type 0 where
   pub skip : r ≡ 0 → skips full low q x y ≡ true
-  pub quiet : r ≡ 1 → (skips full low q x y ≡ false) × (anyNear (terms q) x y (rowCount x) ≡ false)
+  pub quiet : r ≡ 1 → (skips full low q x y ≡ false) × (anyNear (placed q) x y (rowCount x) ≡ false)
   pub joined : r ≡ 2 → skips full low q x y ≡ false
   pub most : r ≤ 2
 
@@ -43,7 +43,8 @@ module _ (full : Bool) (low : ℕ) (q : Query) (x y : List ℤ) where
         most = omega arith;
       }
 
-  pub effect-quiet : skips full low q x y ≡ false → anyNear (terms q) x y (rowCount x) ≡ false → Effect full low q x y 1
+  pub effect-quiet : skips full low q x y ≡ false → anyNear (placed q) x y (rowCount x) ≡ false
+      → Effect full low q x y 1
   effect-quiet h k =
       record {
         skip = λ e. absurd (omega (arith, e));
@@ -139,7 +140,7 @@ module _ (s : Session) (r : Ready s) where
             let q = f .quiet refl in
             sym
             (ap met (sym test ∙ q .0)
-            ∙ ap (λ (l : List Pair). holding s (bestHeld s l)) (none-qualify (terms (s .query)) x y (q .1))
+            ∙ ap (λ (l : List Pair). holding s (bestHeld s l)) (none-placed (s .query) x y (q .1))
             ∙ ap (holding s) same-held
             ∙ holding-same)
         go (suc (suc w)) f h = absurd (h (omega (arith, f .most)))

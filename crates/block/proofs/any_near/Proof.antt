@@ -5,13 +5,12 @@ use native.Mathlib.Numerals.{add-one}
 use native.Mathlib.Omega.{arith}
 use lib.ListN.{length}
 use borrow.Author.Needs.{needs}
-use Rattle.rules.specs.Tables.{terms}
-use Rattle.block.specs.Near.{anyNear}
+use Rattle.block.specs.Near.{placed, anyNear}
 use Rattle.block.proofs.any_near.Statement.{statement}
 use Rattle.block.proofs.any_near.Tie as tie
 
 abbrev Inv-loop : tie.InvT-loop
-Inv-loop q x y m seen₀ i₀ seen i = (i ≤ m) × (m ≡ length x / 4) × (seen ≡ anyNear (terms q) x y i)
+Inv-loop q x y m seen₀ i₀ seen i = (i ≤ m) × (m ≡ length x / 4) × (seen ≡ anyNear (placed q) x y i)
 
 abbrev μ-loop : tie.MeasureT-loop
 μ-loop q x y m seen₀ i₀ seen i = m - i
@@ -38,7 +37,7 @@ returns c =
     let s = c .before .before in
     let v = c .before .loop in
     let e : v .i ≡ length (s .args .x .now) / 4 = omega arith in
-    v .inv .2 ∙ ap (anyNear (terms (s .args .q)) (s .args .x .now) (s .args .y .now)) e
+    v .inv .2 ∙ ap (anyNear (placed (s .args .q)) (s .args .x .now) (s .args .y .now)) e
 
 pub any-near-spec : {M : Type 1} → statement M
 any-near-spec =
