@@ -68,12 +68,14 @@ fn modelled(asked: Asked, f: &[i32], t: &[i32]) -> Vec<u8> {
             &t[4 * pair.trim as usize - 4..],
         );
         let (da, db) = (i64::from(x[2] - y[2]), i64::from(x[3] - y[3]));
+        let square = (da * da + db * db) as u64;
+        let s = square.isqrt();
         text += &format!(
-            "{rank:>6}{:>6}{:>6}{:>6}{:>12}\n",
+            "{rank:>6}{:>6}{:>6}{:>6}{s:>8}{:>8}\n",
             pair.sum,
             x[0],
             y[0],
-            da * da + db * db
+            square - s * s
         );
         rank += 1;
     }

@@ -12,6 +12,7 @@ use Rattle.rules.specs.declared.Session.{Session}
 use Rattle.rules.specs.Numbers.{shortSlice, unless, first, Said, signed}
 use Rattle.rules.specs.Tables.{row, squaredDistance}
 use Rattle.rules.specs.Session.{placeCount}
+use Rattle.rules.specs.Root.{root, remainder}
 use Rattle.rules.specs.Calls.{openCode}
 use Rattle.rules.specs.Query.{settledSession, list, listing}
 use Rattle.record_layout.specs.Flat.{querySize, queryIn}
@@ -29,6 +30,15 @@ pairNumbers f t p =
 unfoldable pub listNumbers : Query → List ℤ → List ℤ → List ℕ
 listNumbers q f t = each (pairNumbers f t) (list q f t)
 
+-- the root of a pair's squared distance, and the remainder
+unfoldable pub rootNumbers : List ℤ → List ℤ → Pair → List ℕ
+rootNumbers f t p =
+    let n = squaredDistance (row f (p .field - 1) .shade) (row t (p .trim - 1) .shade) in
+    root n ∷ remainder n ∷ []
+
+unfoldable pub listRoots : Query → List ℤ → List ℤ → List ℕ
+listRoots q f t = each (rootNumbers f t) (list q f t)
+
 -- in front of them: field rows read, trim rows read, block pairs joined
 abbrev pub headNumbers : Session → List ℕ
 headNumbers s = s .depth .field .0 ∷ s .depth .trim .0 ∷ s .joined ∷ []
@@ -45,6 +55,19 @@ pairLength = 6
 
 abbrev pub queryRoom : ℕ
 queryRoom = headLength + pairLength * placeCount
+
+-- how many numbers the roots of a pair are, and the longest answer with them
+abbrev pub rootLength : ℕ
+rootLength = 2
+
+abbrev pub rootsRoom : ℕ
+rootsRoom = queryRoom + rootLength * placeCount
+
+-- the answer written: from the front the numbers; the roots behind the places of all 64 pairs, if they are lent too
+unfoldable pub answered : Query → List ℤ → List ℤ → List ℕ → List ℕ
+answered q f t out =
+    let numbers = putAt 0 (queryNumbers q f t) out in
+    cond (leb rootsRoom (length out)) (putAt queryRoom (listRoots q f t) numbers) numbers
 
 -- ---- What a query is refused by
 
@@ -64,9 +87,9 @@ abbrev pub asked : ℕ → ℕ → Said
 asked code count =
     record { accepted = eqb code 0; number = cond (eqb code 0) count code; values = [] }
 
--- the lent places after it: from the front the answer's, the rest as it was; refused, all as it was
+-- the lent places after it: with the answer written; refused, all as it was
 unfoldable pub writtenUnless : ℕ → List ℕ → List ℕ → List ℕ
-writtenUnless code answer out = cond (eqb code 0) (putAt 0 answer out) out
+writtenUnless code written out = cond (eqb code 0) written out
 
 -- ---- The answer as numbers
 
@@ -78,7 +101,7 @@ unfoldable pub lentQueryAnswer : List ℕ → List ℤ → List ℤ → List ℕ
 lentQueryAnswer l f t out = signed (asked (lentQueryCode l f t out) (length (list (queryIn l) f t)))
 
 unfoldable pub lentQueryNumbers : List ℕ → List ℤ → List ℤ → List ℕ → List ℕ
-lentQueryNumbers l f t out = writtenUnless (lentQueryCode l f t out) (queryNumbers (queryIn l) f t) out
+lentQueryNumbers l f t out = writtenUnless (lentQueryCode l f t out) (answered (queryIn l) f t out) out
 
 -- ---- The answer as the listing's bytes
 
@@ -90,4 +113,5 @@ unfoldable pub lentListingAnswer : List ℕ → List ℤ → List ℤ → List �
 lentListingAnswer l f t out = signed (asked (lentListingCode l f t out) (length (listing (queryIn l) f t)))
 
 unfoldable pub lentListingBytes : List ℕ → List ℤ → List ℤ → List ℕ → List ℕ
-lentListingBytes l f t out = writtenUnless (lentListingCode l f t out) (listing (queryIn l) f t) out
+lentListingBytes l f t out =
+    writtenUnless (lentListingCode l f t out) (putAt 0 (listing (queryIn l) f t) out) out
