@@ -10,6 +10,7 @@ ghost use Rattle.rules.specs.Session.{placeCount};
 ghost use Rattle.printing.specs.Put.{putAt};
 ghost use Rattle.run_query.specs.Outcomes.{OutcomeOf};
 ghost use Rattle.listing.specs.Shown.{Shown};
+ghost use Rattle.whole_query.specs.Numbers.{pairLength, rootLength, pairNumbers, rootNumbers};
 ghost use Rattle.whole_query.specs.Numbers.{queryRoom, answered, lentQueryAnswer, lentQueryNumbers};
 ghost use Rattle.whole_query.specs.Parts.{partLength, partNumbers, listParts};
 ghost use Rattle.whole_query.specs.Numbers.{lentListingAnswer, lentListingBytes};
@@ -45,26 +46,51 @@ fn put_three(out: &mut [u64], at: usize, x: u64, y: u64, z: u64)
     put_one(out, c, z);
 }
 
-// A pair's numbers, or the root of its squared distance and the remainder.
+// A pair's numbers.
+fn put_pair(out: &mut [u64], at: usize, f: &[i32], t: &[i32], p: Pair)
+    requires { ⌜ (at + pairLength ≤ length (now out)) × Shown (now f) (now t) p ⌝ }
+    ensures { λ _. ⌜ now (out .exit) ≡ putAt at (pairNumbers (now (f .entry)) (now (t .entry)) p) (now (out .entry)) ⌝ }
+{
+    let b = at + 3;
+    let line = listing::line_of(f, t, 0, p);
+    put_three(out, at, p.sum as u64, p.field as u64, p.trim as u64);
+    put_three(out, b, line.field as u64, line.trim as u64, line.distance);
+}
+
+// The root of its squared distance, and the remainder.
+fn put_root(out: &mut [u64], at: usize, f: &[i32], t: &[i32], p: Pair)
+    requires { ⌜ (at + rootLength ≤ length (now out)) × Shown (now f) (now t) p ⌝ }
+    ensures { λ _. ⌜ now (out .exit) ≡ putAt at (rootNumbers (now (f .entry)) (now (t .entry)) p) (now (out .entry)) ⌝ }
+{
+    let b = at + 1;
+    let line = listing::line_of(f, t, 0, p);
+    put_one(out, at, line.root);
+    put_one(out, b, line.rest);
+}
+
+// The one or the other.
 fn put_part(roots: bool, out: &mut [u64], at: usize, f: &[i32], t: &[i32], p: Pair)
     requires { ⌜ (at + partLength roots ≤ length (now out)) × Shown (now f) (now t) p ⌝ }
     ensures { λ _. ⌜ now (out .exit)
         ≡ putAt at (partNumbers roots (now (f .entry)) (now (t .entry)) p) (now (out .entry)) ⌝ }
 {
-    let b = at + 1;
-    let c = at + 3;
-    let line = listing::line_of(f, t, 0, p);
     if roots {
-        put_one(out, at, line.root);
-        put_one(out, b, line.rest);
+        put_root(out, at, f, t, p);
     } else {
-        put_three(out, at, p.sum as u64, p.field as u64, p.trim as u64);
-        put_three(out, c, line.field as u64, line.trim as u64, line.distance);
+        put_pair(out, at, f, t, p);
     }
 }
 
 // Those of all pairs of the list, from a place on, each `wide` numbers.
-fn put_parts(roots: bool, wide: usize, out: &mut [u64], at: usize, f: &[i32], t: &[i32], run: Outcome)
+fn put_parts(
+    roots: bool,
+    wide: usize,
+    out: &mut [u64],
+    at: usize,
+    f: &[i32],
+    t: &[i32],
+    run: Outcome,
+)
     requires { ⌜ (wide ≡ partLength roots) × (at + partLength roots * placeCount ≤ length (now out)) ⌝ }
     requires { ⌜ OutcomeOf (now f) (now t) run ⌝ }
     ensures { λ _. ⌜ now (out .exit)
@@ -83,12 +109,13 @@ fn put_numbers(out: &mut [u64], f: &[i32], t: &[i32], run: Outcome)
     requires { ⌜ (queryRoom ≤ length (now out)) × OutcomeOf (now f) (now t) run ⌝ }
     ensures { λ _. ⌜ now (out .exit) ≡ answered (run .query) (now (f .entry)) (now (t .entry)) (now (out .entry)) ⌝ }
 {
+    let more = ROOTS_ROOM <= out.len();
     let settled = run.session;
     let field = settled.depth.field.0 as u64;
     let trim = settled.depth.trim.0 as u64;
     put_three(out, 0, field, trim, settled.joined);
     put_parts(false, PAIR_LENGTH, out, HEAD_LENGTH, f, t, run);
-    if ROOTS_ROOM <= out.len() {
+    if more {
         put_parts(true, ROOT_LENGTH, out, ROOM, f, t, run);
     }
 }
