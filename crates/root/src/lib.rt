@@ -66,19 +66,54 @@ fn grow(x: Root, next: u64, b: u64) -> Root
     }
 }
 
-// The root of a number whose top two bits are not both 0.
-fn root_of_full(m: u64) -> u64
-    requires { ⌜ 2 ^ 62 ≤ m ⌝ }
-    ensures { λ r. ⌜ IsRoot m r ⌝ }
+// The root of a number of 16 bits, of 32, and of 64, the top two of them not both 0.
+fn root_16(m: u64) -> Root
+    requires { ⌜ (2 ^ 14 ≤ m) × (m < 2 ^ 16) ⌝ }
+    ensures { λ r. ⌜ Parted m (r .root) (r .rest) ⌝ }
 {
-    let of_8 = first(m >> 56);
-    let of_16 = grow(of_8, (m >> 48) % 256, 16);
-    let of_32 = grow(of_16, (m >> 32) % 65536, 256);
-    let of_64 = grow(of_32, m % 4294967296, 65536);
-    of_64.root
+    grow(first(m >> 8), m % 256, 16)
 }
 
-// The root of n: n is moved up by an even number of bits until it is full, and the root back by half as many.
+fn root_32(m: u64) -> Root
+    requires { ⌜ (2 ^ 30 ≤ m) × (m < 2 ^ 32) ⌝ }
+    ensures { λ r. ⌜ Parted m (r .root) (r .rest) ⌝ }
+{
+    grow(root_16(m >> 16), m % 65536, 256)
+}
+
+fn root_64(m: u64) -> Root
+    requires { ⌜ 2 ^ 62 ≤ m ⌝ }
+    ensures { λ r. ⌜ Parted m (r .root) (r .rest) ⌝ }
+{
+    grow(root_32(m >> 32), m % 4294967296, 65536)
+}
+
+// A number moved up by twice as many bits as `by` says, so that its root is moved up by that many.
+struct Moved {
+    number: u64,
+    by: u32,
+}
+
+// n moved up until the top two of its bits, the unused ones not counted, are not both 0.
+fn moved_up(n: u64, unused: u32) -> Moved
+    requires { ⌜ (0 < n) × (unused ≤ 62) × (n < 2 ^ (64 - unused)) ⌝ }
+    ensures { λ r. ⌜ (r .number ≡ n * (2 ^ r .by * 2 ^ r .by)) × (r .by < 32) ⌝ }
+    ensures { λ r. ⌜ (2 ^ (62 - unused) ≤ r .number) × (r .number < 2 ^ (64 - unused)) ⌝ }
+{
+    let by = (u64::leading_zeros(n) - unused) / 2;
+    let number = n << (2 * by);
+    Moved { number, by }
+}
+
+// The root of n, from the root of n moved up.
+fn moved_back(n: u64, x: Root, by: u32) -> Root
+    requires { ⌜ Parted (n * (2 ^ by * 2 ^ by)) (x .root) (x .rest) × (by < 32) ⌝ }
+    ensures { λ r. ⌜ Parted n (r .root) (r .rest) ⌝ }
+{
+    with_rest(n, x.root >> by)
+}
+
+// The root and the rest of n. A smaller number takes fewer steps.
 pub fn root_of(n: u64) -> Root
     ensures { λ r. ⌜
         (r .root * r .root ≤ n) × (n < (r .root + 1) * (r .root + 1)) × (r .rest ≡ n - r .root * r .root)
@@ -88,7 +123,14 @@ pub fn root_of(n: u64) -> Root
     if n == 0 {
         return Root { root: 0, rest: 0 };
     }
-    let k = u64::leading_zeros(n) / 2;
-    let s = root_of_full(n << (2 * k)) >> k;
-    with_rest(n, s)
+    if n < 65536 {
+        let up = moved_up(n, 48);
+        return moved_back(n, root_16(up.number), up.by);
+    }
+    if n < 4294967296 {
+        let up = moved_up(n, 32);
+        return moved_back(n, root_32(up.number), up.by);
+    }
+    let up = moved_up(n, 0);
+    moved_back(n, root_64(up.number), up.by)
 }
