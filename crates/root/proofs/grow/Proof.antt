@@ -5,38 +5,38 @@ use Rattle.root.specs.Step.{bounds, kept, too-many, lowered}
 use Rattle.root.proofs.grow.Statement.{statement}
 use Rattle.root.proofs.grow.Tie as tie
 
-mul-d : tie.Need-mul-d
-mul-d c = let s = c .before in record { fits = omega (arith, bounds _ _ _ _ (s .pre)) }
+mul-dividend : tie.Need-mul-dividend
+mul-dividend c = let s = c .before in record { fits = omega (arith, bounds _ _ _ _ (s .pre)) }
 
-div-d : tie.Need-div-d
-div-d c = search needs
+div-dividend : tie.Need-div-dividend
+div-dividend c = search needs
 
-add-d : tie.Need-add-d
-add-d c = let s = c .before in record { fits = omega (arith, bounds _ _ _ _ (s .pre)) }
+add-dividend : tie.Need-add-dividend
+add-dividend c = let s = c .before in record { fits = omega (arith, bounds _ _ _ _ (s .pre)) }
 
 mul-twice : tie.Need-mul-twice
 mul-twice c = search needs
 
-div-q : tie.Need-div-q
-div-q c = search needs
+div-digit : tie.Need-div-digit
+div-digit c = search needs
 
-rem-e : tie.Need-rem-e
-rem-e c = search needs
+rem-left : tie.Need-rem-left
+rem-left c = search needs
 
-mul-e : tie.Need-mul-e
-mul-e c = let s = c .before .before in record { fits = omega (arith, bounds _ _ _ _ (s .pre)) }
+mul-left : tie.Need-mul-left
+mul-left c = let s = c .before .before in record { fits = omega (arith, bounds _ _ _ _ (s .pre)) }
 
-rem-e-2 : tie.Need-rem-e-2
-rem-e-2 c = search needs
+rem-left-2 : tie.Need-rem-left-2
+rem-left-2 c = search needs
 
-add-e : tie.Need-add-e
-add-e c = let s = c .before .before in record { fits = omega (arith, bounds _ _ _ _ (s .pre)) }
+add-left : tie.Need-add-left
+add-left c = let s = c .before .before in record { fits = omega (arith, bounds _ _ _ _ (s .pre)) }
 
-mul-t : tie.Need-mul-t
-mul-t c = let s = c .before .before .before in record { fits = omega (arith, bounds _ _ _ _ (s .pre)) }
+mul-guess : tie.Need-mul-guess
+mul-guess c = let s = c .before .before .before in record { fits = omega (arith, bounds _ _ _ _ (s .pre)) }
 
-add-t : tie.Need-add-t
-add-t c = let s = c .before .before .before in record { fits = omega (arith, bounds _ _ _ _ (s .pre)) }
+add-guess : tie.Need-add-guess
+add-guess c = let s = c .before .before .before in record { fits = omega (arith, bounds _ _ _ _ (s .pre)) }
 
 mul-square : tie.Need-mul-square
 mul-square c = let s = c .before .before .before in record { fits = omega (arith, bounds _ _ _ _ (s .pre)) }
@@ -66,17 +66,17 @@ pub grow-spec : {M : Type 1} → statement M
 grow-spec =
     tie.close
     (tie.spec
-    mul-d
-    div-d
-    add-d
+    mul-dividend
+    div-dividend
+    add-dividend
     mul-twice
-    div-q
-    rem-e
-    mul-e
-    rem-e-2
-    add-e
-    mul-t
-    add-t
+    div-digit
+    rem-left
+    mul-left
+    rem-left-2
+    add-left
+    mul-guess
+    add-guess
     mul-square
     returns
     sub-t12

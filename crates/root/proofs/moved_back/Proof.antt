@@ -2,8 +2,7 @@
 -- Assumes nothing.
 use lib.Pow.{pow-pos}
 use borrow.Author.Needs.{needs}
-use Rattle.root.specs.Roots.{root-scaled}
-use Rattle.root.specs.Step.{parted-root}
+use Rattle.root.specs.Roots.{root-scaled, parted-root}
 use Rattle.root.proofs.moved_back.Statement.{statement}
 use Rattle.root.proofs.moved_back.Tie as tie
 

@@ -5,14 +5,14 @@ use Rattle.root.specs.Step.{ready}
 use Rattle.root.proofs.root_16.Statement.{statement}
 use Rattle.root.proofs.root_16.Tie as tie
 
-first-requires : tie.Need-first-requires
-first-requires c κs = search needs
+root-8-requires : tie.Need-root-8-requires
+root-8-requires c κs = search needs
 
 grow-requires : tie.Need-grow-requires
-grow-requires c κs = ready _ 8 (c .first .ensures) (omega arith) (omega arith) (omega arith) (omega arith)
+grow-requires c κs = ready _ 8 (c .root-8 .ensures) (omega arith) (omega arith) (omega arith) (omega arith)
 
 returns : tie.Need-returns
 returns c = search needs
 
 pub root-16-spec : {M : Type 1} → statement M
-root-16-spec = tie.close (tie.spec first-requires grow-requires returns)
+root-16-spec = tie.close (tie.spec root-8-requires grow-requires returns)
