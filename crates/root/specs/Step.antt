@@ -2,7 +2,7 @@
 -- which make `next`. Everything is linear in a few products. Assumes nothing.
 use mathlib.Core.Path.{_≡_, ap}
 use Prim.Native.Nat.{ℕ, zero, suc, _+_, _*_, _-_, _/_, _%_, _≤_, _<_}
-use native.Mathlib.Nat.{mul-le-mul, mul-le-mul-right, div-add-mod', mod-lt, div-lt-iff-lt-mul, not-suc-le-zero}
+use native.Mathlib.Nat.{mul-le-mul, mul-le-mul-right, mul-pos, div-add-mod', mod-lt, div-lt-iff-lt-mul, not-suc-le-zero}
 use native.Mathlib.Omega.{arith}
 use Rattle.root.specs.Parts.{Parted, Ready}
 use Rattle.root.specs.Roots.{side-below}
@@ -27,6 +27,10 @@ one-less n (suc t) x y e h k =
     let less : suc t - 1 ≡ t = omega arith in
     let square : (suc t - 1) * (suc t - 1) ≡ t * t = ap (λ (s : ℕ). s * s) less in
     record { whole = omega arith; small = omega arith }
+
+square-and-root : (q p : ℕ) → q * q ≤ 2 * p → 0 < p → q * q < 2 * (p + q)
+square-and-root zero p h k = omega arith
+square-and-root (suc q) p h k = omega arith
 
 abbrev dividend : (r next b : ℕ) → ℕ
 dividend r next b = r * b + next / b
@@ -76,6 +80,12 @@ module _ (s r next b : ℕ) (h : Ready s r next b) where
     omega (arith, digit-square, base-square),
   )
 
+  -- so taking one from the guess adds more to the rest than the digit's square takes off
+  pub guess-above : digit * digit < 2 * (s * b + digit)
+  guess-above =
+      let positive : 0 < s * b = mul-pos (omega arith) (omega arith) in
+      square-and-root digit (s * b) (omega (arith, digit-square, base-square)) positive
+
   -- the square of the guess, with what is left, is the new number, and the digit's square more
   squared : (s * b + digit) * (s * b + digit) + left ≡ (s * s + r) * (b * b) + next + digit * digit
   squared =
@@ -89,12 +99,7 @@ module _ (s r next b : ℕ) (h : Ready s r next b) where
   pub kept : digit * digit ≤ left → Parted ((s * s + r) * (b * b) + next) (s * b + digit) (left - digit * digit)
   kept k = record { whole = omega (arith, squared); small = omega (arith, left-below) }
 
-  -- else it is one too high, and no more
-  pub too-many : left < digit * digit → digit * digit < 2 * (s * b + digit)
-  too-many k =
-      let positive : 0 < digit = side-below 0 digit (omega arith) in
-      omega (arith, digit-square, base-square)
-
+  -- else it is one too high
   pub lowered : left < digit * digit →
       Parted ((s * s + r) * (b * b) + next) (s * b + digit - 1) (left + 2 * (s * b + digit) - 1 - digit * digit)
-  lowered k = one-less _ (s * b + digit) left (digit * digit) squared k (too-many k)
+  lowered k = one-less _ (s * b + digit) left (digit * digit) squared k guess-above

@@ -1,7 +1,7 @@
 -- `grow` meets its contract: the step's law, and its bounds. Assumes nothing.
 use native.Mathlib.Omega.{arith}
 use borrow.Author.Needs.{needs}
-use Rattle.root.specs.Step.{bounds, kept, too-many, lowered}
+use Rattle.root.specs.Step.{bounds, kept, guess-above, lowered}
 use Rattle.root.proofs.grow.Statement.{statement}
 use Rattle.root.proofs.grow.Tie as tie
 
@@ -42,10 +42,10 @@ mul-square : tie.Need-mul-square
 mul-square c = let s = c .before .before .before in record { fits = omega (arith, bounds _ _ _ _ (s .pre)) }
 
 returns : tie.Need-returns
-returns c = kept _ _ _ _ (c .before .before .before .before .pre) (c .if1 .taken)
+returns c = kept _ _ _ _ (c .before .before .before .before .pre) (omega arith)
 
 sub-t12 : tie.Need-sub-t12
-sub-t12 c = omega (arith, too-many _ _ _ _ (c .before .before .before .before .pre) (c .if1 .left))
+sub-t12 c = omega (arith, guess-above _ _ _ _ (c .before .before .before .before .pre))
 
 mul-t11 : tie.Need-mul-t11
 mul-t11 c = let s = c .before .before .before .before in record { fits = omega (arith, bounds _ _ _ _ (s .pre)) }
@@ -54,13 +54,13 @@ add-t10 : tie.Need-add-t10
 add-t10 c = let s = c .before .before .before .before in record { fits = omega (arith, bounds _ _ _ _ (s .pre)) }
 
 sub-t15 : tie.Need-sub-t15
-sub-t15 c = omega (arith, too-many _ _ _ _ (c .before .before .before .before .pre) (c .if1 .left))
+sub-t15 c = omega (arith, guess-above _ _ _ _ (c .before .before .before .before .pre))
 
 sub-t16 : tie.Need-sub-t16
-sub-t16 c = omega (arith, too-many _ _ _ _ (c .before .before .before .before .pre) (c .if1 .left))
+sub-t16 c = omega (arith, guess-above _ _ _ _ (c .before .before .before .before .pre))
 
 returns-2 : tie.Need-returns-2
-returns-2 c = lowered _ _ _ _ (c .before .before .before .before .pre) (c .if1 .left)
+returns-2 c = lowered _ _ _ _ (c .before .before .before .before .pre) (omega arith)
 
 pub grow-spec : {M : Type 1} → statement M
 grow-spec =
