@@ -1,18 +1,15 @@
 -- The root and its remainder: the root's square is not above the number, the next square is, and no other number is so.
 -- Assumes nothing.
-use mathlib.Core.Path.{_≡_, refl, sym, ap}
+use mathlib.Core.Path.{_≡_, refl, ap, _∙_}
 use mathlib.Core.Bool.{Bool, true, false}
 use Prim.Native.Nat.{ℕ, zero, suc, _+_, _*_, _-_, _/_, _≤_, _<_}
-use native.Mathlib.Nat.{mul-le-mul, lt-of-not-le, not-le-of-lt, le-of-mul-le-mul-right, lt-of-mul-lt-mul-right, div-mul-le-self, lt-div-mul-add, mul-pos}
+use native.Mathlib.Nat.{mul-le-mul, mul-pos, lt-of-not-le, not-le-of-lt}
+use native.Mathlib.Nat.{le-of-mul-le-mul-right, lt-of-mul-lt-mul-right, div-mul-le-self, lt-div-mul-add}
 use native.Mathlib.Omega.{arith}
 use lib.Dec.{leb}
 use borrow.Author.Tests.{leb-true, leb-false}
 use Rattle.rules.specs.Root.{rootUpTo, root, remainder}
-
--- s is the greatest whole number whose square is not above n
-pub record IsRoot (n s : ℕ) : Type 0 where
-  pub at-most : s * s ≤ n
-  pub above : n < (s + 1) * (s + 1)
+use Rattle.root.specs.Parts.{IsRoot, Parted}
 
 -- the lesser square has the lesser side
 pub side-below : (s t : ℕ) → s * s < t * t → s < t
@@ -73,3 +70,17 @@ root-scaled n p s pos h =
     let c : (q * q) * (p * p) ≤ n * (p * p) = omega (arith, h .at-most) in
     let d : n * (p * p) < ((q + 1) * (q + 1)) * (p * p) = omega (arith, h .above) in
     record { at-most = le-of-mul-le-mul-right c (mul-pos pos pos); above = lt-of-mul-lt-mul-right (p * p) d }
+
+-- a square with a rest that is too little for the next square shows the root
+pub parted-root : {n s r : ℕ} → Parted n s r → IsRoot n s
+parted-root h = record { at-most = omega arith; above = omega arith }
+
+-- so s is the root, and r the remainder
+pub parted-is : {n s r : ℕ} → Parted n s r →
+    ((s * s ≤ n) × (n < (s + 1) * (s + 1)) × (r ≡ n - s * s)) × ((s ≡ root n) × (r ≡ remainder n))
+unfolding remainder
+parted-is {n} {s} {r} h =
+    let is-root = parted-root h in
+    let same : s ≡ root n = root-only n s (is-root .at-most) (is-root .above) in
+    let left : r ≡ n - s * s = omega arith in
+    ((is-root .at-most, is-root .above, left), (same, left ∙ ap (λ (t : ℕ). n - t * t) same))

@@ -1,45 +1,19 @@
--- Zimmermann's step: from the root and the rest of a number to those of the number with two more digits of base b.
--- Assumes nothing.
-use mathlib.Core.Path.{_≡_, ap, _∙_}
+-- Zimmermann's step: from the root s and the rest r of a number to those of that number with two more digits of base b,
+-- which make `next`. Everything is linear in a few products. Assumes nothing.
+use mathlib.Core.Path.{_≡_, ap}
 use Prim.Native.Nat.{ℕ, zero, suc, _+_, _*_, _-_, _/_, _%_, _≤_, _<_}
-use native.Mathlib.Nat.{mul-le-mul, mul-le-mul-right, div-add-mod', mod-lt, div-lt-iff-lt-mul, not-suc-le-zero}
+use native.Mathlib.Nat.{mul-le-mul, mul-le-mul-right, mul-pos, div-add-mod', mod-lt, div-lt-iff-lt-mul, not-suc-le-zero}
 use native.Mathlib.Omega.{arith}
-use Rattle.rules.specs.Root.{root, remainder}
-use Rattle.root.specs.Roots.{IsRoot, side-below, root-only}
-
--- n is the square of s and r more, too little for the next square
-pub record Parted (n s r : ℕ) : Type 0 where
-  pub whole : s * s + r ≡ n
-  pub small : r ≤ 2 * s
-
-pub parted-root : {n s r : ℕ} → Parted n s r → IsRoot n s
-parted-root h = record { at-most = omega arith; above = omega arith }
-
--- so s is the root, and r the remainder
-pub parted-is : {n s r : ℕ} → Parted n s r →
-    ((s * s ≤ n) × (n < (s + 1) * (s + 1)) × (r ≡ n - s * s)) × ((s ≡ root n) × (r ≡ remainder n))
-unfolding remainder
-parted-is {n} {s} {r} h =
-    let is-root = parted-root h in
-    let same : s ≡ root n = root-only n s (is-root .at-most) (is-root .above) in
-    let left : r ≡ n - s * s = omega arith in
-    ((is-root .at-most, is-root .above, left), (same, left ∙ ap (λ (t : ℕ). n - t * t) same))
+use Rattle.root.specs.Parts.{Parted, Ready}
+use Rattle.root.specs.Roots.{side-below}
 
 -- a number between two squares has its root between their sides
-pub parted-between : {n s r : ℕ} (low high : ℕ) → Parted n s r → low * low ≤ n → n < high * high → (low ≤ s) × (s < high)
+parted-between : {n s r : ℕ} (low high : ℕ) → Parted n s r → low * low ≤ n → n < high * high → (low ≤ s) × (s < high)
 parted-between {n} {s} {r} low high h a b =
     let above : low < s + 1 = side-below low (s + 1) (omega arith) in
     (omega arith, side-below s high (omega arith))
 
--- what the step asks: r is a rest of s, s is at least half of b, and the products fit 64 bits
-pub record Ready (s r next b : ℕ) : Type 0 where
-  pub rest : r ≤ 2 * s
-  pub half : b ≤ 2 * s
-  pub fewer : s < b
-  pub bits : b ≤ 65536
-  pub digits : next < b * b
-
--- a number of the upper three quarters of those below b * b is ready, b twice a
+-- a number from b * b / 4 to below b * b, with b twice a, is ready
 pub ready : {n s r : ℕ} (next a : ℕ) → Parted n s r → a * a ≤ n → n < 2 * a * (2 * a) → 2 * a ≤ 65536 →
     next < 2 * a * (2 * a) → Ready s r next (2 * a)
 ready {n} {s} {r} next a h low high bits digits =
@@ -53,6 +27,10 @@ one-less n (suc t) x y e h k =
     let less : suc t - 1 ≡ t = omega arith in
     let square : (suc t - 1) * (suc t - 1) ≡ t * t = ap (λ (s : ℕ). s * s) less in
     record { whole = omega arith; small = omega arith }
+
+square-and-root : (q p : ℕ) → q * q ≤ 2 * p → 0 < p → q * q < 2 * (p + q)
+square-and-root zero p h k = omega arith
+square-and-root (suc q) p h k = omega arith
 
 abbrev dividend : (r next b : ℕ) → ℕ
 dividend r next b = r * b + next / b
@@ -102,7 +80,13 @@ module _ (s r next b : ℕ) (h : Ready s r next b) where
     omega (arith, digit-square, base-square),
   )
 
-  -- the square of the new root, with what is left, is the new number, and the digit's square more
+  -- so taking one from the guess adds more to the rest than the digit's square takes off
+  pub guess-above : digit * digit < 2 * (s * b + digit)
+  guess-above =
+      let positive : 0 < s * b = mul-pos (omega arith) (omega arith) in
+      square-and-root digit (s * b) (omega (arith, digit-square, base-square)) positive
+
+  -- the square of the guess, with what is left, is the new number, and the digit's square more
   squared : (s * b + digit) * (s * b + digit) + left ≡ (s * s + r) * (b * b) + next + digit * digit
   squared =
       let n : next / b * b + next % b ≡ next = div-add-mod' next b in
@@ -111,14 +95,11 @@ module _ (s r next b : ℕ) (h : Ready s r next b) where
       let e : (digit * (2 * s) + dividend r next b % (2 * s)) * b ≡ dividend r next b * b = ap (λ (x : ℕ). x * b) d in
       omega arith
 
+  -- the guess is the root where the digit's square is not above what is left
   pub kept : digit * digit ≤ left → Parted ((s * s + r) * (b * b) + next) (s * b + digit) (left - digit * digit)
   kept k = record { whole = omega (arith, squared); small = omega (arith, left-below) }
 
-  pub too-many : left < digit * digit → digit * digit < 2 * (s * b + digit)
-  too-many k =
-      let positive : 0 < digit = side-below 0 digit (omega arith) in
-      omega (arith, digit-square, base-square)
-
+  -- else it is one too high
   pub lowered : left < digit * digit →
       Parted ((s * s + r) * (b * b) + next) (s * b + digit - 1) (left + 2 * (s * b + digit) - 1 - digit * digit)
-  lowered k = one-less _ (s * b + digit) left (digit * digit) squared k (too-many k)
+  lowered k = one-less _ (s * b + digit) left (digit * digit) squared k guess-above

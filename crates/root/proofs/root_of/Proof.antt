@@ -1,56 +1,79 @@
 -- `root_of` meets its contract: 0 is its own root, and else the root of n moved up is moved back. Assumes nothing.
-use Prim.Native.Nat.{_<_}
 use native.Mathlib.Omega.{arith}
-use Rattle.root.specs.Step.{parted-is}
-use Rattle.root.proofs.Shift.{half-below, is-full, moved-back}
+use borrow.Author.Needs.{needs}
+use Rattle.root.specs.Roots.{parted-is}
 use Rattle.root.proofs.root_of.Statement.{statement}
 use Rattle.root.proofs.root_of.Tie as tie
-
-positive : (c : tie.Else1) → 0 < c .before .args .n
-positive c = omega arith
 
 returns : tie.Need-returns
 returns c = parted-is {s = 0} {r = 0} (record { whole = omega arith; small = omega arith })
 
-mul-root-of-full : tie.Need-mul-root-of-full
-mul-root-of-full c = let s = c .before in
-    record { fits = omega (arith, half-below (s .args .n) (positive c) (s .fits .n .fits)) }
+moved-up-requires : tie.Need-moved-up-requires
+moved-up-requires c κs = search needs
 
-cast-root-of-full : tie.Need-cast-root-of-full
-cast-root-of-full c = let s = c .before in
-    record { fits = omega (arith, half-below (s .args .n) (positive c) (s .fits .n .fits)) }
+root-8-requires : tie.Need-root-8-requires
+root-8-requires c κs = search needs
 
-shl-root-of-full : tie.Need-shl-root-of-full
-shl-root-of-full c = let s = c .before in omega (arith, half-below (s .args .n) (positive c) (s .fits .n .fits))
-
-root-of-full-requires : tie.Need-root-of-full-requires
-root-of-full-requires c κs = let s = c .before in is-full (s .args .n) (positive c) (s .fits .n .fits)
-
-cast-s : tie.Need-cast-s
-cast-s c = let s = c .before .before in
-    record { fits = omega (arith, half-below (s .args .n) (positive (c .before)) (s .fits .n .fits)) }
-
-shr-s : tie.Need-shr-s
-shr-s c = let s = c .before .before in
-    omega (arith, half-below (s .args .n) (positive (c .before)) (s .fits .n .fits))
-
-with-rest-requires : tie.Need-with-rest-requires
-with-rest-requires c κs = let s = c .before .before in
-    moved-back (s .args .n) (positive (c .before)) (s .fits .n .fits) (c .root-of-full .result) (c .root-of-full .ensures)
+moved-back-requires : tie.Need-moved-back-requires
+moved-back-requires c κs = search needs
 
 returns-2 : tie.Need-returns-2
-returns-2 c = parted-is (c .with-rest .ensures)
+returns-2 c = parted-is (c .moved-back .ensures)
+
+moved-up-requires-2 : tie.Need-moved-up-requires-2
+moved-up-requires-2 c κs = search needs
+
+root-16-requires : tie.Need-root-16-requires
+root-16-requires c κs = search needs
+
+moved-back-requires-2 : tie.Need-moved-back-requires-2
+moved-back-requires-2 c κs = search needs
+
+returns-3 : tie.Need-returns-3
+returns-3 c = parted-is (c .moved-back2 .ensures)
+
+moved-up-requires-3 : tie.Need-moved-up-requires-3
+moved-up-requires-3 c κs = search needs
+
+root-32-requires : tie.Need-root-32-requires
+root-32-requires c κs = search needs
+
+moved-back-requires-3 : tie.Need-moved-back-requires-3
+moved-back-requires-3 c κs = search needs
+
+returns-4 : tie.Need-returns-4
+returns-4 c = parted-is (c .moved-back3 .ensures)
+
+moved-up-requires-4 : tie.Need-moved-up-requires-4
+moved-up-requires-4 c κs = search needs
+
+root-64-requires : tie.Need-root-64-requires
+root-64-requires c κs = search needs
+
+moved-back-requires-4 : tie.Need-moved-back-requires-4
+moved-back-requires-4 c κs = search needs
+
+returns-5 : tie.Need-returns-5
+returns-5 c = parted-is (c .moved-back4 .ensures)
 
 pub root-of-spec : {M : Type 1} → statement M
 root-of-spec =
     tie.close
     (tie.spec
     returns
-    mul-root-of-full
-    cast-root-of-full
-    shl-root-of-full
-    root-of-full-requires
-    cast-s
-    shr-s
-    with-rest-requires
-    returns-2)
+    moved-up-requires
+    root-8-requires
+    moved-back-requires
+    returns-2
+    moved-up-requires-2
+    root-16-requires
+    moved-back-requires-2
+    returns-3
+    moved-up-requires-3
+    root-32-requires
+    moved-back-requires-3
+    returns-4
+    moved-up-requires-4
+    root-64-requires
+    moved-back-requires-4
+    returns-5)
