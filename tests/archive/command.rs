@@ -353,8 +353,8 @@ fn two_rows_of_equal_score() {
     let rows = [1, 1, 0, 0, 2, 1, 0, 0];
     let field = folder.file("FIELD.TAB", &strict(1, &rows));
     let trim = folder.file("TRIM.TAB", &strict(2, &rows));
-    let listing = "     2     1     0\n     1     2     1     1           0\n\
-                   \x20    2     2     2     1           0\n     2     1           2\n";
+    let listing = "     2     1     0\n     1     2     1     1       0       0\n\
+                   \x20    2     2     2     1       0       0\n     2     1           2\n";
     let output = pair(&field, &trim, &numbers(query(2, 1, 0).into()));
     assert_listed(&output, listing.as_bytes(), "equal sums");
 }
