@@ -24,7 +24,7 @@ fn with_rest(n: u64, s: u64) -> Root
 
 // s + by if its square is not above m, else s. The root of m was known to within twice `by`, and now is to within `by`.
 fn raised(s: u64, by: u64, m: u64) -> u64
-    requires { ⌜ (s ≤ 16) × (by ≤ 4) × (s * s ≤ m) × (m < (s + 2 * by) * (s + 2 * by)) ⌝ }
+    requires { ⌜ (s ≤ 16) × (by ≤ 8) × (s * s ≤ m) × (m < (s + 2 * by) * (s + 2 * by)) ⌝ }
     ensures { λ r. ⌜ (r ≤ s + by) × (r * r ≤ m) × (m < (r + by) * (r + by)) ⌝ }
 {
     if (s + by) * (s + by) <= m {
@@ -58,12 +58,20 @@ fn grow(x: Root, next: u64, b: u64) -> Root
     }
 }
 
+// The root of a number of 8 bits by trial, where it is s to s + 7.
+fn tried(s: u64, m: u64) -> Root
+    requires { ⌜ (s ≤ 8) × (s * s ≤ m) × (m < (s + 8) * (s + 8)) ⌝ }
+    ensures { λ r. ⌜ Parted m (r .root) (r .rest) ⌝ }
+{
+    with_rest(m, raised(raised(raised(s, 4, m), 2, m), 1, m))
+}
+
 // The root of a number of 8 bits, of 16, of 32 and of 64, the top two of them not both 0.
 fn root_8(m: u64) -> Root
     requires { ⌜ (2 ^ 6 ≤ m) × (m < 2 ^ 8) ⌝ }
     ensures { λ r. ⌜ Parted m (r .root) (r .rest) ⌝ }
 {
-    with_rest(m, raised(raised(raised(8, 4, m), 2, m), 1, m))
+    tried(8, m)
 }
 
 fn root_16(m: u64) -> Root
@@ -118,12 +126,8 @@ pub fn root_of(n: u64) -> Root
         × (r .rest ≡ n - r .root * r .root) ⌝ }
     ensures { λ r. ⌜ (r .root ≡ root n) × (r .rest ≡ remainder n) ⌝ }
 {
-    if n == 0 {
-        return Root { root: 0, rest: 0 };
-    }
     if n < 256 {
-        let up = moved_up(n, 56);
-        return moved_back(n, root_8(up.number), up.by);
+        return tried(raised(0, 8, n), n);
     }
     if n < 65536 {
         let up = moved_up(n, 48);

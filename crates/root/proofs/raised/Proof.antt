@@ -14,8 +14,8 @@ add-if1-2 c = search needs
 
 mul-if1 : tie.Need-mul-if1
 mul-if1 c =
-    let few : c .args .s + c .args .by ≤ 20 = omega arith in
-    record { fits = omega (arith, mul-le-mul {n₂ = 20} {m₂ = 20} few few) }
+    let few : c .args .s + c .args .by ≤ 24 = omega arith in
+    record { fits = omega (arith, mul-le-mul {n₂ = 24} {m₂ = 24} few few) }
 
 add-result : tie.Need-add-result
 add-result c = search needs
