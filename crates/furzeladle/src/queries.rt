@@ -1,6 +1,6 @@
 // One whole query over two lent tables of up to 65,535 rows.
 ghost use mathlib.Core.Path.{_≡_};
-ghost use Rattle.whole_query.specs.Numbers.{lentQueryAnswer, lentQueryNumbers, lentListingAnswer, lentListingBytes};
+ghost use Rattle.whole_query.specs.Asked.{lentQueryAnswer, lentQueryNumbers, lentListingAnswer, lentListingBytes};
 
 // `query` holds k, block and radius. From the front `out` gets the field rows read, the trim rows read, the block pairs
 // joined, then six numbers a pair: sum, field row, trim row, their pattern numbers, squared distance. Who lends 515 or

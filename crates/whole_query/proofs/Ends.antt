@@ -16,7 +16,7 @@ use Rattle.record_layout.specs.Flat.{querySize, queryIn}
 use Rattle.answers.specs.Refusals.{open-refusal, read-refusal}
 use Rattle.run_query.specs.declared.Outcome.{Outcome}
 use Rattle.run_query.specs.Outcomes.{readCode, queryOutcome, opening-code, OutcomeOf, is-outcome}
-use Rattle.whole_query.specs.Numbers.{askedCode, asked, writtenUnless}
+use Rattle.whole_query.specs.Asked.{askedCode, asked, writtenUnless}
 
 -- the code's checks, of the outcome that it has
 abbrev pub checks : ℕ → List ℕ → ℕ → Outcome → List ℕ

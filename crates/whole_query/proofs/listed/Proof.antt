@@ -9,7 +9,7 @@ use Rattle.rules.specs.declared.Query.{Query}
 use Rattle.rules.specs.Query.{listing}
 use Rattle.printing.specs.Put.{putAt}
 use Rattle.listing.specs.Shown.{listingRoom}
-use Rattle.whole_query.specs.Numbers.{lentListingAnswer, lentListingBytes}
+use Rattle.whole_query.specs.Asked.{lentListingAnswer, lentListingBytes}
 use Rattle.whole_query.proofs.Ends.{Asking, outcome-is, code-refusal, has-room, refused, found}
 use Rattle.whole_query.proofs.listed.Statement.{statement}
 use Rattle.whole_query.proofs.listed.Tie as tie

@@ -8,7 +8,8 @@ use borrow.Author.Needs.{needs, sfits-of}
 use Rattle.rules.specs.declared.Query.{Query}
 use Rattle.rules.specs.Query.{list}
 use Rattle.listing.specs.ListShown.{counted, count-few}
-use Rattle.whole_query.specs.Numbers.{queryRoom, answered, lentQueryAnswer, lentQueryNumbers}
+use Rattle.whole_query.specs.Asked.{lentQueryAnswer, lentQueryNumbers}
+use Rattle.query_numbers.specs.Answers.{queryRoom, answered}
 use Rattle.whole_query.proofs.Ends.{Asking, outcome-is, code-refusal, has-room, refused, found}
 use Rattle.whole_query.proofs.whole.Statement.{statement}
 use Rattle.whole_query.proofs.whole.Tie as tie

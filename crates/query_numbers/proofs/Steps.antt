@@ -16,9 +16,9 @@ use Rattle.printing.specs.Laid.{laid}
 use Rattle.run_query.specs.declared.Outcome.{Outcome}
 use Rattle.run_query.specs.Outcomes.{queryOutcome, OutcomeOf}
 use Rattle.listing.specs.Shown.{lineOf}
-use Rattle.whole_query.specs.Numbers.{headLength, queryRoom, rootsRoom, pairNumbers, rootNumbers, listNumbers}
-use Rattle.whole_query.specs.Numbers.{listRoots, headNumbers, queryNumbers, answered}
-use Rattle.whole_query.specs.Parts.{partLength, partNumbers, part-length, listParts}
+use Rattle.query_numbers.specs.Answers.{headLength, queryRoom, rootsRoom, pairNumbers, rootNumbers, listNumbers}
+use Rattle.query_numbers.specs.Answers.{listRoots, headNumbers, queryNumbers, answered}
+use Rattle.query_numbers.specs.Parts.{partLength, partNumbers, part-length, listParts}
 
 -- a number, then others
 pub then-one : (at x y : ℕ) (b l : List ℕ) → putAt at (x ∷ y ∷ b) l ≡ putAt (at + 1) (y ∷ b) (putAt at (x ∷ []) l)

@@ -9,7 +9,7 @@ use Rattle.lists.specs.Lists.{each}
 use Rattle.rules.specs.declared.Pair.{Pair}
 use Rattle.rules.specs.declared.Query.{Query}
 use Rattle.rules.specs.Query.{list}
-use Rattle.whole_query.specs.Numbers.{pairLength, rootLength, pairNumbers, rootNumbers}
+use Rattle.query_numbers.specs.Answers.{pairLength, rootLength, pairNumbers, rootNumbers}
 
 abbrev pub partLength : Bool → ℕ
 partLength roots = cond roots rootLength pairLength

@@ -5,10 +5,10 @@ use Prim.Native.Nat.{_+_, _≤_}
 use lib.ListN.{length}
 use Rattle.printing.specs.Put.{putAt}
 use Rattle.listing.specs.Shown.{Shown}
-use Rattle.whole_query.specs.Parts.{partLength, partNumbers}
+use Rattle.query_numbers.specs.Parts.{partLength, partNumbers}
 use borrow.Author.Needs.{needs}
-use Rattle.whole_query.proofs.put_part.Statement.{statement}
-use Rattle.whole_query.proofs.put_part.Tie as tie
+use Rattle.query_numbers.proofs.put_part.Statement.{statement}
+use Rattle.query_numbers.proofs.put_part.Tie as tie
 
 put-root-requires : tie.Need-put-root-requires
 put-root-requires c κs =

@@ -1,8 +1,8 @@
 -- `put_root` meets its contract. Assumes nothing.
-use Rattle.whole_query.proofs.Steps.{roots-put}
+use Rattle.query_numbers.proofs.Steps.{roots-put}
 use borrow.Author.Needs.{needs}
-use Rattle.whole_query.proofs.put_root.Statement.{statement}
-use Rattle.whole_query.proofs.put_root.Tie as tie
+use Rattle.query_numbers.proofs.put_root.Statement.{statement}
+use Rattle.query_numbers.proofs.put_root.Tie as tie
 
 add-b : tie.Need-add-b
 add-b c = search needs

@@ -2,10 +2,10 @@
 use lib.ListN.{length}
 use borrow.Author.Needs.{needs}
 use borrow.Author.Tests.{leb-true}
-use Rattle.whole_query.specs.Numbers.{rootsRoom}
-use Rattle.whole_query.proofs.Steps.{answered-roots, answered-numbers}
-use Rattle.whole_query.proofs.put_numbers.Statement.{statement}
-use Rattle.whole_query.proofs.put_numbers.Tie as tie
+use Rattle.query_numbers.specs.Answers.{rootsRoom}
+use Rattle.query_numbers.proofs.Steps.{answered-roots, answered-numbers}
+use Rattle.query_numbers.proofs.put_numbers.Statement.{statement}
+use Rattle.query_numbers.proofs.put_numbers.Tie as tie
 
 cast-field : tie.Need-cast-field
 cast-field c = search needs

@@ -14,10 +14,10 @@ use Rattle.rules.specs.Query.{list}
 use Rattle.printing.specs.Put.{putAt}
 use Rattle.printing.specs.Laid.{Writing, writing-starts, writing-on, writing-ends}
 use Rattle.listing.specs.ListShown.{counted, count-few, pair-at}
-use Rattle.whole_query.specs.Parts.{partLength}
-use Rattle.whole_query.proofs.Steps.{partAt, partAt-length, parts-laid}
-use Rattle.whole_query.proofs.put_parts.Statement.{statement}
-use Rattle.whole_query.proofs.put_parts.Tie as tie
+use Rattle.query_numbers.specs.Parts.{partLength}
+use Rattle.query_numbers.proofs.Steps.{partAt, partAt-length, parts-laid}
+use Rattle.query_numbers.proofs.put_parts.Statement.{statement}
+use Rattle.query_numbers.proofs.put_parts.Tie as tie
 
 abbrev Inv-loop : tie.InvT-loop
 Inv-loop roots wide out₀ at f t run i₀ out i =
