@@ -93,10 +93,11 @@ loop-again c =
     let t = s .args .t .now in
     let run = s .args .t7 in
     let p = pair-at f t run (s .pre .1) (l .i) (at .loop-test .taken) in
+    let o = s .args .at + s .args .wide * l .i in
     let put-is =
-    put .ensures
-    ∙ ap (λ (x : Pair). putAt (s .args .at + s .args .wide * l .i) (partAt (s .args .roots) f t (l .i) x) (l .out)) (p .same) in
-    (l .inv .0, writing-on (wide-is (s .args .roots) f t (s .args .wide) (s .pre .0 .0)) (l .inv .1) (p .within) noPair (put .last .1 .0) put-is)
+    put .ensures ∙ ap (λ (x : Pair). putAt o (partAt (s .args .roots) f t (l .i) x) (l .out)) (p .same) in
+    let wide = wide-is (s .args .roots) f t (s .args .wide) (s .pre .0 .0) in
+    (l .inv .0, writing-on wide (l .inv .1) (p .within) noPair (put .last .1 .0) put-is)
 
 same-length : tie.Need-same-length Inv-loop μ-loop
 same-length c = c .before .loop .inv .1 .kept
@@ -111,7 +112,8 @@ returns c =
     let all = list (run .query) f t in
     let done : length all ≤ l .i = omega (arith, c .loop-test .left, counted f t run (s .pre .1)) in
     writing-ends (wide-is (s .args .roots) f t (s .args .wide) (s .pre .0 .0)) (l .inv .1) done
-    ∙ ap (λ (b : List ℕ). putAt (s .args .at) b (s .args .out .now)) (sym (parts-laid (s .args .roots) f t (run .query)))
+    ∙ ap (λ (b : List ℕ). putAt (s .args .at) b (s .args .out .now))
+    (sym (parts-laid (s .args .roots) f t (run .query)))
 
 pub put-parts-spec : {M : Type 1} → statement M
 put-parts-spec =

@@ -44,7 +44,8 @@ returns c =
     let f = s .f .now in
     let t = s .t .now in
     let end =
-    refused (asked at) (λ (q : Query). length (listing q f t)) (λ (q : Query). putAt 0 (listing q f t) (s .out .now)) (s .out .now)
+    refused (asked at) (λ (q : Query). length (listing q f t))
+    (λ (q : Query). putAt 0 (listing q f t) (s .out .now)) (s .out .now)
     (c .before .if1 .taken) in
     (toZ-ofZ {w = w32} {z = c .minus .result} (sfits-of (c .minus .ok)) ∙ c .minus .ensures ∙ end .0, end .1)
 
@@ -67,7 +68,8 @@ returns-2 c =
     let f = s .f .now in
     let t = s .t .now in
     let end =
-    found (asked (if .before)) (λ (q : Query). length (listing q f t)) (λ (q : Query). putAt 0 (listing q f t) (s .out .now)) (s .out .now)
+    found (asked (if .before)) (λ (q : Query). length (listing q f t))
+    (λ (q : Query). putAt 0 (listing q f t) (s .out .now)) (s .out .now)
     (if .if1 .left) (put .result) (put .last .0) (put .ensures .0 .1) (put .ensures .1) in
     (toZ-pos w32 {n = put .result} (omega (arith, put .ensures .0 .0)) ∙ end .0, end .1)
 

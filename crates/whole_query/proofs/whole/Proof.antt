@@ -73,7 +73,8 @@ returns-2 c =
     let run = if .before .before .run .result in
     let ran = outcome-is (asked (if .before)) in
     let end =
-    found (asked (if .before)) (λ (q : Query). length (list q f t)) (λ (q : Query). answered q f t (s .out .now)) (s .out .now)
+    found (asked (if .before)) (λ (q : Query). length (list q f t))
+    (λ (q : Query). answered q f t (s .out .now)) (s .out .now)
     (if .if1 .left) (run .count) (put .last .0) (counted f t run ran) (put .ensures) in
     (toZ-pos w32 {n = run .count} (omega (arith, count-few f t run ran)) ∙ end .0, end .1)
 
