@@ -3,7 +3,6 @@ use rules::Answer;
 use rules::Counts;
 use rules::FieldRows;
 use rules::FieldWeight;
-use rules::Pair;
 use rules::Query;
 use rules::Session;
 use rules::Step;
@@ -36,11 +35,6 @@ fn open_code(q: Query, f: &[i32], t: &[i32]) -> u32
 fn fresh(q: Query, m: FieldRows, n: TrimRows) -> Session
     ensures { λ r. ⌜ r ≡ opened q m n ⌝ }
 {
-    let z = Pair {
-        sum: 0,
-        field: 0,
-        trim: 0,
-    };
     let rows = Counts { field: m, trim: n };
     let depth = Counts {
         field: FieldRows(0),
@@ -53,7 +47,7 @@ fn fresh(q: Query, m: FieldRows, n: TrimRows) -> Session
         last: 0,
         out: 0,
         held: 0,
-        pairs: [z; 64],
+        pairs: [rules::NO_PAIR; 64],
         joined: 0,
     }
 }

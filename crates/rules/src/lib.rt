@@ -91,6 +91,13 @@ pub struct Pair {
     pub trim: u32,
 }
 
+// A pair place that holds none.
+pub const NO_PAIR: Pair = Pair {
+    sum: 0,
+    field: 0,
+    trim: 0,
+};
+
 // The session's record: a value that goes in and comes back.
 pub struct Session {
     pub query: Query,

@@ -1,7 +1,6 @@
 // Take: the next pair out of a session over two lent tables. The record is a value that goes in and comes back;
 // whatever comes in is checked.
 use rules::Answer;
-use rules::Pair;
 use rules::Session;
 use rules::Step;
 ghost use mathlib.Core.Path.{_≡_};
@@ -86,11 +85,7 @@ pub fn take(f: &[i32], t: &[i32], s: Session) -> Step
             r.pairs[j] = q;
             j += 1;
         }
-        let z = Pair {
-            sum: 0,
-            field: 0,
-            trim: 0,
-        };
+        let z = rules::NO_PAIR;
         r.pairs[63] = z;
         r.out = r.out + 1;
         r.held = r.held - 1;
