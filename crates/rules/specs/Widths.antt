@@ -1,12 +1,12 @@
 -- What others need of the width of a row; each law holds whatever the width. Assumes nothing.
 use mathlib.Core.Path.{_≡_, ap, _∙_}
 use mathlib.Core.List.{List}
-use Prim.Native.Nat.{ℕ, suc, _+_, _*_, _/_, _%_, _≤_, _<_}
+use Prim.Native.Nat.{ℕ, _+_, _*_, _/_, _%_, _≤_, _<_}
 use native.Mathlib.Nat.{mul-le-mul-left, mul-div-le, div-add-mod, mul-div-cancel-left}
 use native.Mathlib.Omega.{arith}
 use lib.IntN.{ℤ, pos}
-use lib.ListN.{length, getD, length-take, length-drop}
-use lib.Seq.{getD-take, getD-drop}
+use lib.ListN.{length, getD, drop, length-take, length-drop}
+use lib.Seq.{getD-take, getD-drop, take-all}
 use Rattle.rules.specs.Tables.{width, num, rowCount, HasRow, HasRows, firstRows, afterRows, part}
 
 -- one row more than i rows
@@ -49,6 +49,12 @@ module _ (t : List ℤ) (a n : ℕ) where
       getD-take (width * n) (afterRows a t) (width * i + j) (pos 0) (omega (arith, next-row width i n h))
       ∙ getD-drop (width * a) t (width * i + j) (pos 0)
       ∙ ap (λ (m : ℕ). getD t m (pos 0)) e
+
+-- all rows are the table
+pub part-all : (t : List ℤ) (n : ℕ) → length t ≤ width * n → part t 0 n ≡ t
+part-all t n h =
+    let z : width * 0 ≡ 0 = omega arith in
+    ap (λ (k : ℕ). firstRows n (drop k t)) z ∙ take-all (width * n) t h
 
 -- the first n rows
 module _ (t : List ℤ) (n : ℕ) where

@@ -123,7 +123,11 @@ module _ (t : List ℤ) (n : ℕ) (fits : n ≤ rowCount t) where
   cut-legal few good =
       legal-in (firstRows n t)
       (record {
-        size = record { few = omega (arith, cut-count); whole = ap (_*_ width) cut-count ∙ sym (first-length t n (has-rows t n fits)) };
+        size =
+            record {
+              few = omega (arith, cut-count);
+              whole = ap (_*_ width) cut-count ∙ sym (first-length t n (has-rows t n fits));
+            };
         rows =
             λ i h.
             let k : i < n = omega (arith, cut-count) in
