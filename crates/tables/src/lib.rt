@@ -87,7 +87,12 @@ fn row_in_range(t: &[i32], i: usize) -> bool
     requires { ⌜ (i < mostRows) × HasRow (now t) i ⌝ }
     ensures { λ r. ⌜ r ≡ rowInRange (now (t .entry)) i ⌝ }
 {
-    in_range(number(t, i, 0), number(t, i, 1), number(t, i, 2), number(t, i, 3))
+    in_range(
+        number(t, i, 0),
+        number(t, i, 1),
+        number(t, i, 2),
+        number(t, i, 3),
+    )
 }
 
 // Whether the score of row i + 1 is at most that of the row before.
