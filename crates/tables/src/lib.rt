@@ -10,6 +10,7 @@ ghost use Rattle.rules.specs.Tables.{inRange, rowInRange, rowInOrder, natOf, ro
 ghost use Rattle.rules.specs.Numbers.{unless, first};
 ghost use Rattle.rules.specs.Calls.{rowCode, rowsCode, movedOn};
 
+// The rows of the longest table, as a length.
 const MOST_ROWS: usize = rules::MOST_ROWS as usize;
 
 // A refusal's number, unless its test passes: then 0.
