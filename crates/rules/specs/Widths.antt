@@ -40,8 +40,8 @@ module _ (t : List ℤ) (a n : ℕ) where
   pub part-length : HasRows t (a + n) → length (part t a n) ≡ width * n
   part-length h = simp (length-take, length-drop) (omega arith)
 
-  pub part-rows : HasRows t (a + n) → rowCount (part t a n) ≡ n
-  part-rows h = rows-count (part t a n) n (part-length h)
+  pub part-count : HasRows t (a + n) → rowCount (part t a n) ≡ n
+  part-count h = rows-count (part t a n) n (part-length h)
 
   pub part-num : (i j : ℕ) → i < n → j < width → num (part t a n) i j ≡ num t (a + i) j
   part-num i j h k =

@@ -5,7 +5,7 @@ use native.Mathlib.Omega.{arith}
 use lib.ListN.{take}
 use borrow.Author.Needs.{needs}
 use Rattle.rules.specs.Tables.{width, rowCount, afterRows, part}
-use Rattle.rules.specs.Widths.{part-rows}
+use Rattle.rules.specs.Widths.{part-count}
 use Rattle.tables.proofs.rows.Statement.{statement}
 use Rattle.tables.proofs.rows.Tie as tie
 
@@ -34,7 +34,7 @@ returns c =
     let long : width * s .e - width * s .a ≡ width * (s .e - s .a) = omega arith in
     let rows : take (width * s .e - width * s .a) (afterRows (s .a) t) ≡ part t (s .a) (s .e - s .a) =
     ap (λ (n : ℕ). take n (afterRows (s .a) t)) long in
-    ((rows, ap rowCount rows ∙ part-rows t (s .a) (s .e - s .a) (omega arith)), refl)
+    ((rows, ap rowCount rows ∙ part-count t (s .a) (s .e - s .a) (omega arith)), refl)
 
 pub rows-spec : {M : Type 1} → statement M
 rows-spec =
