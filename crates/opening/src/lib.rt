@@ -11,7 +11,6 @@ use rules::TrimRows;
 use rules::TrimWeight;
 use rules::Weights;
 ghost use mathlib.Core.Path.{_≡_};
-ghost use Prim.Native.Nat.{_/_};
 ghost use Rattle.rules.specs.Session.{opened, zeros};
 ghost use Rattle.rules.specs.Calls.{openCode, openCall};
 
