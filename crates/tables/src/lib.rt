@@ -40,7 +40,7 @@ pub fn row_count(t: &[i32]) -> usize
     t.len() / rules::ROW_NUMBERS
 }
 
-// Whether a slice has so many numbers to a row and at most 65,535 rows.
+// Whether a slice is of whole rows, at most 65,535.
 pub fn size_fits(t: &[i32]) -> bool
     ensures { λ r. ⌜ r ≡ sizeFits (now (t .entry)) ⌝ }
 {

@@ -29,13 +29,17 @@ row-count-requires : tie.Need-row-count-requires
 row-count-requires c κs = search needs
 
 cast-t12 : tie.Need-cast-t12
-cast-t12 c = record { fits = omega (arith, c .row-count .ensures, opening (c .before) .field .few) }
+cast-t12 c =
+    let o = opening (c .before) in
+    record { fits = omega (arith, c .row-count .ensures, o .field .few, o .trim .few) }
 
 row-count-requires-2 : tie.Need-row-count-requires-2
 row-count-requires-2 c κs = search needs
 
 cast-t12-2 : tie.Need-cast-t12-2
-cast-t12-2 c = record { fits = omega (arith, c .row-count2 .ensures, opening (c .before .before) .trim .few) }
+cast-t12-2 c =
+    let o = opening (c .before .before) in
+    record { fits = omega (arith, c .row-count2 .ensures, o .field .few, o .trim .few) }
 
 fresh-requires : tie.Need-fresh-requires
 fresh-requires c κs = search needs
