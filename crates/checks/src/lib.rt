@@ -7,15 +7,12 @@ use rules::Session;
 ghost use mathlib.Core.Path.{_≡_};
 ghost use mathlib.Core.Bool.{true, cond};
 ghost use Prim.Native.Nat.{_+_, _*_, _-_, _≤_, _<_, _/_, _%_};
-ghost use Rattle.rules.specs.Tables.{mostRows, sizeFits};
+ghost use Rattle.rules.specs.Tables.{mostRows};
 ghost use Rattle.rules.specs.Read.{blockCount};
 ghost use Rattle.rules.specs.Numbers.{weightRange, unless};
 ghost use Rattle.rules.specs.Calls.{between, queryCode, countsFit, isZeros, recordFits, sameSizeCode};
 ghost use Rattle.checks.specs.Grounds.{Shallow, pairWithin, markOf, numbersFit, placeKey};
 ghost use Rattle.checks.specs.Codes.{DepthsFit, lentOf, callOf};
-
-// The rows of the longest table, as a length.
-const MOST_ROWS: usize = rules::MOST_ROWS as usize;
 
 // 12 where a weight is outside 1 to 9.
 fn weight_code(weight: u32) -> u32
@@ -166,19 +163,12 @@ pub fn fits(s: Session) -> bool
     fits
 }
 
-// Whether a slice has four numbers to a row and at most 65,535 rows.
-pub fn size_fits(t: &[i32]) -> bool
-    ensures { λ r. ⌜ r ≡ sizeFits (now (t .entry)) ⌝ }
-{
-    (t.len() % 4 == 0) & (t.len() / 4 <= MOST_ROWS)
-}
-
 // 4 where a slice is not of the row count at opening.
 fn same_size_code(rows: u32, t: &[i32]) -> u32
     ensures { λ r. ⌜ r ≡ sameSizeCode rows (now (t .entry)) ⌝ }
 {
-    let same = t.len() / 4 == rows as usize;
-    tables::unless(size_fits(t) & same, rules::TABLE_SIZE)
+    let same = tables::row_count(t) == rows as usize;
+    tables::unless(tables::size_fits(t) & same, rules::TABLE_SIZE)
 }
 
 // 5, unless the record passed it, then 4 of either table.

@@ -10,7 +10,6 @@ use rules::TrimRows;
 use rules::TrimWeight;
 use rules::Weights;
 ghost use mathlib.Core.Path.{_≡_};
-ghost use Prim.Native.Nat.{_/_};
 ghost use Rattle.rules.specs.Session.{opened, zeros};
 ghost use Rattle.rules.specs.Calls.{openCode, openCall};
 
@@ -22,10 +21,10 @@ fn open_code(q: Query, f: &[i32], t: &[i32]) -> u32
     if code != 0 {
         return code;
     }
-    if !checks::size_fits(f) {
+    if !tables::size_fits(f) {
         return 4;
     }
-    if !checks::size_fits(t) {
+    if !tables::size_fits(t) {
         return 4;
     }
     0
@@ -81,8 +80,8 @@ pub fn start(q: Query, f: &[i32], t: &[i32]) -> Step
             session: s,
         };
     }
-    let m = FieldRows((f.len() / 4) as u32);
-    let n = TrimRows((t.len() / 4) as u32);
+    let m = FieldRows(tables::row_count(f) as u32);
+    let n = TrimRows(tables::row_count(t) as u32);
     let s = fresh(q, m, n);
     Step {
         answer: Answer::Opened,

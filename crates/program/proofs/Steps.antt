@@ -8,7 +8,7 @@ use denote.Enum.Declared.{tagOf}
 use types.Run.{OneOf}
 use lib.Dec.{leb, ltb, eqb}
 use lib.IntN.{ℤ, pos}
-use lib.ListN.{length, take, drop}
+use lib.ListN.{length, drop}
 use lib.Seq.{take-at}
 use borrow.Author.Tests.{le-ltb}
 use Rattle.lists.specs.Bools.{all-out}
@@ -16,7 +16,8 @@ use Rattle.rules.proofs.Loaded as Loads
 use Rattle.rules.specs.declared.Loaded.{Loaded}
 use Rattle.rules.specs.declared.Loaded.the-variants.{Rows, Unfit}
 use Rattle.rules.specs.declared.Query.{Query}
-use Rattle.rules.specs.Tables.{mostRows, natOf}
+use Rattle.rules.specs.Tables.{mostRows, natOf, width, HasRows, firstRows, afterRows}
+use Rattle.rules.specs.Widths.{rows-less}
 use Rattle.rules.specs.Numbers.{badColumn, saidOf, refusal}
 use Rattle.rules.specs.File.{columns, columnFits, columnNumber, endsLine, fileTable, checkFile, andSlice, loadedInto}
 use Rattle.rules.specs.File.{loadAnswer}
@@ -30,9 +31,9 @@ use Rattle.file_laws.specs.Sizes.{Told}
 use Rattle.printing.specs.Put.{put-front}
 use Rattle.listing.specs.Shown.{listingRoom}
 use Rattle.program.specs.declared.Input.{Input}
-use Rattle.program.specs.Program.{Written, orRefusal, refusal-none, refusal-some, tableRoom, programFile}
-use Rattle.program.specs.Program.{program-code, program-rows, program-told, evenly, inputHeld, inputBytes}
-use Rattle.program.specs.Program.{whole-is}
+use Rattle.program.specs.Program.{Written, orRefusal, refusal-none, refusal-some, tableRows, tableRoom}
+use Rattle.program.specs.Program.{programFile, program-code, program-rows, program-told, evenly, inputHeld}
+use Rattle.program.specs.Program.{inputBytes, whole-is}
 
 -- ---- A file
 
@@ -52,22 +53,23 @@ module _ (bytes : List ℕ) (kind : ℤ) (lent : List ℤ)
       go (Unfit code row) e = ap (andSlice (length lent)) e ∙ sym e
       go (Rows n) e =
           let few = program-rows bytes kind n (checked ∙ e) .1 in
-          let room : ltb (length lent) (4 * n) ≡ false = le-ltb (length lent) (4 * n) (omega arith) in
+          let room : ltb (length lent) (width * n) ≡ false = le-ltb (length lent) (width * n) (omega arith) in
           ap (andSlice (length lent)) e ∙ rw room (sym e)
 
 -- the table stands at the front
 pub table-front : (bytes : List ℕ) (kind : ℤ) (lent out : List ℤ) (x : Loaded) (n : ℕ) → x ≡ programFile bytes kind →
-    x ≡ Rows n → out ≡ loadedInto bytes lent x → take (4 * n) out ≡ tableOf bytes
+    x ≡ Rows n → out ≡ loadedInto bytes lent x → firstRows n out ≡ tableOf bytes
 unfolding loadedInto
 table-front bytes kind lent out x n ex e i =
-    ap (take (4 * n)) (i ∙ ap (loadedInto bytes lent) e)
-    ∙ take-at (fileTable bytes n) (drop (4 * n) lent) (4 * n) (table-length bytes n)
+    ap (firstRows n) (i ∙ ap (loadedInto bytes lent) e)
+    ∙ take-at (fileTable bytes n) (afterRows n lent) (width * n) (table-length bytes n)
     ∙ ap (fileTable bytes) (sym (accepted bytes kind n (program-rows bytes kind n (sym ex ∙ e) .0) .count))
 
 -- its numbers are there
 pub table-there : (bytes : List ℕ) (kind : ℤ) (out : List ℤ) (x : Loaded) (n : ℕ) → x ≡ programFile bytes kind →
-    x ≡ Rows n → length out ≡ tableRoom → 4 * n ≤ length out
-table-there bytes kind out x n ex e long = let few = program-rows bytes kind n (sym ex ∙ e) .1 in omega arith
+    x ≡ Rows n → length out ≡ tableRoom → HasRows out n
+table-there bytes kind out x n ex e long =
+    rows-less out n tableRows (program-rows bytes kind n (sym ex ∙ e) .1) (omega arith)
 
 -- ---- The input
 

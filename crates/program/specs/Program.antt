@@ -13,7 +13,7 @@ use Rattle.lists.specs.Bools.{clash}
 use Rattle.rules.specs.declared.Loaded.{Loaded}
 use Rattle.rules.specs.declared.Loaded.the-variants.{Rows, Unfit}
 use Rattle.rules.specs.declared.Query.{Query}
-use Rattle.rules.specs.Tables.{mostRows}
+use Rattle.rules.specs.Tables.{mostRows, width}
 use Rattle.rules.specs.Session.{weights}
 use Rattle.rules.specs.Numbers.{tableSize, unless, first, saidOf, refusal}
 use Rattle.rules.specs.Calls.{openCode}
@@ -69,7 +69,7 @@ abbrev pub tableRows : ℕ
 tableRows = 512
 
 abbrev pub tableRoom : ℕ
-tableRoom = 4 * tableRows
+tableRoom = width * tableRows
 
 unfoldable pub programFile : List ℕ → ℤ → Loaded
 programFile bytes kind = cond (leb (length bytes) mostFileBytes) (checkFile bytes kind) (Unfit tableSize 0)

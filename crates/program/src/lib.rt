@@ -37,7 +37,8 @@ pub fn input_room() -> usize
 pub const OUT_ROOM: usize = listing::ROOM;
 
 // The numbers of the longest table: 512 rows.
-const TABLE_ROOM: usize = 4 * ((rules::MOST_FILE_BYTES - rules::HEADER_BYTES) / rules::ROW_BYTES);
+const TABLE_ROOM: usize = rules::ROW_NUMBERS
+    * ((rules::MOST_FILE_BYTES - rules::HEADER_BYTES) / rules::ROW_BYTES);
 
 // The refusal's number of a file; 0 where it is accepted.
 fn refusal(a: Loaded) -> u32
@@ -160,9 +161,9 @@ fn put_whole(out: &mut [u8], field: &[u8], trim: &[u8], input: &[u8]) -> usize
     let Loaded::Rows(n) = b else {
         return refuse(out, refusal(b));
     };
-    let e = 4 * (m as usize);
-    let g = 4 * (n as usize);
-    put_asked(out, input, &f[..e], &t[..g])
+    let fields = tables::first_rows(&f, m as usize);
+    let trims = tables::first_rows(&t, n as usize);
+    put_asked(out, input, fields, trims)
 }
 
 // What the program prints, at the front of a place for the longest listing: how many bytes it is. The rest of the place

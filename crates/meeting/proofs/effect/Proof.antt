@@ -21,42 +21,44 @@ returns c =
     (c .before .before .before .args .y .now)
     (simp (c .before .before .weighted .ensures .0, c .before .weighted2 .ensures .0) at (c .if1 .taken))
 
+row-count-requires : tie.Need-row-count-requires
+row-count-requires c κs = search needs
+
 returns-2 : tie.Need-returns-2
 returns-2 c =
-    effect-open (c .before .before .before .before .args .full) (c .before .before .before .before .args .low)
-    (c .before .before .before .before .args .q) (c .before .before .before .before .args .x .now)
-    (c .before .before .before .before .args .y .now)
-    (simp (c .before .before .before .weighted .ensures .0, c .before .before .weighted2 .ensures .0) at
-    (c .before .if1 .left))
+    let s = c .before .before .before .before .before .args in
+    effect-open (s .full) (s .low) (s .q) (s .x .now) (s .y .now)
+    (simp (c .before .before .before .before .weighted .ensures .0, c .before .before .before .weighted2 .ensures .0) at
+    (c .before .before .if1 .left))
 
 any-near-requires : tie.Need-any-near-requires
 any-near-requires c κs = search needs
 
 returns-3 : tie.Need-returns-3
 returns-3 c =
-    let at = c .before .before .before .before .before in
+    let at = c .before .before .before .before .before .before in
     effect-open (at .before .args .full)
     (at .before .args .low)
     (at .before .args .q)
     (at .before .args .x .now)
     (at .before .args .y .now)
     (simp (
-      c .before .before .before .before .before .weighted .ensures .0,
-      c .before .before .before .before .weighted2 .ensures .0,
-    ) at (c .before .before .before .if1 .left))
+      at .weighted .ensures .0,
+      c .before .before .before .before .before .weighted2 .ensures .0,
+    ) at (c .before .before .before .before .if1 .left))
 
 returns-4 : tie.Need-returns-4
 returns-4 c =
-    let at = c .before .before .before .before .before in
+    let at = c .before .before .before .before .before .before in
     effect-quiet (at .before .args .full)
     (at .before .args .low)
     (at .before .args .q)
     (at .before .args .x .now)
     (at .before .args .y .now)
     (simp (
-      c .before .before .before .before .before .weighted .ensures .0,
-      c .before .before .before .before .weighted2 .ensures .0,
-    ) at (c .before .before .before .if1 .left))
+      at .weighted .ensures .0,
+      c .before .before .before .before .before .weighted2 .ensures .0,
+    ) at (c .before .before .before .before .if1 .left))
     (sym (c .before .any-near .ensures) ∙ c .if3 .left)
 
 pub effect-spec : {M : Type 1} → statement M
@@ -67,6 +69,7 @@ effect-spec =
     weighted-requires-2
     add-if1
     returns
+    row-count-requires
     returns-2
     any-near-requires
     returns-3
