@@ -8,16 +8,16 @@ ghost use mathlib.Core.Path.{_≡_};
 ghost use mathlib.Core.Bool.{false, cond};
 ghost use Prim.Native.Nat.{_+_, _*_, _-_, _≤_, _<_, _^_, min};
 ghost use lib.ListN.{length};
-ghost use Rattle.rules.specs.Tables.{mostRows, terms, HasRow, HasRows};
+ghost use Rattle.rules.specs.Tables.{mostRows, terms, HasRows};
 ghost use Rattle.rules.specs.Session.{settled};
 ghost use Rattle.rules.specs.Read.{meetBlocks, readTable, readBlock};
 ghost use Rattle.rules.specs.Calls.{newBlockCode};
 ghost use Rattle.session_laws.specs.Record.{QueryFits};
 ghost use Rattle.session_laws.specs.Calls.{Accepted};
 ghost use Rattle.block.specs.Block.{Joined};
+ghost use Rattle.skipping.specs.Effect.{Effect};
 ghost use Rattle.choosing.specs.Ready.{Ready};
 ghost use Rattle.choosing.specs.Due.{Due};
-ghost use Rattle.meeting.specs.Effect.{Effect};
 ghost use Rattle.meeting.specs.Stands.{Keys, Stands, Meets, withKeys};
 ghost use Rattle.meeting.specs.Side.{FirstFit, SpanFits, Passed, spanBlock, downTo};
 
@@ -61,26 +61,6 @@ fn join_parts(
     block::join(q, room, fields, x.from, trims, y.from, keys, held)
 }
 
-// What a block pair comes to: 0, it is skipped; 1, it is joined, and no pair of it qualifies; 2, it is joined, pair by
-// pair. Only small blocks are tried for 1. `full` says that k pairs are held or out, `low` is the lowest held sum.
-fn effect(full: bool, low: u32, q: Query, x: &[i32], y: &[i32]) -> u64
-    requires { ⌜ HasRow (now x) 0 × HasRow (now y) 0 ⌝ }
-    ensures { λ r. ⌜ Effect full low q (now (x .entry)) (now (y .entry)) r ⌝ }
-{
-    let first = tables::weighted(q.weights.field.0, x, 0);
-    let second = tables::weighted(q.weights.trim.0, y, 0);
-    if full & (first + second < low as u64) {
-        return 0;
-    }
-    if 32 < tables::row_count(x) {
-        return 2;
-    }
-    if block::any_near(q, x, y) {
-        return 2;
-    }
-    1
-}
-
 // The effect of rows of the field table and rows of the trim table.
 fn effect_parts(full: bool, low: u32, q: Query, f: &[i32], x: Span, t: &[i32], y: Span) -> u64
     requires { ⌜ SpanFits x (now f) × SpanFits y (now t) ⌝ }
@@ -89,7 +69,7 @@ fn effect_parts(full: bool, low: u32, q: Query, f: &[i32], x: Span, t: &[i32], y
 {
     let fields = tables::rows(f, x.from, x.to);
     let trims = tables::rows(t, y.from, y.to);
-    effect(full, low, q, fields, trims)
+    skipping::effect(full, low, q, fields, trims)
 }
 
 // How many pairs are held and how many block pairs are joined.

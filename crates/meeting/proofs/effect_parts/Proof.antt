@@ -2,7 +2,7 @@
 use mathlib.Core.Path.{subst₂}
 use mathlib.Core.List.{List}
 use lib.IntN.{ℤ}
-use Rattle.meeting.specs.Effect.{Effect}
+use Rattle.skipping.specs.Effect.{Effect}
 use borrow.Author.Needs.{needs}
 use Rattle.meeting.proofs.effect_parts.Statement.{statement}
 use Rattle.meeting.proofs.effect_parts.Tie as tie

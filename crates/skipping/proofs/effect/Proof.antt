@@ -1,9 +1,9 @@
 -- `effect` meets its contract. Assumes nothing.
 use mathlib.Core.Path.{sym, _∙_}
-use Rattle.meeting.specs.Effect.{effect-skip, effect-quiet, effect-open}
+use Rattle.skipping.specs.Effect.{effect-skip, effect-quiet, effect-open}
 use borrow.Author.Needs.{needs}
-use Rattle.meeting.proofs.effect.Statement.{statement}
-use Rattle.meeting.proofs.effect.Tie as tie
+use Rattle.skipping.proofs.effect.Statement.{statement}
+use Rattle.skipping.proofs.effect.Tie as tie
 
 weighted-requires : tie.Need-weighted-requires
 weighted-requires c κs = search needs
