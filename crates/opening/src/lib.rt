@@ -17,7 +17,7 @@ ghost use Rattle.rules.specs.Calls.{openCode, openCall};
 fn open_code(q: Query, f: &[i32], t: &[i32]) -> u32
     ensures { λ r. ⌜ r ≡ openCode q (now (f .entry)) (now (t .entry)) ⌝ }
 {
-    let code = checks::query_code(q);
+    let code = number_checks::query_code(q);
     if code != 0 {
         return code;
     }

@@ -40,7 +40,7 @@ pub fn read(f: &[i32], t: &[i32], s: Session) -> Step
     let n = r.held as usize;
     let end = (n + 63) % 64;
     let depth = r.depth;
-    let mut fits = checks::numbers_fit(r.query, r.rows, r.depth, r.last, r.out, r.held, r.joined);
+    let mut fits = number_checks::numbers_fit(r.query, r.rows, r.depth, r.last, r.out, r.held, r.joined);
     let mut before: u64 = 0;
     let mut keys: [u64; 64] = [0; 64];
     let mut i = checks::first_place(fits);

@@ -63,7 +63,7 @@ pub fn take(f: &[i32], t: &[i32], s: Session) -> Step
     let mut r = s;
     let n = r.held as usize;
     let depth = r.depth;
-    let mut fits = checks::numbers_fit(r.query, r.rows, r.depth, r.last, r.out, r.held, r.joined);
+    let mut fits = number_checks::numbers_fit(r.query, r.rows, r.depth, r.last, r.out, r.held, r.joined);
     let mut before: u64 = 0;
     let mut i = checks::first_place(fits);
     while i < 64 {

@@ -7,10 +7,10 @@ use lib.Dec.{eqb}
 use borrow.Author.Tests.{eq-eqb, ne-eqb, not-true, not-false}
 use Rattle.rules.specs.Calls.{queryCode, countsFit}
 use Rattle.session_laws.specs.Record.{QueryFits, query-out, counts-out}
-use Rattle.checks.specs.Grounds.{numbersFit}
+use Rattle.number_checks.specs.Grounds.{numbersFit}
 use borrow.Author.Needs.{needs}
-use Rattle.checks.proofs.numbers_fit.Statement.{statement}
-use Rattle.checks.proofs.numbers_fit.Tie as tie
+use Rattle.number_checks.proofs.numbers_fit.Statement.{statement}
+use Rattle.number_checks.proofs.numbers_fit.Tie as tie
 
 -- what the tests passed say
 queried : (c : tie.Else1) → queryCode (c .before .before .args .q) ≡ 0
