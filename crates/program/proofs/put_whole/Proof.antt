@@ -6,7 +6,7 @@ use lib.IntN.{pos}
 use Rattle.rules.specs.declared.Loaded.the-variants.{Rows}
 use Rattle.rules.specs.Query.{refusalLine}
 use Rattle.rules.specs.Tables.{HasRows}
-use Rattle.program.specs.Program.{tableRoom}
+use Rattle.program_input.specs.Given.{tableRoom}
 use Rattle.program.proofs.Steps.{table-front, table-there, field-unfit, trim-unfit, files-fit, written-as}
 use borrow.Author.Needs.{needs}
 use Rattle.program.proofs.put_whole.Statement.{statement}

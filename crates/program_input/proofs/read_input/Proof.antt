@@ -7,11 +7,11 @@ use Rattle.rules.specs.File.{endsLine}
 use native.Mathlib.Omega.{arith}
 use lib.ListN.{length}
 use Rattle.rules.specs.Query.{inputLength, inputCode}
-use Rattle.program.specs.Program.{inputHeld}
-use Rattle.program.proofs.Steps.{input-bad, input-good}
+use Rattle.program_input.specs.Given.{inputHeld}
+use Rattle.program_input.proofs.Steps.{input-bad, input-good}
 use borrow.Author.Needs.{needs}
-use Rattle.program.proofs.read_input.Statement.{statement}
-use Rattle.program.proofs.read_input.Tie as tie
+use Rattle.program_input.proofs.read_input.Statement.{statement}
+use Rattle.program_input.proofs.read_input.Tie as tie
 
 evenly-requires : tie.Need-evenly-requires
 evenly-requires c κs = search needs

@@ -6,11 +6,11 @@ use mir.Facts.{toZ-ofZ}
 use borrow.Author.Tests.{not-true, not-false}
 use Rattle.rules.specs.File.{loadAnswer, loadNumbers, loadedInto}
 use Rattle.rules.specs.Query.{mostFileBytes}
-use Rattle.program.specs.Program.{programFile}
-use Rattle.program.proofs.Steps.{load-small}
+use Rattle.program_input.specs.Given.{programFile}
+use Rattle.program_input.proofs.Steps.{load-small}
 use borrow.Author.Needs.{needs}
-use Rattle.program.proofs.load_table.Statement.{statement}
-use Rattle.program.proofs.load_table.Tie as tie
+use Rattle.program_input.proofs.load_table.Statement.{statement}
+use Rattle.program_input.proofs.load_table.Tie as tie
 
 returns : tie.Need-returns
 unfolding programFile loadedInto
