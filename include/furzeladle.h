@@ -115,18 +115,26 @@ int32_t furzeladle_show(const int32_t *f, size_t f_len, const int32_t *t, size_t
  * distance. The answer is how many pairs there are (0 to 64), or minus the refusal: first 11, fewer than
  * FURZELADLE_QUERY_LEAST numbers of a query; 1, 2, 3, 12, 4 at opening; 6 or 7 of a row that was read; and 11 for the
  * place of the answer comes last, fewer than FURZELADLE_QUERY_SIZE lent. Refused, `out` is as it was; accepted, so are
- * the numbers behind the last pair. Rows that were not read were not looked at. */
-enum { FURZELADLE_QUERY_SIZE = 387 };
+ * the numbers behind the last pair. Rows that were not read were not looked at.
+ *
+ * Who lends FURZELADLE_ROOTS_SIZE numbers or more gets each pair's distance as well, from number FURZELADLE_ROOTS on,
+ * behind the places of 64 pairs: two numbers a pair, the root of the squared distance and the remainder (below). */
+enum { FURZELADLE_QUERY_SIZE = 387, FURZELADLE_ROOTS = 387, FURZELADLE_ROOTS_SIZE = 515 };
 
 int32_t furzeladle_query(const uint32_t *query, size_t query_len, const int32_t *f, size_t f_len, const int32_t *t,
                          size_t t_len, uint64_t *out, size_t out_len);
 
 /* The same query, its listing as the pairing program prints it, the weights left out: how many bytes, or minus the
  * refusal. 11 for the place of the answer, last, is fewer than FURZELADLE_LISTING_SIZE bytes lent. */
-enum { FURZELADLE_LISTING_SIZE = 2412 };
+enum { FURZELADLE_LISTING_SIZE = 2668 };
 
 int32_t furzeladle_listing(const uint32_t *query, size_t query_len, const int32_t *f, size_t f_len, const int32_t *t,
                            size_t t_len, uint8_t *out, size_t out_len);
+
+/* ---- A squared distance as a distance: the greatest whole s with s × s not above n, and what is left, n - s × s (0 to
+ * 2 × s). For every n; nothing is refused. */
+uint64_t furzeladle_root(uint64_t n);
+uint64_t furzeladle_remainder(uint64_t n);
 
 #ifdef __cplusplus
 }

@@ -18,6 +18,7 @@ mod plot;
 mod printed;
 mod profile;
 mod report;
+mod roots;
 mod rows;
 mod score_first;
 mod suite;
@@ -70,10 +71,11 @@ fn main() {
         ["profile", rest @ ..] => return profile::run(rest),
         ["files"] => files::run(),
         ["calls"] => calls::run(),
+        ["roots"] => roots::run(),
         ["short", plot_to] => queries(false, 3, plot_to),
         ["full", plot_to] => queries(true, 5, plot_to),
         _ => {
-            eprintln!("usage: bench/run [short|full|files|calls], or bench/run profile CONTENDER RADIUS K BLOCK RUNS");
+            eprintln!("usage: bench/run [short|full|files|calls|roots], or bench/run profile CONTENDER RADIUS K BLOCK RUNS");
             std::process::exit(2);
         }
     }
@@ -82,6 +84,8 @@ fn main() {
         files::run();
         println!("\n## A read of a settled session\n");
         calls::run();
+        println!("\n## Roots\n");
+        roots::run();
     }
     println!("\n{} took {:.0} s", words[0], began.elapsed().as_secs_f64());
 }

@@ -68,12 +68,14 @@ fn modelled(asked: Asked, f: &[i32], t: &[i32]) -> Vec<u8> {
             &t[4 * pair.trim as usize - 4..],
         );
         let (da, db) = (i64::from(x[2] - y[2]), i64::from(x[3] - y[3]));
+        let square = (da * da + db * db) as u64;
+        let s = square.isqrt();
         text += &format!(
-            "{rank:>6}{:>6}{:>6}{:>6}{:>12}\n",
+            "{rank:>6}{:>6}{:>6}{:>6}{s:>8}{:>8}\n",
             pair.sum,
             x[0],
             y[0],
-            da * da + db * db
+            square - s * s
         );
         rank += 1;
     }
@@ -351,8 +353,8 @@ fn two_rows_of_equal_score() {
     let rows = [1, 1, 0, 0, 2, 1, 0, 0];
     let field = folder.file("FIELD.TAB", &strict(1, &rows));
     let trim = folder.file("TRIM.TAB", &strict(2, &rows));
-    let listing = "     2     1     0\n     1     2     1     1           0\n\
-                   \x20    2     2     2     1           0\n     2     1           2\n";
+    let listing = "     2     1     0\n     1     2     1     1       0       0\n\
+                   \x20    2     2     2     1       0       0\n     2     1           2\n";
     let output = pair(&field, &trim, &numbers(query(2, 1, 0).into()));
     assert_listed(&output, listing.as_bytes(), "equal sums");
 }

@@ -1,5 +1,5 @@
-/* furzeladle_query from C: the rules' worked query, at other weights too, the refusals that a whole query can give, and
- * what is left alone. */
+/* furzeladle_query from C: the rules' worked query, at other weights too, the refusals that a whole query can give, the
+ * roots, and what is left alone. */
 #include "furzeladle.h"
 
 #include <stdio.h>
@@ -57,11 +57,51 @@ static void weights(void) {
 /* A row of the highest score each: 9 times 9,999, twice. */
 static void highest(void) {
     static const int32_t row[4] = {1, 9999, 0, 0};
-    static const char listing[] = "     1     1     0\n     1179982     1     1           0\n     1     1           1\n";
+    static const char listing[] = "     1     1     0\n     1179982     1     1       0       0\n     1     1           1\n";
     static const uint32_t q[5] = {1, 1, 0, 9, 9};
     uint8_t text[FURZELADLE_LISTING_SIZE];
     expect("highest", furzeladle_listing(q, 5, row, 4, row, 4, text, sizeof text), (long)strlen(listing));
     expect("its text", memcmp(text, listing, strlen(listing)), 0);
+}
+
+/* The roots stand behind the places of 64 pairs, if they are lent too; else nothing behind the pairs changes. */
+static void roots(void) {
+    static const int32_t row[4] = {1, 9, 0, 0};
+    static const int32_t near[12] = {2, 8, 1, 5, 3, 7, 0, 5, 4, 6, 12700, -12800};
+    static const uint64_t want[6] = {5, 1, 5, 0, 18031, 13039};
+    static const uint32_t q[3] = {3, 1, 40000};
+    uint64_t out[FURZELADLE_ROOTS_SIZE + 1];
+    for (size_t room = FURZELADLE_QUERY_SIZE; room <= FURZELADLE_ROOTS_SIZE; room++) {
+        memset(out, 0xab, sizeof out);
+        const uint64_t fill = out[0];
+        expect("three pairs", furzeladle_query(q, 3, row, 4, near, 12, out, room), 3);
+        expect("its square", (long)out[8], 26);
+        for (size_t i = 21; i < FURZELADLE_ROOTS; i++) expect("between", out[i] == fill, 1);
+        for (size_t i = 0; i < 6; i++)
+            expect("root", (long)out[FURZELADLE_ROOTS + i], (long)(room < FURZELADLE_ROOTS_SIZE ? fill : want[i]));
+        for (size_t i = FURZELADLE_ROOTS + 6; i <= FURZELADLE_ROOTS_SIZE; i++) expect("behind", out[i] == fill, 1);
+    }
+}
+
+/* The root of numbers at, above and below a square. */
+static void root_of(uint64_t n, uint64_t s) {
+    expect("root", furzeladle_root(n) == s, 1);
+    expect("remainder", furzeladle_remainder(n) == n - s * s, 1);
+}
+
+static void each_root(void) {
+    for (uint64_t n = 0, s = 0; n < 100000; n++) {
+        if ((s + 1) * (s + 1) <= n) s++;
+        root_of(n, s);
+    }
+    for (uint64_t s = 1; s < 0xffffffff; s = s * 3 / 2 + 1) {
+        root_of(s * s - 1, s - 1);
+        root_of(s * s, s);
+        root_of(s * s + 2 * s, s);
+    }
+    root_of(0xffffffff * UINT64_C(0xffffffff), 0xffffffff);
+    root_of(0xffffffff * UINT64_C(0xffffffff) - 1, 0xfffffffe);
+    root_of(UINT64_MAX, 0xffffffff);
 }
 
 int main(void) {
@@ -97,8 +137,8 @@ int main(void) {
     for (int i = 0; i <= FURZELADLE_QUERY_SIZE; i++) expect("left alone", out[i] == fill, 1);
     expect("empty", ask(2, 1, 5, F, 0, out, FURZELADLE_QUERY_SIZE), 0);
 
-    static const char listing[] = "     2     1     5\n     1   140   101   202          25\n"
-                                  "     2   110   102   203          25\n     4     4          10\n";
+    static const char listing[] = "     2     1     5\n     1   140   101   202       5       0\n"
+                                  "     2   110   102   203       5       0\n     4     4          10\n";
     uint8_t text[FURZELADLE_LISTING_SIZE];
     const uint32_t q[3] = {2, 1, 5};
     memset(text, 'x', sizeof text);
@@ -110,6 +150,8 @@ int main(void) {
     expect("text behind", text[strlen(listing)], 'x');
     weights();
     highest();
+    roots();
+    each_root();
     printf("query.c: %d of %d\n", tried - failed, tried);
     return failed != 0;
 }

@@ -8,6 +8,7 @@ nothing with the program.
 usage: tests/cases/make.py            writes the folders, beside itself and in tests/weights
        tests/cases/make.py --check    compares them with what stands there
 """
+import math
 import os
 import re
 import sys
@@ -58,6 +59,12 @@ def load(raw, kind):
             raise Refused(7)
         rows.append(row)
     return rows
+
+
+def whole_root(square):
+    """The greatest whole number whose square is not above it, and what is left."""
+    s = math.isqrt(square)
+    return s, square - s * s
 
 
 def distance(x, y):
@@ -170,7 +177,8 @@ def query(field, trim, raw, numbers):
     text = "%6d%6d%6d\n" % (k, block, radius)
     for i, (its_sum, x, y) in enumerate(held):
         x, y = f[x - 1], t[y - 1]
-        text += "%6d%6d%6d%6d%12d\n" % (i + 1, its_sum, x[0], y[0], distance(x, y))
+        square = distance(x, y)
+        text += "%6d%6d%6d%6d%8d%8d\n" % (i + 1, its_sum, x[0], y[0], *whole_root(square))
     # when it is settled every held pair is secured, so takes bring out all that is held
     assert all(map(secured, held))
     # and it is the k highest of all sums
@@ -295,6 +303,10 @@ def cases():
     yield "ties-zero-scores", table(1, [(i, 0, 0, i) for i in range(1, 9)]), table(2, [(i, 0, 0, 9 - i) for i in range(1, 9)]), ask(5, 3, 2)
     yield "scores-apart", table(1, [(i, 9000 - i, 10 * i, 0) for i in range(1, 31)]), table(2, [(i, 100 - i, 10 * i, 0) for i in range(1, 31)]), ask(6, 1, 9)
     yield "six-digits", table(1, [(999999, 9999, 12700, 12700), (999998, 9999, -12800, 12700)]), table(2, [(999999, 9999, 12700, -12800), (100000, 9998, -12800, -12800)]), ask(64, 1024, 40000)
+    # squared distances at, above and below a square: 0, 1, 2, 4, 5, 8, 9, 25, 26, 34, 36, then the largest there is
+    offsets = [(0, 0), (0, 1), (1, 1), (0, 2), (1, 2), (2, 2), (0, 3), (0, 5), (1, 5), (3, 5), (0, 6), (-12800, -12800)]
+    trims = [(200 + i, 90 - i, 12700 if a < 0 else a, 12700 if b < 0 else b) for i, (a, b) in enumerate(offsets)]
+    yield "roots", table(1, [(100, 80, 0, 0), (101, 20, -12800, -12800)]), table(2, trims), ask(64, 4, 40000)
     dice = Dice(7)
     yield "rows-512", table(1, dice.rows(512, 9999, 12700)), table(2, dice.rows(512, 9999, 12700)), ask(64, 16, 900)
     yield "rows-512-ties", table(1, dice.rows(512, 20, 60)), table(2, dice.rows(512, 20, 60)), ask(64, 1, 3)

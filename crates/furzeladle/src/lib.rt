@@ -2,6 +2,7 @@
 // header.
 mod calls; // calls.rt: the join session
 mod queries; // queries.rt: one whole query
+mod roots; // roots.rt: a squared distance as a distance
 
 ghost use mathlib.Core.Path.{_≡_};
 ghost use Rattle.rules.specs.File.{checkAlone, loadNumbers};

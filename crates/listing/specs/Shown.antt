@@ -9,6 +9,7 @@ use Rattle.rules.specs.declared.Pair.{Pair}
 use Rattle.rules.specs.declared.Query.{Query}
 use Rattle.rules.specs.Tables.{row, squaredDistance}
 use Rattle.rules.specs.Session.{placeCount}
+use Rattle.rules.specs.Root.{root, remainder}
 use Rattle.rules.specs.Query.{inputLength, list, pairLine, pairLines}
 use Rattle.printing.specs.declared.Line.{Line}
 use Rattle.printing.specs.Lines.{lineBytes, lineLength, lastLength}
@@ -29,17 +30,20 @@ pub record Shown (f t : List ℤ) (p : Pair) : Type 0 where
   pub trim : RowOf t (p .trim)
   pub small : squaredDistance (row f (p .field - 1) .shade) (row t (p .trim - 1) .shade) < 2 ^ 64
 
--- what a pair's line says
+-- what is told of a pair
 unfoldable pub lineOf : List ℤ → List ℤ → ℕ → Pair → Line
 lineOf f t rank p =
     let x = row f (p .field - 1) in
     let y = row t (p .trim - 1) in
+    let n = squaredDistance (x .shade) (y .shade) in
     record {
       rank = rank;
       sum = p .sum;
       field = x .pattern;
       trim = y .pattern;
-      distance = squaredDistance (x .shade) (y .shade);
+      distance = n;
+      root = root n;
+      rest = remainder n;
     }
 
 pub line-bytes : (f t : List ℤ) (rank : ℕ) (p : Pair) → lineBytes (lineOf f t rank p) ≡ pairLine f t rank p

@@ -1,4 +1,4 @@
-// What a pair's line says, and a whole query's listing as bytes.
+// What is told of a pair, and a whole query's listing as bytes.
 use printing::Line;
 use rules::Pair;
 use run_query::Outcome;
@@ -37,17 +37,21 @@ fn distance(f: &[i32], t: &[i32], p: Pair) -> u64
     distance::squared_distance(x, y)
 }
 
-// What a pair's line says.
+// What is told of a pair.
 pub fn line_of(f: &[i32], t: &[i32], rank: u32, p: Pair) -> Line
     requires { ⌜ Shown (now f) (now t) p ⌝ }
     ensures { λ r. ⌜ r ≡ lineOf (now (f .entry)) (now (t .entry)) rank p ⌝ }
 {
+    let square = distance(f, t, p);
+    let steps = root::root_of(square);
     Line {
         rank,
         sum: p.sum,
         field: pattern(f, p.field),
         trim: pattern(t, p.trim),
-        distance: distance(f, t, p),
+        distance: square,
+        root: steps.root,
+        rest: steps.rest,
     }
 }
 

@@ -73,17 +73,28 @@ unfoldable pub lineBytes : Line → List ℕ
 lineBytes x =
     decimal 6 (x .rank)
     ++ (decimal 6 (x .sum)
-    ++ (decimal 6 (x .field) ++ (decimal 6 (x .trim) ++ (decimal 12 (x .distance) ++ (lineFeed ∷ [])))))
+    ++ (decimal 6 (x .field)
+    ++ (decimal 6 (x .trim) ++ (decimal 8 (x .root) ++ (decimal 8 (x .rest) ++ (lineFeed ∷ []))))))
 
 -- a number of w columns, then other bytes
 pub then : (w at n : ℕ) (b l : List ℕ) → putAt at (decimal w n ++ b) l ≡ putAt (at + w) b (putAt at (decimal w n) l)
 then w at n b l =
     put-on at (decimal w n) b l ∙ ap (λ (m : ℕ). putAt (at + m) b (putAt at (decimal w n) l)) (decimal-length w n)
 
+-- two of w columns, v in all, then other bytes
+pub then-two : (w v at m n : ℕ) (b l : List ℕ) → w + w ≡ v →
+    putAt at (decimal w m ++ (decimal w n ++ b)) l ≡ putAt (at + v) b (putAt at (decimal w m ++ decimal w n) l)
+then-two w v at m n b l e =
+    let o : at + w + w ≡ at + v = omega arith in
+    then w at m (decimal w n ++ b) l
+    ∙ then w (at + w) n b (putAt at (decimal w m) l)
+    ∙ ap (λ (x : List ℕ). putAt (at + w + w) b x) (sym (then w at m (decimal w n) l))
+    ∙ ap (λ (k : ℕ). putAt k b (putAt at (decimal w m ++ decimal w n) l)) o
+
 -- ---- How long the lines are
 
 abbrev pub lineLength : ℕ
-lineLength = 37
+lineLength = 41
 
 abbrev pub lastLength : ℕ
 lastLength = 25

@@ -3,7 +3,7 @@ use rules::Query;
 use rules::Session;
 ghost use mathlib.Core.Path.{_≡_};
 ghost use Prim.Native.Nat.{_+_, _≤_, _<_};
-ghost use mathlib.Core.List.{[], _∷_};
+ghost use mathlib.Core.List.{[], _∷_, _++_};
 ghost use lib.ListN.{length};
 ghost use Rattle.rules.specs.File.{lineFeed};
 ghost use Rattle.rules.specs.Query.{decimal, inputLength, queryLine, lastLine, refusalLine};
@@ -15,7 +15,7 @@ pub const REFUSAL_LENGTH: usize = 7;
 
 pub const QUERY_LENGTH: usize = rules::INPUT_LENGTH;
 
-pub const LINE_LENGTH: usize = 37;
+pub const LINE_LENGTH: usize = 41;
 
 pub const LAST_LENGTH: usize = 25;
 
@@ -75,32 +75,39 @@ pub fn put_query(out: &mut [u8], at: usize, q: Query)
     put_feed(out, c + 6);
 }
 
-// What a pair's line says.
+// What is told of a pair.
 pub struct Line {
     pub rank: u32,
     pub sum: u32,
     // The field pattern's number, and the trim pattern's.
     pub field: u32,
     pub trim: u32,
+    // The squared distance; the greatest whole number whose square is not above it, and what is left.
     pub distance: u64,
+    pub root: u64,
+    pub rest: u64,
 }
 
-// A pair's line.
+// Two numbers of one width, one behind the other.
+fn put_two(out: &mut [u8], at: usize, width: usize, x: u64, y: u64)
+    requires { ⌜ at + (width + width) ≤ length (now out) ⌝ }
+    ensures { λ _. ⌜ now (out .exit) ≡ putAt at (decimal width x ++ decimal width y) (now (out .entry)) ⌝ }
+{
+    put_number(out, at, width, x);
+    put_number(out, at + width, width, y);
+}
+
+// A pair's line: the distance by its root and rest.
 pub fn put_line(out: &mut [u8], at: usize, line: Line)
     requires { ⌜ at + lineLength ≤ length (now out) ⌝ }
     ensures { λ _. ⌜ now (out .exit) ≡ putAt at (lineBytes line) (now (out .entry)) ⌝ }
 {
-    let b = at + 6;
-    let c = b + 6;
-    let d = c + 6;
-    let e = d + 6;
-    let end = e + 12;
-    put_number(out, at, 6, line.rank as u64);
-    put_number(out, b, 6, line.sum as u64);
-    put_number(out, c, 6, line.field as u64);
-    put_number(out, d, 6, line.trim as u64);
-    put_number(out, e, 12, line.distance);
-    put_feed(out, end);
+    let b = at + 12;
+    let c = b + 12;
+    put_two(out, at, 6, line.rank as u64, line.sum as u64);
+    put_two(out, b, 6, line.field as u64, line.trim as u64);
+    put_two(out, c, 8, line.root, line.rest);
+    put_feed(out, c + 16);
 }
 
 // The last line: the rows read of each table, and the block pairs joined.

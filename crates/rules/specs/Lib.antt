@@ -7,6 +7,7 @@ pub mod Numbers
 pub mod Checks
 pub mod Calls
 pub mod File
+pub mod Root
 pub mod Query
 pub mod Ranking
 pub mod Meaning

@@ -17,6 +17,7 @@ use Rattle.rules.specs.Numbers.{tableSize, cutFile, badColumn, unless, f
 use Rattle.rules.specs.Calls.{openCode, openCall, readCall, takeCall}
 use Rattle.rules.specs.File.{blank, lineFeed, columns, columnFits, columnNumber, endsLine, fileCount, fileTable}
 use Rattle.rules.specs.File.{checkFile}
+use Rattle.rules.specs.Root.{root, remainder}
 use Rattle.lists.specs.Lists.{all}
 
 -- the answer that a block was read
@@ -73,15 +74,17 @@ decimal zero n = []
 decimal (suc w) n =
     elim (ltb n 10) [ true ↦ replicate w blank | false ↦ decimal w (n / 10) ] ++ ((48 + n % 10) ∷ [])
 
--- "Pairs: rank, sum, field number, trim number (six columns each), squared distance (12)."
+-- "Pairs: rank, sum, field number, trim number (six columns each)"; "s and the remainder, eight columns each, in place
+-- of the squared distance"
 unfoldable pub pairLine : List ℤ → List ℤ → ℕ → Pair → List ℕ
 pairLine f t rank p =
     let x = row f (p .field - 1) in
     let y = row t (p .trim - 1) in
+    let n = squaredDistance (x .shade) (y .shade) in
     decimal 6 rank
     ++ (decimal 6 (p .sum)
     ++ (decimal 6 (x .pattern)
-    ++ (decimal 6 (y .pattern) ++ (decimal 12 (squaredDistance (x .shade) (y .shade)) ++ (lineFeed ∷ [])))))
+    ++ (decimal 6 (y .pattern) ++ (decimal 8 (root n) ++ (decimal 8 (remainder n) ++ (lineFeed ∷ []))))))
 
 -- the lines of a list whose first pair has this rank
 unfoldable pub pairLines : List ℤ → List ℤ → ℕ → List Pair → List ℕ

@@ -14,6 +14,7 @@ use Rattle.rules.specs.File.{afterBlanks, digitsFit, digitsFrom, hasMinu
 use Rattle.rules.specs.File.{headerFits, fileCount, fileKind, rowColumnsFit, rowNumbers, fileTable, fileRowCode}
 use Rattle.rules.specs.File.{andRow, rowsLoaded, kindFits, headCode, checkFile, andSlice, loadedInto, loadAnswer}
 use Rattle.rules.specs.File.{loadNumbers, checkAlone}
+use Rattle.rules.specs.Root.{rootUpTo, root, remainder}
 use Rattle.rules.specs.Query.{readUntilSettledBy, takeUntilFinishedBy, settledSession, list, decimal, pairLine}
 use Rattle.rules.specs.Query.{pairLines, queryLine, lastLine, listing, programFileCode, inputCode, inputQuery}
 use Rattle.rules.specs.Query.{refusalLine, wholeQueryCode, wholeQuery}
@@ -29,5 +30,5 @@ unfolding within inRange rowInRange rowInOrder sizeFits legal row gap squaredDis
     rowColumnsFit rowNumbers fileTable fileRowCode andRow rowsLoaded kindFits headCode checkFile andSlice loadedInto
     loadAnswer loadNumbers checkAlone readUntilSettledBy takeUntilFinishedBy settledSession list decimal pairLine
     pairLines queryLine lastLine listing programFileCode inputCode inputQuery refusalLine wholeQueryCode wholeQuery
-    consIf keep every range each ins sort ranked
+    rootUpTo root remainder consIf keep every range each ins sort ranked
 run = tt

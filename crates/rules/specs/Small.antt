@@ -16,7 +16,8 @@ use Rattle.rules.specs.Take.{lastBlock}
 use Rattle.rules.specs.Numbers.{saidOf, refusal}
 use Rattle.rules.specs.Calls.{queryCode, sizeCode, rowsCode, recordCode, callCode, openCode, openCall, showCall}
 use Rattle.rules.specs.File.{loadAnswer}
-use Rattle.rules.specs.Query.{readUntilSettled, settledSession, list, wholeQuery, refusalLine}
+use Rattle.rules.specs.Root.{root, remainder}
+use Rattle.rules.specs.Query.{readUntilSettled, settledSession, list, pairLine, wholeQuery, refusalLine}
 use Rattle.rules.specs.Run.{run}
 use Rattle.rules.specs.Example.{bytes, fieldFile, trimFile, fields, trims, query, afterReads}
 
@@ -243,3 +244,29 @@ pub begins-withdrawn : depthsOf (settledSession (asked 1 1 0) noneLive allLive)
     ∷ [] ≡ (1 ∷ 0 ∷ []) ∷ (1 ∷ 1 ∷ []) ∷ (0 ∷ 0 ∷ []) ∷ []
 unfolding run
 begins-withdrawn = refl
+
+-- ---- Distance in whole steps
+
+abbrev squares : List ℕ
+squares = 0 ∷ 1 ∷ 2 ∷ 3 ∷ 4 ∷ 24 ∷ 25 ∷ 26 ∷ 35 ∷ 36 ∷ []
+
+pub roots : map root squares ≡ 0 ∷ 1 ∷ 1 ∷ 1 ∷ 2 ∷ 4 ∷ 5 ∷ 5 ∷ 5 ∷ 6 ∷ []
+unfolding run
+roots = refl
+
+pub remainders : map remainder squares ≡ 0 ∷ 0 ∷ 1 ∷ 2 ∷ 0 ∷ 8 ∷ 0 ∷ 1 ∷ 10 ∷ 0 ∷ []
+unfolding run
+remainders = refl
+
+abbrev one : List ℤ
+one = pos 7 ∷ pos 90 ∷ pos 0 ∷ pos 0 ∷ []
+
+abbrev near : List ℤ
+near = pos 8 ∷ pos 50 ∷ pos 1 ∷ pos 5 ∷ []
+
+-- "For 25 it prints 5 and 0" stands in the worked query; "for 26, 5 and 1"
+pub prints-26 :
+    pairLine one near 1 (record { sum = 140; field = 1; trim = 1 })
+    ≡ bytes "     1   140     7     8       5       1\n"
+unfolding run
+prints-26 = refl

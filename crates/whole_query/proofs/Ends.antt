@@ -14,10 +14,9 @@ use Rattle.rules.specs.Calls.{openCode}
 use Rattle.rules.specs.Query.{settledSession}
 use Rattle.record_layout.specs.Flat.{querySize, queryIn}
 use Rattle.answers.specs.Refusals.{open-refusal, read-refusal}
-use Rattle.printing.specs.Put.{putAt}
 use Rattle.run_query.specs.declared.Outcome.{Outcome}
 use Rattle.run_query.specs.Outcomes.{readCode, queryOutcome, opening-code, OutcomeOf, is-outcome}
-use Rattle.whole_query.specs.Numbers.{askedCode, asked, writtenUnless}
+use Rattle.whole_query.specs.Asked.{askedCode, asked, writtenUnless}
 
 -- the code's checks, of the outcome that it has
 abbrev pub checks : ℕ → List ℕ → ℕ → Outcome → List ℕ
@@ -69,19 +68,19 @@ module _ {least : ℕ} {l : List ℕ} {f t : List ℤ} {room : ℕ} {q : Query} 
       let passes = first-out (checks least l room r) (sym (h .checked) ∙ z) in
       leb-true least room (unless-out (leb least room) shortSlice (omega arith) (passes 3))
 
-  -- of a query's answer: how many there are, and what is written
-  module _ (count : Query → ℕ) (answer : Query → List ℕ) (out : List ℕ) where
+  -- of a query's answer: how many there are, and the lent places with it written
+  module _ (count : Query → ℕ) (written : Query → List ℕ) (out : List ℕ) where
     pub refused : (code ≡ 0 → ⊥) →
         (negℤ (pos code) ≡ signed (asked (askedCode least l f t room) (count (queryIn l))))
-        × (out ≡ writtenUnless (askedCode least l f t room) (answer (queryIn l)) out)
+        × (out ≡ writtenUnless (askedCode least l f t room) (written (queryIn l)) out)
     unfolding writtenUnless
     refused some = rw (← code-is) (simp (ne-eqb code 0 some), simp (ne-eqb code 0 some))
 
-    pub found : code ≡ 0 → (n : ℕ) (next : List ℕ) → n ≡ count (r .query) → next ≡ putAt 0 (answer (r .query)) out →
+    pub found : code ≡ 0 → (n : ℕ) (next : List ℕ) → n ≡ count (r .query) → next ≡ written (r .query) →
         (pos n ≡ signed (asked (askedCode least l f t room) (count (queryIn l))))
-        × (next ≡ writtenUnless (askedCode least l f t room) (answer (queryIn l)) out)
+        × (next ≡ writtenUnless (askedCode least l f t room) (written (queryIn l)) out)
     unfolding writtenUnless
     found z n next en w =
         let m : n ≡ count (queryIn l) = en ∙ ap count query-is in
-        let v : next ≡ putAt 0 (answer (queryIn l)) out = w ∙ ap (λ (x : Query). putAt 0 (answer x) out) query-is in
+        let v : next ≡ written (queryIn l) = w ∙ ap written query-is in
         rw (← code-is) (simp (eq-eqb code 0 z) (ap pos m), simp (eq-eqb code 0 z) v)

@@ -1,85 +1,8 @@
 // One whole query over two lent tables, its answer written as numbers, or as the listing's bytes.
-use rules::Pair;
-use run_query::Outcome;
 ghost use mathlib.Core.Path.{_≡_};
 ghost use mathlib.Core.List.{[], _∷_};
-ghost use Prim.Native.Nat.{_+_, _≤_, _<_};
-ghost use lib.ListN.{length};
 ghost use Rattle.rules.specs.Numbers.{shortSlice, first, unless};
-ghost use Rattle.printing.specs.Put.{putAt};
-ghost use Rattle.run_query.specs.Outcomes.{OutcomeOf};
-ghost use Rattle.listing.specs.Shown.{Shown};
-ghost use Rattle.whole_query.specs.Numbers.{headLength, pairLength, queryRoom, pairNumbers, listNumbers};
-ghost use Rattle.whole_query.specs.Numbers.{queryNumbers, lentQueryAnswer, lentQueryNumbers};
-ghost use Rattle.whole_query.specs.Numbers.{lentListingAnswer, lentListingBytes};
-
-// The numbers in front of the pairs, those of a pair, and those of the longest answer.
-const HEAD_LENGTH: usize = 3;
-
-const PAIR_LENGTH: usize = 6;
-
-pub const ROOM: usize = HEAD_LENGTH + PAIR_LENGTH * rules::PLACES;
-
-fn put_one(out: &mut [u64], at: usize, n: u64)
-    requires { ⌜ at < length (now out) ⌝ }
-    ensures { λ _. ⌜ now (out .exit) ≡ putAt at (n ∷ []) (now (out .entry)) ⌝ }
-{
-    out[at] = n;
-}
-
-// Three numbers.
-fn put_three(out: &mut [u64], at: usize, x: u64, y: u64, z: u64)
-    requires { ⌜ at + 3 ≤ length (now out) ⌝ }
-    ensures { λ _. ⌜ now (out .exit) ≡ putAt at (x ∷ y ∷ z ∷ []) (now (out .entry)) ⌝ }
-{
-    let b = at + 1;
-    let c = b + 1;
-    put_one(out, at, x);
-    put_one(out, b, y);
-    put_one(out, c, z);
-}
-
-// A pair's numbers.
-fn put_pair(out: &mut [u64], at: usize, f: &[i32], t: &[i32], p: Pair)
-    requires { ⌜ (at + pairLength ≤ length (now out)) × Shown (now f) (now t) p ⌝ }
-    ensures { λ _. ⌜ now (out .exit) ≡ putAt at (pairNumbers (now (f .entry)) (now (t .entry)) p) (now (out .entry)) ⌝ }
-{
-    let b = at + 3;
-    let line = listing::line_of(f, t, 0, p);
-    put_three(out, at, p.sum as u64, p.field as u64, p.trim as u64);
-    put_three(out, b, line.field as u64, line.trim as u64, line.distance);
-}
-
-// The list's numbers, behind those in front.
-fn put_pairs(out: &mut [u64], f: &[i32], t: &[i32], run: Outcome)
-    requires { ⌜ (queryRoom ≤ length (now out)) × OutcomeOf (now f) (now t) run ⌝ }
-    ensures { λ _. ⌜ now (out .exit)
-        ≡ putAt headLength (listNumbers (run .query) (now (f .entry)) (now (t .entry))) (now (out .entry)) ⌝ }
-{
-    let mut i: usize = 0;
-    while i < run.count {
-        let p = run.pairs[i];
-        put_pair(out, HEAD_LENGTH + PAIR_LENGTH * i, f, t, p);
-        i += 1;
-    }
-}
-
-// The numbers of a query that was run, from the front of `out`.
-fn put_numbers(out: &mut [u64], f: &[i32], t: &[i32], run: Outcome)
-    requires { ⌜ (queryRoom ≤ length (now out)) × OutcomeOf (now f) (now t) run ⌝ }
-    ensures { λ _. ⌜ now (out .exit)
-        ≡ putAt 0 (queryNumbers (run .query) (now (f .entry)) (now (t .entry))) (now (out .entry)) ⌝ }
-{
-    let settled = run.session;
-    put_three(
-        out,
-        0,
-        settled.depth.field.0 as u64,
-        settled.depth.trim.0 as u64,
-        settled.joined,
-    );
-    put_pairs(out, f, t, run);
-}
+ghost use Rattle.whole_query.specs.Asked.{lentQueryAnswer, lentQueryNumbers, lentListingAnswer, lentListingBytes};
 
 // What a query is refused by, of what its opening and its reading were: before them, a query's numbers may not all be
 // there; behind them, the place for the answer may be too short.
@@ -101,11 +24,16 @@ pub fn whole(query: &[u32], f: &[i32], t: &[i32], out: &mut [u64]) -> i32
     let q = record_layout::query_in(query);
     let run = run_query::run(q, f, t);
     let there = record_layout::QUERY_SIZE <= query.len();
-    let code = asked_code(there, run.opening, run.reading, ROOM <= out.len());
+    let code = asked_code(
+        there,
+        run.opening,
+        run.reading,
+        query_numbers::ROOM <= out.len(),
+    );
     if code != 0 {
         return answers::minus(code);
     }
-    put_numbers(out, f, t, run);
+    query_numbers::put_numbers(out, f, t, run);
     run.count as i32
 }
 

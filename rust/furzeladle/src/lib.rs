@@ -12,7 +12,7 @@ use std::fmt;
 mod asked;
 mod query;
 pub use asked::{Asked, FieldWeight, Query, TrimWeight};
-pub use query::{list, listing, List, Listed};
+pub use query::{list, listing, root, List, Listed, Root};
 
 mod exported {
     extern "C" {

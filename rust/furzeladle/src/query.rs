@@ -23,12 +23,31 @@ mod exported {
             out: *mut u8,
             out_len: usize,
         ) -> i32;
+        pub fn furzeladle_root(n: u64) -> u64;
+        pub fn furzeladle_remainder(n: u64) -> u64;
     }
 }
 
 /// Numbers and bytes that the library wants lent, whatever the list's length.
 const QUERY_SIZE: usize = 387;
-const LISTING_SIZE: usize = 2_412;
+const LISTING_SIZE: usize = 2_668;
+
+/// A whole square root: the greatest `root` whose square is not above a number, and what is left of it.
+#[derive(Clone, Copy, Debug, PartialEq, Eq, Hash)]
+pub struct Root {
+    pub root: u64,
+    pub rest: u64,
+}
+
+/// The whole square root of any number.
+pub fn root(n: u64) -> Root {
+    unsafe {
+        Root {
+            root: exported::furzeladle_root(n),
+            rest: exported::furzeladle_remainder(n),
+        }
+    }
+}
 
 /// A pair of the list, with the pattern numbers of its rows and their squared distance.
 #[derive(Clone, Copy, Debug, PartialEq, Eq, Hash)]
@@ -50,6 +69,11 @@ pub struct List {
 }
 
 impl Listed {
+    /// The distance of the two shades in whole hundredths, and what its square leaves of the squared distance.
+    pub fn distance(&self) -> Root {
+        root(self.squared_distance)
+    }
+
     fn of(numbers: &[u64]) -> Listed {
         Listed {
             pair: Pair {

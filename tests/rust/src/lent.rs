@@ -45,15 +45,15 @@ fn call<T, const N: usize>(export: Export<T>, q: &[u32], f: &[i32], t: &[i32], m
 #[derive(Debug, PartialEq, Eq)]
 pub struct Answers {
     pub opened: (i32, [u32; 206]),
-    pub listed: (i32, [u64; 387]),
-    pub printed: (i32, [u8; 2_412]),
+    pub listed: (i32, [u64; 515]),
+    pub printed: (i32, [u8; 2_668]),
 }
 
 /// The answers to a query of these numbers.
 pub fn answers(query: &[u32], f: &[i32], t: &[i32]) -> Answers {
     Answers {
         opened: call(furzeladle_open, query, f, t, [7; 206]),
-        listed: call(furzeladle_query, query, f, t, [7; 387]),
-        printed: call(furzeladle_listing, query, f, t, [7; 2_412]),
+        listed: call(furzeladle_query, query, f, t, [7; 515]),
+        printed: call(furzeladle_listing, query, f, t, [7; 2_668]),
     }
 }

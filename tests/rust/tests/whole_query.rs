@@ -1,5 +1,5 @@
 //! The whole query beside the model: its list, depths and joined count, its refusals, and the listing's lines.
-use furzeladle::{list, listing, Asked, FieldWeight, List, Listed, Query, Refusal, TrimWeight};
+use furzeladle::{list, listing, root, Asked, FieldWeight, List, Listed, Query, Refusal, TrimWeight};
 use furzeladle_tests::cases::{asked, query, scored, table, withdraw, Dice, Spread, WITHDRAWN};
 use furzeladle_tests::lent::answers;
 use furzeladle_tests::model::{self, Said};
@@ -18,6 +18,18 @@ fn listed(f: &[i32], t: &[i32], pair: furzeladle::Pair) -> Listed {
         trim_number: y[0] as u32,
         squared_distance: (da * da + db * db) as u64,
     }
+}
+
+/// A pair's line by Rust's own root and formatting.
+fn line(rank: usize, listed: &Listed) -> String {
+    let s = listed.squared_distance.isqrt();
+    format!(
+        "{rank:>6}{:>6}{:>6}{:>6}{s:>8}{:>8}",
+        listed.pair.sum,
+        listed.field_number,
+        listed.trim_number,
+        listed.squared_distance - s * s
+    )
 }
 
 /// Reads until settled, then takes until finished, by the model.
@@ -84,8 +96,20 @@ fn whole_queries_beside_the_model() {
         match found {
             Ok(list) => {
                 pairs += list.pairs.len();
-                let lines = bytes.unwrap().split(|b| *b == b'\n').count() - 1;
-                assert_eq!(lines, list.pairs.len() + 2, "seed {seed}");
+                let text = String::from_utf8(bytes.unwrap()).unwrap();
+                let lines: Vec<&str> = text.lines().collect();
+                assert_eq!(lines.len(), list.pairs.len() + 2, "seed {seed}");
+                for (i, pair) in list.pairs.iter().enumerate() {
+                    assert_eq!(lines[i + 1], line(i + 1, pair), "seed {seed}");
+                }
+                let Query { k, block, radius } = asked.query;
+                let numbers = [k, block, radius, asked.field_weight.0, asked.trim_weight.0];
+                let lent = answers(&numbers, &f, &t).listed.1;
+                for (i, pair) in list.pairs.iter().enumerate() {
+                    let at = 387 + 2 * i;
+                    let distance = pair.distance();
+                    assert_eq!(lent[at..at + 2], [distance.root, distance.rest], "seed {seed}");
+                }
             }
             Err(number) => {
                 refused[number as usize] += 1;
@@ -152,6 +176,26 @@ fn queries_of_fewer_than_three_numbers() {
             (-11, -11, -11)
         );
     }
+}
+
+/// Beside Rust's own, at random lengths, and around the squares at both ends.
+#[test]
+fn roots_beside_rusts_own() {
+    let whole = |n: u64| {
+        let found = root(n);
+        assert_eq!((found.root, found.rest), (n.isqrt(), n - n.isqrt() * n.isqrt()), "{n}");
+    };
+    let mut dice = Dice::new(4_000_001);
+    for _ in 0..1_000_000 {
+        let n = (u64::from(dice.below(u32::MAX)) << 32) | u64::from(dice.below(u32::MAX));
+        whole(n >> dice.below(64));
+        let s = n >> (32 + dice.below(32));
+        (0..3).for_each(|i| whole((s * s).wrapping_sub(1).wrapping_add(i)));
+    }
+    (0..1_000).for_each(|i| whole(i));
+    (0..1_000).for_each(|i| whole(u64::MAX - i));
+    assert_eq!((root(25).root, root(25).rest), (5, 0));
+    assert_eq!((root(26).root, root(26).rest), (5, 1));
 }
 
 /// 3 before 12, 12 before 4 and before a row is looked at.

@@ -1,5 +1,10 @@
--- `put_line` meets its contract: its numbers one behind the other. Assumes nothing.
-use Rattle.printing.specs.Lines.{lineBytes, then}
+-- `put_line` meets its contract: its numbers two by two. Assumes nothing.
+use mathlib.Core.Path.{_≡_, refl}
+use mathlib.Core.List.{List, _++_}
+use Prim.Native.Nat.{ℕ, _+_}
+use Rattle.rules.specs.Query.{decimal}
+use Rattle.printing.specs.Put.{putAt}
+use Rattle.printing.specs.Lines.{lineBytes, then-two}
 use borrow.Author.Needs.{needs}
 use Rattle.printing.proofs.put_line.Statement.{statement}
 use Rattle.printing.proofs.put_line.Tie as tie
@@ -10,41 +15,29 @@ add-b c = search needs
 add-c : tie.Need-add-c
 add-c c = search needs
 
-add-d : tie.Need-add-d
-add-d c = search needs
+cast-put-two : tie.Need-cast-put-two
+cast-put-two c = search needs
 
-add-e : tie.Need-add-e
-add-e c = search needs
+cast-put-two-2 : tie.Need-cast-put-two-2
+cast-put-two-2 c = search needs
 
-add-end : tie.Need-add-end
-add-end c = search needs
+put-two-requires : tie.Need-put-two-requires
+put-two-requires c κs = search needs
 
-cast-put-number : tie.Need-cast-put-number
-cast-put-number c = search needs
+cast-put-two-3 : tie.Need-cast-put-two-3
+cast-put-two-3 c = search needs
 
-put-number-requires : tie.Need-put-number-requires
-put-number-requires c κs = search needs
+cast-put-two-4 : tie.Need-cast-put-two-4
+cast-put-two-4 c = search needs
 
-cast-put-number-2 : tie.Need-cast-put-number-2
-cast-put-number-2 c = search needs
+put-two-requires-2 : tie.Need-put-two-requires-2
+put-two-requires-2 c κs = search needs
 
-put-number-requires-2 : tie.Need-put-number-requires-2
-put-number-requires-2 c κs = search needs
+put-two-requires-3 : tie.Need-put-two-requires-3
+put-two-requires-3 c κs = search needs
 
-cast-put-number-3 : tie.Need-cast-put-number-3
-cast-put-number-3 c = search needs
-
-put-number-requires-3 : tie.Need-put-number-requires-3
-put-number-requires-3 c κs = search needs
-
-cast-put-number-4 : tie.Need-cast-put-number-4
-cast-put-number-4 c = search needs
-
-put-number-requires-4 : tie.Need-put-number-requires-4
-put-number-requires-4 c κs = search needs
-
-put-number-requires-5 : tie.Need-put-number-requires-5
-put-number-requires-5 c κs = search needs
+add-put-feed : tie.Need-add-put-feed
+add-put-feed c = search needs
 
 put-feed-requires : tie.Need-put-feed-requires
 put-feed-requires c κs = search needs
@@ -52,9 +45,18 @@ put-feed-requires c κs = search needs
 same-length : tie.Need-same-length
 same-length c = search needs
 
+-- two numbers of six columns, or of eight, then other bytes
+twelve : (at m n : ℕ) (b l : List ℕ) →
+    putAt at (decimal 6 m ++ (decimal 6 n ++ b)) l ≡ putAt (at + 12) b (putAt at (decimal 6 m ++ decimal 6 n) l)
+twelve at m n b l = then-two 6 12 at m n b l refl
+
+sixteen : (at m n : ℕ) (b l : List ℕ) →
+    putAt at (decimal 8 m ++ (decimal 8 n ++ b)) l ≡ putAt (at + 16) b (putAt at (decimal 8 m ++ decimal 8 n) l)
+sixteen at m n b l = then-two 8 16 at m n b l refl
+
 returns : tie.Need-returns
 unfolding lineBytes
-returns c = simp then (cc)
+returns c = simp (twelve, sixteen) (cc)
 
 pub put-line-spec : {M : Type 1} → statement M
 put-line-spec =
@@ -62,18 +64,14 @@ put-line-spec =
     (tie.spec
     add-b
     add-c
-    add-d
-    add-e
-    add-end
-    cast-put-number
-    put-number-requires
-    cast-put-number-2
-    put-number-requires-2
-    cast-put-number-3
-    put-number-requires-3
-    cast-put-number-4
-    put-number-requires-4
-    put-number-requires-5
+    cast-put-two
+    cast-put-two-2
+    put-two-requires
+    cast-put-two-3
+    cast-put-two-4
+    put-two-requires-2
+    put-two-requires-3
+    add-put-feed
     put-feed-requires
     same-length
     returns)

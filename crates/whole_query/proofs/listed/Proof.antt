@@ -7,8 +7,9 @@ use mir.Facts.{toZ-ofZ, toZ-pos}
 use borrow.Author.Needs.{needs, sfits-of}
 use Rattle.rules.specs.declared.Query.{Query}
 use Rattle.rules.specs.Query.{listing}
+use Rattle.printing.specs.Put.{putAt}
 use Rattle.listing.specs.Shown.{listingRoom}
-use Rattle.whole_query.specs.Numbers.{lentListingAnswer, lentListingBytes}
+use Rattle.whole_query.specs.Asked.{lentListingAnswer, lentListingBytes}
 use Rattle.whole_query.proofs.Ends.{Asking, outcome-is, code-refusal, has-room, refused, found}
 use Rattle.whole_query.proofs.listed.Statement.{statement}
 use Rattle.whole_query.proofs.listed.Tie as tie
@@ -43,7 +44,8 @@ returns c =
     let f = s .f .now in
     let t = s .t .now in
     let end =
-    refused (asked at) (λ (q : Query). length (listing q f t)) (λ (q : Query). listing q f t) (s .out .now)
+    refused (asked at) (λ (q : Query). length (listing q f t))
+    (λ (q : Query). putAt 0 (listing q f t) (s .out .now)) (s .out .now)
     (c .before .if1 .taken) in
     (toZ-ofZ {w = w32} {z = c .minus .result} (sfits-of (c .minus .ok)) ∙ c .minus .ensures ∙ end .0, end .1)
 
@@ -66,7 +68,8 @@ returns-2 c =
     let f = s .f .now in
     let t = s .t .now in
     let end =
-    found (asked (if .before)) (λ (q : Query). length (listing q f t)) (λ (q : Query). listing q f t) (s .out .now)
+    found (asked (if .before)) (λ (q : Query). length (listing q f t))
+    (λ (q : Query). putAt 0 (listing q f t) (s .out .now)) (s .out .now)
     (if .if1 .left) (put .result) (put .last .0) (put .ensures .0 .1) (put .ensures .1) in
     (toZ-pos w32 {n = put .result} (omega (arith, put .ensures .0 .0)) ∙ end .0, end .1)
 

@@ -8,7 +8,8 @@ use borrow.Author.Needs.{needs, sfits-of}
 use Rattle.rules.specs.declared.Query.{Query}
 use Rattle.rules.specs.Query.{list}
 use Rattle.listing.specs.ListShown.{counted, count-few}
-use Rattle.whole_query.specs.Numbers.{queryRoom, queryNumbers, lentQueryAnswer, lentQueryNumbers}
+use Rattle.whole_query.specs.Asked.{lentQueryAnswer, lentQueryNumbers}
+use Rattle.query_numbers.specs.Answers.{queryRoom, answered}
 use Rattle.whole_query.proofs.Ends.{Asking, outcome-is, code-refusal, has-room, refused, found}
 use Rattle.whole_query.proofs.whole.Statement.{statement}
 use Rattle.whole_query.proofs.whole.Tie as tie
@@ -43,7 +44,7 @@ returns c =
     let f = s .f .now in
     let t = s .t .now in
     let end =
-    refused (asked at) (λ (q : Query). length (list q f t)) (λ (q : Query). queryNumbers q f t) (s .out .now)
+    refused (asked at) (λ (q : Query). length (list q f t)) (λ (q : Query). answered q f t (s .out .now)) (s .out .now)
     (c .before .if1 .taken) in
     (toZ-ofZ {w = w32} {z = c .minus .result} (sfits-of (c .minus .ok)) ∙ c .minus .ensures ∙ end .0, end .1)
 
@@ -72,7 +73,8 @@ returns-2 c =
     let run = if .before .before .run .result in
     let ran = outcome-is (asked (if .before)) in
     let end =
-    found (asked (if .before)) (λ (q : Query). length (list q f t)) (λ (q : Query). queryNumbers q f t) (s .out .now)
+    found (asked (if .before)) (λ (q : Query). length (list q f t))
+    (λ (q : Query). answered q f t (s .out .now)) (s .out .now)
     (if .if1 .left) (run .count) (put .last .0) (counted f t run ran) (put .ensures) in
     (toZ-pos w32 {n = run .count} (omega (arith, count-few f t run ran)) ∙ end .0, end .1)
 

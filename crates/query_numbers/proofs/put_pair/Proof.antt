@@ -1,8 +1,8 @@
 -- `put_pair` meets its contract. Assumes nothing.
-use Rattle.whole_query.proofs.Steps.{pair-put}
+use Rattle.query_numbers.proofs.Steps.{pair-put}
 use borrow.Author.Needs.{needs}
-use Rattle.whole_query.proofs.put_pair.Statement.{statement}
-use Rattle.whole_query.proofs.put_pair.Tie as tie
+use Rattle.query_numbers.proofs.put_pair.Statement.{statement}
+use Rattle.query_numbers.proofs.put_pair.Tie as tie
 
 add-b : tie.Need-add-b
 add-b c = search needs

@@ -1,8 +1,8 @@
 -- `put_three` meets its contract. Assumes nothing.
-use Rattle.whole_query.proofs.Steps.{then-one}
+use Rattle.query_numbers.proofs.Steps.{then-one}
 use borrow.Author.Needs.{needs}
-use Rattle.whole_query.proofs.put_three.Statement.{statement}
-use Rattle.whole_query.proofs.put_three.Tie as tie
+use Rattle.query_numbers.proofs.put_three.Statement.{statement}
+use Rattle.query_numbers.proofs.put_three.Tie as tie
 
 add-b : tie.Need-add-b
 add-b c = search needs

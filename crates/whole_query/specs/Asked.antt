@@ -1,50 +1,18 @@
--- One whole query over two lent tables, its answer as numbers: definitions. Assumes nothing.
+-- One whole query over two lent tables, answered in lent places: definitions. Assumes nothing.
 use mathlib.Core.Bool.{cond}
-use mathlib.Core.List.{List, [], _∷_, _++_}
-use Prim.Native.Nat.{ℕ, _+_, _*_, _-_}
+use mathlib.Core.List.{List, [], _∷_}
+use Prim.Native.Nat.{ℕ}
 use lib.Dec.{leb, eqb}
 use lib.IntN.{ℤ}
 use lib.ListN.{length}
-use Rattle.lists.specs.Lists.{each}
-use Rattle.rules.specs.declared.Pair.{Pair}
-use Rattle.rules.specs.declared.Query.{Query}
-use Rattle.rules.specs.declared.Session.{Session}
 use Rattle.rules.specs.Numbers.{shortSlice, unless, first, Said, signed}
-use Rattle.rules.specs.Tables.{row, squaredDistance}
-use Rattle.rules.specs.Session.{placeCount}
 use Rattle.rules.specs.Calls.{openCode}
-use Rattle.rules.specs.Query.{settledSession, list, listing}
+use Rattle.rules.specs.Query.{list, listing}
 use Rattle.record_layout.specs.Flat.{querySize, queryIn}
 use Rattle.printing.specs.Put.{putAt}
 use Rattle.run_query.specs.Outcomes.{readCode}
 use Rattle.listing.specs.Shown.{listingRoom}
-
--- of a pair: its sum, its two rows, their pattern numbers, the squared distance
-unfoldable pub pairNumbers : List ℤ → List ℤ → Pair → List ℕ
-pairNumbers f t p =
-    let x = row f (p .field - 1) in
-    let y = row t (p .trim - 1) in
-    p .sum ∷ p .field ∷ p .trim ∷ x .pattern ∷ y .pattern ∷ squaredDistance (x .shade) (y .shade) ∷ []
-
-unfoldable pub listNumbers : Query → List ℤ → List ℤ → List ℕ
-listNumbers q f t = each (pairNumbers f t) (list q f t)
-
--- in front of them: field rows read, trim rows read, block pairs joined
-abbrev pub headNumbers : Session → List ℕ
-headNumbers s = s .depth .field .0 ∷ s .depth .trim .0 ∷ s .joined ∷ []
-
-unfoldable pub queryNumbers : Query → List ℤ → List ℤ → List ℕ
-queryNumbers q f t = headNumbers (settledSession q f t) ++ listNumbers q f t
-
--- how many numbers stand in front of the pairs, how many a pair is, and the longest answer
-abbrev pub headLength : ℕ
-headLength = 3
-
-abbrev pub pairLength : ℕ
-pairLength = 6
-
-abbrev pub queryRoom : ℕ
-queryRoom = headLength + pairLength * placeCount
+use Rattle.query_numbers.specs.Answers.{queryRoom, answered}
 
 -- ---- What a query is refused by
 
@@ -64,9 +32,9 @@ abbrev pub asked : ℕ → ℕ → Said
 asked code count =
     record { accepted = eqb code 0; number = cond (eqb code 0) count code; values = [] }
 
--- the lent places after it: from the front the answer's, the rest as it was; refused, all as it was
+-- the lent places after it: with the answer written; refused, all as it was
 unfoldable pub writtenUnless : ℕ → List ℕ → List ℕ → List ℕ
-writtenUnless code answer out = cond (eqb code 0) (putAt 0 answer out) out
+writtenUnless code written out = cond (eqb code 0) written out
 
 -- ---- The answer as numbers
 
@@ -78,7 +46,7 @@ unfoldable pub lentQueryAnswer : List ℕ → List ℤ → List ℤ → List ℕ
 lentQueryAnswer l f t out = signed (asked (lentQueryCode l f t out) (length (list (queryIn l) f t)))
 
 unfoldable pub lentQueryNumbers : List ℕ → List ℤ → List ℤ → List ℕ → List ℕ
-lentQueryNumbers l f t out = writtenUnless (lentQueryCode l f t out) (queryNumbers (queryIn l) f t) out
+lentQueryNumbers l f t out = writtenUnless (lentQueryCode l f t out) (answered (queryIn l) f t out) out
 
 -- ---- The answer as the listing's bytes
 
@@ -90,4 +58,5 @@ unfoldable pub lentListingAnswer : List ℕ → List ℤ → List ℤ → List �
 lentListingAnswer l f t out = signed (asked (lentListingCode l f t out) (length (listing (queryIn l) f t)))
 
 unfoldable pub lentListingBytes : List ℕ → List ℤ → List ℤ → List ℕ → List ℕ
-lentListingBytes l f t out = writtenUnless (lentListingCode l f t out) (listing (queryIn l) f t) out
+lentListingBytes l f t out =
+    writtenUnless (lentListingCode l f t out) (putAt 0 (listing (queryIn l) f t) out) out

@@ -2,8 +2,8 @@
 use denote.Ref.{now}
 use Rattle.printing.specs.Put.{put-one}
 use borrow.Author.Needs.{needs}
-use Rattle.whole_query.proofs.put_one.Statement.{statement}
-use Rattle.whole_query.proofs.put_one.Tie as tie
+use Rattle.query_numbers.proofs.put_one.Statement.{statement}
+use Rattle.query_numbers.proofs.put_one.Tie as tie
 
 mul-out : tie.Need-mul-out
 mul-out c = search needs
