@@ -4,9 +4,9 @@ use rules::Pair;
 use rules::Query;
 ghost use mathlib.Core.Path.{_≡_};
 ghost use mathlib.Core.Bool.{true, false};
-ghost use Prim.Native.Nat.{_+_, _*_, _≤_, _<_, _/_, _%_};
+ghost use Prim.Native.Nat.{_+_, _≤_, _<_, _%_};
 ghost use lib.ListN.{length};
-ghost use Rattle.rules.specs.Tables.{mostRows, rowInRange, row, withdrawn, terms, pairAt};
+ghost use Rattle.rules.specs.Tables.{mostRows, rowInRange, row, withdrawn, terms, pairAt, HasRow, rowCount};
 ghost use Rattle.session_laws.specs.Record.{QueryFits};
 ghost use Rattle.keys.specs.Held.{Narrow};
 ghost use Rattle.block.specs.Block.{at, Rows, Below, Joined};
@@ -16,7 +16,7 @@ ghost use Rattle.block.specs.Near.{placed, rowNear, anyNear, NextNear};
 
 // Whether row i + 1 of x and row j + 1 of y lie within the radius, withdrawn or not.
 fn near(q: Query, x: &[i32], i: usize, y: &[i32], j: usize) -> bool
-    requires { ⌜ (4 * i + 4 ≤ length (now x)) × (4 * j + 4 ≤ length (now y)) ⌝ }
+    requires { ⌜ HasRow (now x) i × HasRow (now y) j ⌝ }
     ensures { λ r. ⌜ r ≡ placed q .near (row (now (x .entry)) i) (row (now (y .entry)) j) ⌝ }
 {
     let first = tables::shade(x, i);
@@ -26,8 +26,8 @@ fn near(q: Query, x: &[i32], i: usize, y: &[i32], j: usize) -> bool
 
 // Whether row i + 1 of x lies near any row of y. It looks at all of them: no branch stands in the loop.
 fn row_near(q: Query, x: &[i32], i: usize, y: &[i32]) -> bool
-    requires { ⌜ 4 * i + 4 ≤ length (now x) ⌝ }
-    ensures { λ r. ⌜ r ≡ rowNear (placed q) (now (x .entry)) (now (y .entry)) i (length (now (y .entry)) / 4) ⌝ }
+    requires { ⌜ HasRow (now x) i ⌝ }
+    ensures { λ r. ⌜ r ≡ rowNear (placed q) (now (x .entry)) (now (y .entry)) i (rowCount (now (y .entry))) ⌝ }
 {
     let n = y.len() / 4;
     let mut seen = false;
@@ -42,7 +42,7 @@ fn row_near(q: Query, x: &[i32], i: usize, y: &[i32]) -> bool
 
 // Whether any row of x lies near any row of y.
 pub fn any_near(q: Query, x: &[i32], y: &[i32]) -> bool
-    ensures { λ r. ⌜ r ≡ anyNear (placed q) (now (x .entry)) (now (y .entry)) (length (now (x .entry)) / 4) ⌝ }
+    ensures { λ r. ⌜ r ≡ anyNear (placed q) (now (x .entry)) (now (y .entry)) (rowCount (now (x .entry))) ⌝ }
 {
     let m = x.len() / 4;
     let mut seen = false;
@@ -59,7 +59,7 @@ pub fn any_near(q: Query, x: &[i32], y: &[i32]) -> bool
 // their tables. Two weighted scores of rows that passed 6 add up to a small sum.
 fn pair_at(q: Query, x: &[i32], a: usize, i: usize, y: &[i32], c: usize, j: usize) -> Pair
     requires { ⌜ QueryFits q × (rowInRange (now x) i ≡ true) × (rowInRange (now y) j ≡ true) ⌝ }
-    requires { ⌜ (4 * i + 4 ≤ length (now x)) × (4 * j + 4 ≤ length (now y))
+    requires { ⌜ HasRow (now x) i × HasRow (now y) j
         × (a + i < mostRows) × (c + j < mostRows) ⌝ }
     ensures { λ r. ⌜ (r ≡ pairAt (terms q) (at a (now (x .entry))) (at c (now (y .entry))) i j) × Narrow r ⌝ }
 {
@@ -90,7 +90,7 @@ fn live_rows(x: &[i32]) -> usize
 // Whether row i + 1 of x and row j + 1 of y, neither of them withdrawn, lie within the radius, tested at 32 bits where
 // the flag says so.
 fn near_by(small: bool, q: Query, x: &[i32], i: usize, y: &[i32], j: usize) -> bool
-    requires { ⌜ (4 * i + 4 ≤ length (now x)) × (4 * j + 4 ≤ length (now y)) ⌝ }
+    requires { ⌜ HasRow (now x) i × HasRow (now y) j ⌝ }
     requires { ⌜ (withdrawn (row (now x) i) ≡ false) × (withdrawn (row (now y) j) ≡ false) ⌝ }
     requires { ⌜ SmallPairs (q .radius) (now x) (now y) ⌝ }
     ensures { λ r. ⌜ r ≡ terms q .near (row (now (x .entry)) i) (row (now (y .entry)) j) ⌝ }
@@ -106,7 +106,7 @@ fn near_by(small: bool, q: Query, x: &[i32], i: usize, y: &[i32], j: usize) -> b
 // The first of y's n live rows from row j + 1 on that lies near row i + 1 of x, a live row too, counted from 0; n where
 // none does. No score is looked at.
 fn next_near(small: bool, q: Query, x: &[i32], i: usize, y: &[i32], n: usize, j: usize) -> usize
-    requires { ⌜ (4 * i + 4 ≤ length (now x)) × (withdrawn (row (now x) i) ≡ false) × Live (now y) n × (j ≤ n) ⌝ }
+    requires { ⌜ HasRow (now x) i × (withdrawn (row (now x) i) ≡ false) × Live (now y) n × (j ≤ n) ⌝ }
     requires { ⌜ SmallPairs (q .radius) (now x) (now y) ⌝ }
     ensures { λ r. ⌜ NextNear (terms q) (now (x .entry)) i (now (y .entry)) n j r ⌝ }
 {

@@ -1,16 +1,16 @@
 -- `any_near` meets its contract: after i turns the first i rows are looked at. Assumes nothing.
 use mathlib.Core.Path.{_≡_, refl, ap, _∙_}
-use Prim.Native.Nat.{_-_, _≤_, _/_}
+use Prim.Native.Nat.{_-_, _≤_}
 use native.Mathlib.Numerals.{add-one}
 use native.Mathlib.Omega.{arith}
-use lib.ListN.{length}
 use borrow.Author.Needs.{needs}
+use Rattle.rules.specs.Tables.{rowCount}
 use Rattle.block.specs.Near.{placed, anyNear}
 use Rattle.block.proofs.any_near.Statement.{statement}
 use Rattle.block.proofs.any_near.Tie as tie
 
 abbrev Inv-loop : tie.InvT-loop
-Inv-loop q x y m seen₀ i₀ seen i = (i ≤ m) × (m ≡ length x / 4) × (seen ≡ anyNear (placed q) x y i)
+Inv-loop q x y m seen₀ i₀ seen i = (i ≤ m) × (m ≡ rowCount x) × (seen ≡ anyNear (placed q) x y i)
 
 abbrev μ-loop : tie.MeasureT-loop
 μ-loop q x y m seen₀ i₀ seen i = m - i
@@ -36,7 +36,7 @@ returns : tie.Need-returns Inv-loop μ-loop
 returns c =
     let s = c .before .before in
     let v = c .before .loop in
-    let e : v .i ≡ length (s .args .x .now) / 4 = omega arith in
+    let e : v .i ≡ rowCount (s .args .x .now) = omega arith in
     v .inv .2 ∙ ap (anyNear (placed (s .args .q)) (s .args .x .now) (s .args .y .now)) e
 
 pub any-near-spec : {M : Type 1} → statement M

@@ -1,18 +1,17 @@
 -- `live_rows` meets its contract: the rows passed from the end upward are withdrawn. Assumes nothing.
 use mathlib.Core.Path.{_≡_, sym, _∙_}
 use mathlib.Core.Bool.{true}
-use Prim.Native.Nat.{ℕ, _-_, _≤_, _<_, _/_}
+use Prim.Native.Nat.{ℕ, _-_, _≤_, _<_}
 use native.Mathlib.Omega.{arith}
-use lib.ListN.{length}
 use borrow.Author.Tests.{not-true, not-false}
-use Rattle.rules.specs.Tables.{row, withdrawn}
+use Rattle.rules.specs.Tables.{row, withdrawn, rowCount}
 use Rattle.block.specs.Live.{above-live}
 use Rattle.block.proofs.live_rows.Statement.{statement}
 use Rattle.block.proofs.live_rows.Tie as tie
 
 abbrev Inv-loop : tie.InvT-loop
 Inv-loop x n₀ n =
-    (n ≤ length x / 4) × ((i : ℕ) → n ≤ i → i < length x / 4 → withdrawn (row x i) ≡ true)
+    (n ≤ rowCount x) × ((i : ℕ) → n ≤ i → i < rowCount x → withdrawn (row x i) ≡ true)
 
 abbrev μ-loop : tie.MeasureT-loop
 μ-loop x n₀ n = n
