@@ -29,7 +29,7 @@ fn row_near(q: Query, x: &[i32], i: usize, y: &[i32]) -> bool
     requires { ⌜ HasRow (now x) i ⌝ }
     ensures { λ r. ⌜ r ≡ rowNear (placed q) (now (x .entry)) (now (y .entry)) i (rowCount (now (y .entry))) ⌝ }
 {
-    let n = y.len() / 4;
+    let n = tables::row_count(y);
     let mut seen = false;
     let mut j: usize = 0;
     while j < n {
@@ -44,7 +44,7 @@ fn row_near(q: Query, x: &[i32], i: usize, y: &[i32]) -> bool
 pub fn any_near(q: Query, x: &[i32], y: &[i32]) -> bool
     ensures { λ r. ⌜ r ≡ anyNear (placed q) (now (x .entry)) (now (y .entry)) (rowCount (now (x .entry))) ⌝ }
 {
-    let m = x.len() / 4;
+    let m = tables::row_count(x);
     let mut seen = false;
     let mut i: usize = 0;
     while i < m {
@@ -77,7 +77,7 @@ fn live_rows(x: &[i32]) -> usize
     requires { ⌜ Below (now x) ⌝ }
     ensures { λ r. ⌜ Live (now (x .entry)) r ⌝ }
 {
-    let mut n = x.len() / 4;
+    let mut n = tables::row_count(x);
     while 0 < n {
         if !tables::is_withdrawn(x, n - 1) {
             return n;
@@ -142,7 +142,7 @@ pub fn join(
     let m = live_rows(x);
     let n = live_rows(y);
     let last = (room + 63) % 64;
-    let small = (128 < x.len()) & (64 <= q.radius);
+    let small = (32 < tables::row_count(x)) & (64 <= q.radius);
     let mut g = held;
     let mut i: usize = 0;
     let mut j: usize = 0;

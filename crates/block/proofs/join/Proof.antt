@@ -43,9 +43,12 @@ live-rows-requires-2 c κs = c .before .pre .1 .2 .below
 add-last : tie.Need-add-last Inv-loop μ-loop
 add-last c = omega arith
 
+row-count-requires : tie.Need-row-count-requires Inv-loop μ-loop
+row-count-requires c κs = search needs
+
 loop-holds : tie.Need-loop-holds Inv-loop μ-loop
 loop-holds c =
-    let s = c .before .before .before in (
+    let s = c .before .before .before .before in (
       omega arith,
       omega arith,
       λ _. refl,
@@ -57,7 +60,7 @@ loop-holds c =
 
 next-near-requires : tie.Need-next-near-requires Inv-loop μ-loop
 next-near-requires c κs =
-    let live = c .before .before .before in
+    let live = c .before .before .before .before in
     let s = live .before .before in
     let a = s .args in
     let turn = c .loop-test .taken in
@@ -73,7 +76,7 @@ next-near-requires c κs =
 
 pair-at-requires : tie.Need-pair-at-requires Inv-loop μ-loop
 pair-at-requires c κs =
-    let live = c .before .before .before .before .before in
+    let live = c .before .before .before .before .before .before in
     let s = live .before .before in
     let x = s .pre .1 .1 in
     let y = s .pre .1 .2 in
@@ -97,7 +100,7 @@ element-copy-out-if2 c = omega arith
 put-requires : tie.Need-put-requires Inv-loop μ-loop
 put-requires c κs =
     let v = c .before .before .before .before .before .before .before .before in
-    let s = v .before .before .before .before in
+    let s = v .before .before .before .before .before in
     (c .before .before .before .before .pair-at .ensures .1, v .loop .inv .3, s .pre .0 .1)
 
 add-j : tie.Need-add-j Inv-loop μ-loop
@@ -111,7 +114,7 @@ loop-less c =
 loop-again : tie.Need-loop-again Inv-loop μ-loop
 loop-again c =
     let found = c .before .before .before .before .before in
-    let live = c .before .before .before .before .before .before .before .before .before in
+    let live = c .before .before .before .before .before .before .before .before .before .before in
     let s = live .before .before in
     let v = c .before .before .before .before .before .before .before .loop in
     let near = found .next-near in
@@ -152,14 +155,14 @@ add-i c = omega arith
 
 loop-less-2 : tie.Need-loop-less-2 Inv-loop μ-loop
 loop-less-2 c =
-    let live = c .before .before .before .before .before in
+    let live = c .before .before .before .before .before .before in
     let v = c .before .before .before .loop in
     row-less (live .before .live-rows .result) (live .live-rows2 .result) (v .i) (v .j)
     (c .before .before .loop-test .taken)
 
 loop-again-2 : tie.Need-loop-again-2 Inv-loop μ-loop
 loop-again-2 c =
-    let live = c .before .before .before .before .before in
+    let live = c .before .before .before .before .before .before in
     let s = live .before .before in
     let v = c .before .before .before .loop in
     let near = c .before .next-near in
@@ -184,7 +187,7 @@ loop-again-2 c =
 
 returns : tie.Need-returns Inv-loop μ-loop
 returns c =
-    let live = c .before .before .before in
+    let live = c .before .before .before .before in
     let s = live .before .before in
     let v = c .before .loop in
     let x = at (s .args .a) (s .args .x .now) in
@@ -210,6 +213,7 @@ join-spec =
     live-rows-requires
     live-rows-requires-2
     add-last
+    row-count-requires
     loop-holds
     next-near-requires
     pair-at-requires
