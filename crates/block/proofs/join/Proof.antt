@@ -2,7 +2,7 @@
 -- and withdrawn rows qualify with none. Assumes nothing.
 use mathlib.Core.Path.{_≡_, refl, sym, ap, subst, _∙_}
 use mathlib.Core.Logic.{⊎-elim}
-use Prim.Native.Nat.{ℕ, _+_, _*_, _-_, _%_, _≤_, _<_, _/_}
+use Prim.Native.Nat.{ℕ, _+_, _*_, _-_, _%_, _≤_, _<_}
 use native.Mathlib.Nat.{suc-mul}
 use native.Mathlib.Omega.{arith}
 use lib.Dec.{eqb, ltb}
@@ -10,7 +10,7 @@ use lib.ListN.{length, getD}
 use borrow.Author.Needs.{needs}
 use borrow.Author.Tests.{not-false, eqb-true}
 use Rattle.lists.specs.Bools.{and-out}
-use Rattle.rules.specs.Tables.{terms}
+use Rattle.rules.specs.Tables.{terms, rowCount}
 use Rattle.block.specs.Block.{at}
 use Rattle.block.specs.Live.{none-beyond-first, none-beyond-second}
 use Rattle.block.specs.Small.{rows-small}
@@ -77,9 +77,9 @@ pair-at-requires c κs =
     let s = live .before .before in
     let x = s .pre .1 .1 in
     let y = s .pre .1 .2 in
-    let turn : c .before .before .before .loop .i < length (s .args .x .now) / 4 =
+    let turn : c .before .before .before .loop .i < rowCount (s .args .x .now) =
     omega (arith, c .before .before .loop-test .taken, live .before .live-rows .ensures .upto) in
-    let h : c .before .next-near .result < length (s .args .y .now) / 4 =
+    let h : c .before .next-near .result < rowCount (s .args .y .now) =
     omega (arith, c .if1 .taken, live .live-rows2 .ensures .upto) in (
       (s .pre .1 .0, x .range _ turn, y .range _ h),
       omega (arith, h, turn, x .whole, x .few, y .whole, y .few),
