@@ -1,5 +1,6 @@
 // What calls are refused by: 5 of a record (any record may come in), 4 of the lent slices, then 6 and 7 of the rows
 // read.
+use number_checks::numbers_fit;
 use rules::Counts;
 use rules::Pair;
 use rules::Session;
@@ -61,7 +62,7 @@ pub fn fits(s: Session) -> bool
 {
     let n = s.held as usize;
     let depth = s.depth;
-    let mut fits = number_checks::numbers_fit(s.query, s.rows, s.depth, s.last, s.out, s.held, s.joined);
+    let mut fits = numbers_fit(s.query, s.rows, s.depth, s.last, s.out, s.held, s.joined);
     let mut before: u64 = 0;
     let mut i = first_place(fits);
     while i < 64 {

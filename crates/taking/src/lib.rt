@@ -1,5 +1,6 @@
 // Take: the next pair out of a session over two lent tables. The record is a value that goes in and comes back;
 // whatever comes in is checked.
+use number_checks::numbers_fit;
 use rules::Answer;
 use rules::Session;
 use rules::Step;
@@ -63,7 +64,7 @@ pub fn take(f: &[i32], t: &[i32], s: Session) -> Step
     let mut r = s;
     let n = r.held as usize;
     let depth = r.depth;
-    let mut fits = number_checks::numbers_fit(r.query, r.rows, r.depth, r.last, r.out, r.held, r.joined);
+    let mut fits = numbers_fit(r.query, r.rows, r.depth, r.last, r.out, r.held, r.joined);
     let mut before: u64 = 0;
     let mut i = checks::first_place(fits);
     while i < 64 {
