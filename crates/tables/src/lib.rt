@@ -1,4 +1,5 @@
-// The rows of a table and their checks, the rules' 6 and 7: what the session and file reading share.
+// The rows of a table and their checks, the rules' 4, 6 and 7: what the session and file reading share. Others see rows
+// through these functions, and not how many numbers a row has.
 use rules::Shade;
 ghost use mathlib.Core.Path.{_≡_};
 ghost use mathlib.Core.List.{[], _∷_};
