@@ -9,7 +9,7 @@ use lib.ListN.{length, take}
 use Rattle.lists.specs.Lists.{ins, sort}
 use Rattle.lists.specs.Words.{Ordered}
 use Rattle.rules.specs.declared.Pair.{Pair}
-use Rattle.rules.specs.Tables.{Terms, mostRows, rowInRange, Block, row, withdrawn, pairAt, qualifying}
+use Rattle.rules.specs.Tables.{Terms, mostRows, rowInRange, Block, row, withdrawn, pairAt, qualifying, width}
 use Rattle.rules.specs.Tables.{ahead, rowCount}
 use Rattle.keys.specs.Held.{Keyed}
 
@@ -24,7 +24,7 @@ Below rows =
 
 -- a part of n whole rows within a table's 65,535, each of which passed 6 and 7
 pub record Rows (a : ℕ) (rows : List ℤ) : Type 0 where
-  pub whole : 4 * rowCount rows ≡ length rows
+  pub whole : width * rowCount rows ≡ length rows
   pub few : a + rowCount rows ≤ mostRows
   pub range : (i : ℕ) → i < rowCount rows → rowInRange rows i ≡ true
   pub below : Below rows

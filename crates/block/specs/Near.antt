@@ -5,9 +5,9 @@ use mathlib.Core.Bool.{Bool, true, false, _&&_, _||_, not}
 use mathlib.Core.List.{List, [], _∷_, _++_, map}
 use Prim.Native.Nat.{ℕ, zero, suc, _+_, _≤_, _<_}
 use native.Mathlib.Omega.{arith}
-use lib.Dec.{eqb}
+use lib.Dec.{eqb, ltb}
 use lib.IntN.{ℤ}
-use borrow.Author.Tests.{eqb-true, eqb-false}
+use borrow.Author.Tests.{eqb-true, eqb-false, ltb-true, ltb-false}
 use Rattle.lists.specs.Lists.{consIf, keep, range, each}
 use Rattle.lists.specs.Appends.{keep-append, each-append, range-end}
 use Rattle.lists.specs.Bools.{and-false, or-none-out}
@@ -93,20 +93,30 @@ pub none-placed : (q : Query) (x y : Block) → anyNear (placed q) (x .rows) (y 
     → qualifying (terms q) x y ≡ []
 none-placed q x y h = none-qualify (terms q) x y (any-placed q (x .rows) (y .rows) (rowCount (x .rows)) h)
 
--- r is the first of y's first n rows from row j on that lies near row i of x, rows counted from 0, or n
+-- none of y's rows from row j to before row r lies near row i of x, rows counted from 0
+abbrev pub NoneNear : Terms → List ℤ → ℕ → List ℤ → ℕ → ℕ → Type 0
+NoneNear w x i y j r = (k : ℕ) → j ≤ k → k < r → w .near (row x i) (row y k) ≡ false
+
+-- r is the first of y's first n rows from row j on that lies near row i of x, or n
 pub record NextNear (w : Terms) (x : List ℤ) (i : ℕ) (y : List ℤ) (n j r : ℕ) : Type 0 where
   pub from : j ≤ r
   pub upto : r ≤ n
-  pub none-before : (k : ℕ) → j ≤ k → k < r → w .near (row x i) (row y k) ≡ false
+  pub none-before : NoneNear w x i y j r
   pub found : r < n → w .near (row x i) (row y r) ≡ true
 
--- one row more that does not lie near
-pub none-more : (w : Terms) (x : List ℤ) (i : ℕ) (y : List ℤ) (j r : ℕ)
-    → ((k : ℕ) → j ≤ k → k < r → w .near (row x i) (row y k) ≡ false)
-    → w .near (row x i) (row y r) ≡ false
-    → (k : ℕ) → j ≤ k → k < r + 1 → w .near (row x i) (row y k) ≡ false
-none-more w x i y j r none here k h l = go (eqb k r) refl
-  where
-    go : (t : Bool) → eqb k r ≡ t → w .near (row x i) (row y k) ≡ false
-    go true e = ap (λ (b : ℕ). w .near (row x i) (row y b)) (eqb-true k r e) ∙ here
-    go false e = let n = eqb-false k r e in none k h (omega (arith, l, n))
+module _ (w : Terms) (x : List ℤ) (i : ℕ) (y : List ℤ) (j r : ℕ) (none : NoneNear w x i y j r) where
+  -- one row more that does not lie near
+  pub none-more : w .near (row x i) (row y r) ≡ false → NoneNear w x i y j (r + 1)
+  none-more here k h l = go (eqb k r) refl
+    where
+      go : (t : Bool) → eqb k r ≡ t → w .near (row x i) (row y k) ≡ false
+      go true e = ap (λ (b : ℕ). w .near (row x i) (row y b)) (eqb-true k r e) ∙ here
+      go false e = let n = eqb-false k r e in none k h (omega (arith, l, n))
+
+  -- more rows of which none does
+  pub none-on : (s : ℕ) → NoneNear w x i y r s → NoneNear w x i y j s
+  none-on s more k h l = go (ltb k r) refl
+    where
+      go : (t : Bool) → ltb k r ≡ t → w .near (row x i) (row y k) ≡ false
+      go true e = none k h (ltb-true k r e)
+      go false e = more k (ltb-false k r e) l

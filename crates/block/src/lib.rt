@@ -4,19 +4,19 @@ use rules::Pair;
 use rules::Query;
 ghost use mathlib.Core.Path.{_≡_};
 ghost use mathlib.Core.Bool.{true, false};
-ghost use Prim.Native.Nat.{_+_, _*_, _≤_, _<_, _/_, _%_};
+ghost use Prim.Native.Nat.{_+_, _≤_, _<_, _%_};
 ghost use lib.ListN.{length};
-ghost use Rattle.rules.specs.Tables.{mostRows, rowInRange, row, withdrawn, terms, pairAt};
+ghost use Rattle.rules.specs.Tables.{mostRows, rowInRange, row, withdrawn, terms, pairAt, HasRow, rowCount};
 ghost use Rattle.session_laws.specs.Record.{QueryFits};
 ghost use Rattle.keys.specs.Held.{Narrow};
 ghost use Rattle.block.specs.Block.{at, Rows, Below, Joined};
 ghost use Rattle.block.specs.Live.{Live};
 ghost use Rattle.block.specs.Small.{SmallPairs};
-ghost use Rattle.block.specs.Near.{placed, rowNear, anyNear, NextNear};
+ghost use Rattle.block.specs.Near.{placed, rowNear, anyNear, NoneNear, NextNear};
 
 // Whether row i + 1 of x and row j + 1 of y lie within the radius, withdrawn or not.
 fn near(q: Query, x: &[i32], i: usize, y: &[i32], j: usize) -> bool
-    requires { ⌜ (4 * i + 4 ≤ length (now x)) × (4 * j + 4 ≤ length (now y)) ⌝ }
+    requires { ⌜ HasRow (now x) i × HasRow (now y) j ⌝ }
     ensures { λ r. ⌜ r ≡ placed q .near (row (now (x .entry)) i) (row (now (y .entry)) j) ⌝ }
 {
     let first = tables::shade(x, i);
@@ -26,10 +26,10 @@ fn near(q: Query, x: &[i32], i: usize, y: &[i32], j: usize) -> bool
 
 // Whether row i + 1 of x lies near any row of y. It looks at all of them: no branch stands in the loop.
 fn row_near(q: Query, x: &[i32], i: usize, y: &[i32]) -> bool
-    requires { ⌜ 4 * i + 4 ≤ length (now x) ⌝ }
-    ensures { λ r. ⌜ r ≡ rowNear (placed q) (now (x .entry)) (now (y .entry)) i (length (now (y .entry)) / 4) ⌝ }
+    requires { ⌜ HasRow (now x) i ⌝ }
+    ensures { λ r. ⌜ r ≡ rowNear (placed q) (now (x .entry)) (now (y .entry)) i (rowCount (now (y .entry))) ⌝ }
 {
-    let n = y.len() / 4;
+    let n = tables::row_count(y);
     let mut seen = false;
     let mut j: usize = 0;
     while j < n {
@@ -42,9 +42,9 @@ fn row_near(q: Query, x: &[i32], i: usize, y: &[i32]) -> bool
 
 // Whether any row of x lies near any row of y.
 pub fn any_near(q: Query, x: &[i32], y: &[i32]) -> bool
-    ensures { λ r. ⌜ r ≡ anyNear (placed q) (now (x .entry)) (now (y .entry)) (length (now (x .entry)) / 4) ⌝ }
+    ensures { λ r. ⌜ r ≡ anyNear (placed q) (now (x .entry)) (now (y .entry)) (rowCount (now (x .entry))) ⌝ }
 {
-    let m = x.len() / 4;
+    let m = tables::row_count(x);
     let mut seen = false;
     let mut i: usize = 0;
     while i < m {
@@ -59,7 +59,7 @@ pub fn any_near(q: Query, x: &[i32], y: &[i32]) -> bool
 // their tables. Two weighted scores of rows that passed 6 add up to a small sum.
 fn pair_at(q: Query, x: &[i32], a: usize, i: usize, y: &[i32], c: usize, j: usize) -> Pair
     requires { ⌜ QueryFits q × (rowInRange (now x) i ≡ true) × (rowInRange (now y) j ≡ true) ⌝ }
-    requires { ⌜ (4 * i + 4 ≤ length (now x)) × (4 * j + 4 ≤ length (now y))
+    requires { ⌜ HasRow (now x) i × HasRow (now y) j
         × (a + i < mostRows) × (c + j < mostRows) ⌝ }
     ensures { λ r. ⌜ (r ≡ pairAt (terms q) (at a (now (x .entry))) (at c (now (y .entry))) i j) × Narrow r ⌝ }
 {
@@ -77,7 +77,7 @@ fn live_rows(x: &[i32]) -> usize
     requires { ⌜ Below (now x) ⌝ }
     ensures { λ r. ⌜ Live (now (x .entry)) r ⌝ }
 {
-    let mut n = x.len() / 4;
+    let mut n = tables::row_count(x);
     while 0 < n {
         if !tables::is_withdrawn(x, n - 1) {
             return n;
@@ -87,43 +87,63 @@ fn live_rows(x: &[i32]) -> usize
     n
 }
 
-// Whether row i + 1 of x and row j + 1 of y, neither of them withdrawn, lie within the radius, tested at 32 bits where
-// the flag says so.
-fn near_by(small: bool, q: Query, x: &[i32], i: usize, y: &[i32], j: usize) -> bool
-    requires { ⌜ (4 * i + 4 ≤ length (now x)) × (4 * j + 4 ≤ length (now y)) ⌝ }
+// Whether row i + 1 of x and row j + 1 of y, neither of them withdrawn, lie within the radius: at 32 bits, as rows that
+// passed 6 allow.
+fn near_by(q: Query, x: &[i32], i: usize, y: &[i32], j: usize) -> bool
+    requires { ⌜ HasRow (now x) i × HasRow (now y) j ⌝ }
     requires { ⌜ (withdrawn (row (now x) i) ≡ false) × (withdrawn (row (now y) j) ≡ false) ⌝ }
     requires { ⌜ SmallPairs (q .radius) (now x) (now y) ⌝ }
     ensures { λ r. ⌜ r ≡ terms q .near (row (now (x .entry)) i) (row (now (y .entry)) j) ⌝ }
 {
     let first = tables::shade(x, i);
     let second = tables::shade(y, j);
-    if !small {
-        return distance::qualifies(q.radius, first, second);
-    }
     distance::near_small(q.radius, first, second)
+}
+
+// Whether none of the eight rows of y from row k + 1 on lies near row i + 1 of x, live rows all; no, too, where k is
+// not a multiple of 8 or fewer are left. So it looks at no row twice.
+fn eight_far(q: Query, x: &[i32], i: usize, y: &[i32], n: usize, k: usize) -> bool
+    requires { ⌜ HasRow (now x) i × (withdrawn (row (now x) i) ≡ false) × Live (now y) n × (k ≤ n) ⌝ }
+    requires { ⌜ SmallPairs (q .radius) (now x) (now y) ⌝ }
+    ensures { λ r. ⌜ (r ≡ true → (k + 8 ≤ n) × NoneNear (terms q) (now (x .entry)) i (now (y .entry)) k (k + 8)) ⌝ }
+{
+    if !((k % 8 == 0) & (k + 8 <= n)) {
+        return false;
+    }
+    let mut seen = false;
+    let mut b: usize = 0;
+    while b < 8 {
+        let here = near_by(q, x, i, y, k + b);
+        seen = seen | here;
+        b += 1;
+    }
+    !seen
 }
 
 // The first of y's n live rows from row j + 1 on that lies near row i + 1 of x, a live row too, counted from 0; n where
 // none does. No score is looked at.
-fn next_near(small: bool, q: Query, x: &[i32], i: usize, y: &[i32], n: usize, j: usize) -> usize
-    requires { ⌜ (4 * i + 4 ≤ length (now x)) × (withdrawn (row (now x) i) ≡ false) × Live (now y) n × (j ≤ n) ⌝ }
+fn next_near(q: Query, x: &[i32], i: usize, y: &[i32], n: usize, j: usize) -> usize
+    requires { ⌜ HasRow (now x) i × (withdrawn (row (now x) i) ≡ false) × Live (now y) n × (j ≤ n) ⌝ }
     requires { ⌜ SmallPairs (q .radius) (now x) (now y) ⌝ }
     ensures { λ r. ⌜ NextNear (terms q) (now (x .entry)) i (now (y .entry)) n j r ⌝ }
 {
     let mut k = j;
     while k < n {
-        if near_by(small, q, x, i, y, k) {
-            return k;
+        if eight_far(q, x, i, y, n, k) {
+            k += 8;
+        } else {
+            if near_by(q, x, i, y, k) {
+                return k;
+            }
+            k += 1;
         }
-        k += 1;
     }
     n
 }
 
 // The block join: of the pairs held and the qualifying pairs of x and y the best-ranked, at most room: how many are
 // held then. It goes from one near pair of live rows to the next; where the room is used up, a pair that would fall off
-// is not put. Rows that passed 6 may be tested at 32 bits. They are where it pays: in long blocks, and at a radius at
-// which a first gap within it is not rare, so that the branch on it is hard to foresee.
+// is not put.
 pub fn join(
     q: Query,
     room: usize,
@@ -142,12 +162,11 @@ pub fn join(
     let m = live_rows(x);
     let n = live_rows(y);
     let last = (room + 63) % 64;
-    let small = (128 < x.len()) & (64 <= q.radius);
     let mut g = held;
     let mut i: usize = 0;
     let mut j: usize = 0;
     while i < m {
-        let k = next_near(small, q, x, i, y, n, j);
+        let k = next_near(q, x, i, y, n, j);
         if k < n {
             let p = pair_at(q, x, a, i, y, c, k);
             let key = keys::key(p);

@@ -1,17 +1,18 @@
 -- What the calls know of the rows read once their checks have passed, and of both tables once rows of both were read.
 -- Assumes nothing.
-use Prim.Native.Nat.{ℕ, _*_, _≤_, _<_}
+use Prim.Native.Nat.{ℕ, _≤_, _<_}
 use native.Mathlib.Omega.{arith}
 use mathlib.Core.List.{List}
 use lib.IntN.{ℤ}
-use lib.ListN.{length}
 use Rattle.rules.specs.declared.Session.{Session}
+use Rattle.rules.specs.Tables.{HasRows}
+use Rattle.rules.specs.Widths.{has-rows}
 use Rattle.session_laws.specs.Tables.{RowFits}
 use Rattle.session_laws.specs.Calls.{SameSize, Accepted}
 
 -- the rows of a table down to a depth: the slice has them, and 6 and 7 refuse none
 pub record RowsRead (t : List ℤ) (depth : ℕ) : Type 0 where
-  pub there : 4 * depth ≤ length t
+  pub there : HasRows t depth
   pub fit : (i : ℕ) → i < depth → RowFits t i
 
 -- rows of both tables were read
@@ -23,7 +24,7 @@ pub record BothRead (f t : List ℤ) (s : Session) : Type 0 where
 
 rows-read : (t : List ℤ) (rows depth : ℕ) → SameSize rows t → depth ≤ rows → ((i : ℕ) → i < depth → RowFits t i)
     → RowsRead t depth
-rows-read t rows depth size within fit = record { there = omega (arith, size .size .whole, size .count); fit = fit }
+rows-read t rows depth size within fit = record { there = has-rows t depth (omega (arith, size .count)); fit = fit }
 
 -- a record and two slices that were accepted
 pub accepted-rows : (f t : List ℤ) (s : Session) → Accepted f t s

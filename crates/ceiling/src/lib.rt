@@ -4,9 +4,9 @@ use rules::Pair;
 use rules::Session;
 ghost use mathlib.Core.Path.{_≡_};
 ghost use mathlib.Core.Bool.{cond};
-ghost use Prim.Native.Nat.{_+_, _*_, _≤_, _<_, max};
-ghost use lib.ListN.{length};
+ghost use Prim.Native.Nat.{_+_, _<_, max};
 ghost use Rattle.rules.specs.Session.{readOut, isEmpty, ceiling, secured};
+ghost use Rattle.rules.specs.Tables.{HasRows};
 ghost use Rattle.ceiling.specs.BothRead.{RowsRead, BothRead};
 
 fn pick(t: bool, a: u64, b: u64) -> u64
@@ -37,7 +37,7 @@ pub fn read_out(t: &[i32], rows: u32, depth: u32) -> bool
 
 // Whether a table is empty: it has no rows, or its first row was read and is withdrawn.
 pub fn is_empty(t: &[i32], rows: u32, depth: u32) -> bool
-    requires { ⌜ 4 * depth ≤ length (now t) ⌝ }
+    requires { ⌜ HasRows (now t) depth ⌝ }
     ensures { λ r. ⌜ r ≡ isEmpty (now (t .entry)) rows depth ⌝ }
 {
     if rows == 0 {

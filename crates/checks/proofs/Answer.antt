@@ -16,7 +16,8 @@ use Rattle.rules.specs.Tables.{ahead}
 use Rattle.rules.specs.Session.{noPair, heldPairs}
 use Rattle.rules.specs.Read.{blockCount}
 use Rattle.rules.specs.Calls.{queryCode, countsFit, pairFits, markFits, isZeros, recordFits}
-use Rattle.checks.specs.Grounds.{pairWithin, markOf, numbersFit, placeFits, placesFrom}
+use Rattle.number_checks.specs.Grounds.{markOf, numbersFit}
+use Rattle.checks.specs.Grounds.{pairWithin, placeFits, placesFrom}
 
 module _ (depth : Counts) where
   -- behind those held all are zeros

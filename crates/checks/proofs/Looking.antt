@@ -17,7 +17,8 @@ use Rattle.rules.specs.Calls.{queryCode, countsFit, recordFits}
 use Rattle.lists.specs.Bools.{and-left, and-right, and-true, and-false}
 use Rattle.session_laws.specs.Record.{counts-out}
 use Rattle.keys.specs.Held.{keyOf, Narrow}
-use Rattle.checks.specs.Grounds.{numbersFit, placeFits, placesFrom, Shallow, placeKey}
+use Rattle.number_checks.specs.Grounds.{numbersFit}
+use Rattle.checks.specs.Grounds.{placeFits, placesFrom, Shallow, placeKey}
 use Rattle.checks.proofs.Answer.{place-more, places-end, answer}
 use Rattle.checks.proofs.Keys.{Behind, key-fits, key-is}
 

@@ -1,49 +1,14 @@
-// What calls are refused by: 1 to 3 and 12 of a query, 5 of a record (any record may come in), 4 of the lent slices,
-// then 6 and 7 of the rows read.
+// What calls are refused by: 5 of a record (any record may come in), 4 of the lent slices, then 6 and 7 of the rows
+// read.
+use number_checks::numbers_fit;
 use rules::Counts;
 use rules::Pair;
-use rules::Query;
 use rules::Session;
 ghost use mathlib.Core.Path.{_≡_};
 ghost use mathlib.Core.Bool.{true, cond};
-ghost use Prim.Native.Nat.{_+_, _*_, _-_, _≤_, _<_, _/_, _%_};
-ghost use Rattle.rules.specs.Tables.{mostRows, sizeFits};
-ghost use Rattle.rules.specs.Read.{blockCount};
-ghost use Rattle.rules.specs.Numbers.{weightRange, unless};
-ghost use Rattle.rules.specs.Calls.{between, queryCode, countsFit, isZeros, recordFits, sameSizeCode};
-ghost use Rattle.checks.specs.Grounds.{Shallow, pairWithin, markOf, numbersFit, placeKey};
+ghost use Rattle.rules.specs.Calls.{isZeros, recordFits, sameSizeCode};
+ghost use Rattle.checks.specs.Grounds.{Shallow, pairWithin, placeKey};
 ghost use Rattle.checks.specs.Codes.{DepthsFit, lentOf, callOf};
-
-// The rows of the longest table, as a length.
-const MOST_ROWS: usize = rules::MOST_ROWS as usize;
-
-// 12 where a weight is outside 1 to 9.
-fn weight_code(weight: u32) -> u32
-    ensures { λ r. ⌜ r ≡ unless (between 1 9 weight) weightRange ⌝ }
-{
-    tables::unless((1 <= weight) & (weight <= 9), rules::WEIGHT_RANGE)
-}
-
-// What a query is refused by, 1, 2, 3, then 12 of either weight; 0 where it is not.
-pub fn query_code(q: Query) -> u32
-    ensures { λ r. ⌜ r ≡ queryCode q ⌝ }
-{
-    let length = tables::unless((1 <= q.k) & (q.k <= 64), rules::LIST_LENGTH);
-    let block = tables::unless((1 <= q.block) & (q.block <= 1024), rules::BLOCK_SIZE);
-    let radius = tables::unless(q.radius <= 40000, rules::RADIUS_RANGE);
-    let field = weight_code(q.weights.field.0);
-    let trim = weight_code(q.weights.trim.0);
-    let weights = tables::first(field, trim);
-    tables::first(length, tables::first(block, tables::first(radius, weights)))
-}
-
-// A table's row count and depth: at most 65,535 rows, of which the depth is a number of whole blocks, or all.
-fn counts_fit(block: u32, rows: u32, depth: u32) -> bool
-    requires { ⌜ 0 < block ⌝ }
-    ensures { λ r. ⌜ r ≡ countsFit block rows depth ⌝ }
-{
-    (rows <= rules::MOST_ROWS) & ((depth <= rows) & ((depth % block == 0) | (depth == rows)))
-}
 
 // A held pair's rows, of the two depths, and its sum.
 fn pair_fits(depth: Counts, p: Pair) -> bool
@@ -59,59 +24,6 @@ fn is_zeros(p: Pair) -> bool
     ensures { λ r. ⌜ r ≡ isZeros p ⌝ }
 {
     (p.sum == 0) & ((p.field == 0) & (p.trim == 0))
-}
-
-// The last-read mark, of the two depths.
-fn mark_fits(last: u32, depth: Counts) -> bool
-    ensures { λ r. ⌜ r ≡ markOf last depth ⌝ }
-{
-    let field = depth.field.0;
-    let trim = depth.trim.0;
-    if last == 0 {
-        return (field == 0) & (trim == 0);
-    }
-    if last == 1 {
-        return 0 < field;
-    }
-    if last == 2 {
-        return 0 < trim;
-    }
-    false
-}
-
-// How many blocks the first rows are, a short last one included.
-pub fn block_count(block: u32, depth: u32) -> u64
-    requires { ⌜ (0 < block) × (block ≤ 1024) × (depth ≤ mostRows) ⌝ }
-    ensures { λ r. ⌜ (r ≡ blockCount block depth) × (r ≤ mostRows) ⌝ }
-{
-    ((depth + block - 1) / block) as u64
-}
-
-// All grounds but those of the pair places.
-pub fn numbers_fit(
-    q: Query,
-    rows: Counts,
-    depth: Counts,
-    last: u32,
-    out: u32,
-    held: u32,
-    joined: u64,
-) -> bool
-    ensures { λ r. ⌜ r ≡ numbersFit q rows depth last out held joined ⌝ }
-{
-    if query_code(q) != 0 {
-        return false;
-    }
-    if !counts_fit(q.block, rows.field.0, depth.field.0) {
-        return false;
-    }
-    if !counts_fit(q.block, rows.trim.0, depth.trim.0) {
-        return false;
-    }
-    let few = (out as u64) + (held as u64) <= (q.k as u64);
-    let mark = mark_fits(last, depth);
-    let most = block_count(q.block, depth.field.0) * block_count(q.block, depth.trim.0);
-    few & (mark & (joined <= most))
 }
 
 // Where a look through the places begins: at the first, or behind the last, where the numbers do not fit.
@@ -166,19 +78,12 @@ pub fn fits(s: Session) -> bool
     fits
 }
 
-// Whether a slice has four numbers to a row and at most 65,535 rows.
-pub fn size_fits(t: &[i32]) -> bool
-    ensures { λ r. ⌜ r ≡ sizeFits (now (t .entry)) ⌝ }
-{
-    (t.len() % 4 == 0) & (t.len() / 4 <= MOST_ROWS)
-}
-
 // 4 where a slice is not of the row count at opening.
 fn same_size_code(rows: u32, t: &[i32]) -> u32
     ensures { λ r. ⌜ r ≡ sameSizeCode rows (now (t .entry)) ⌝ }
 {
-    let same = t.len() / 4 == rows as usize;
-    tables::unless(size_fits(t) & same, rules::TABLE_SIZE)
+    let same = tables::row_count(t) == rows as usize;
+    tables::unless(tables::size_fits(t) & same, rules::TABLE_SIZE)
 }
 
 // 5, unless the record passed it, then 4 of either table.

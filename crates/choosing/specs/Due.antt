@@ -2,7 +2,7 @@
 use mathlib.Core.Path.{_≡_, refl, sym, ap, ap₂, subst, _∙_}
 use mathlib.Core.Bool.{Bool, true, false, cond, _&&_}
 use mathlib.Core.List.{List, [], _∷_, _++_}
-use Prim.Native.Nat.{ℕ, _+_, _*_, _-_, _/_, _≤_, _<_}
+use Prim.Native.Nat.{ℕ, _+_, _-_, _/_, _≤_, _<_}
 use native.Mathlib.Nat.{div-lt-iff-lt-mul, mul-le-mul}
 use native.Mathlib.Omega.{arith}
 use lib.Dec.{eqb}
@@ -14,7 +14,8 @@ use Rattle.lists.specs.Lists.{every}
 use Rattle.lists.specs.Sorts.{ranked-ordered}
 use Rattle.rules.specs.declared.Pair.{Pair}
 use Rattle.rules.specs.declared.Session.{Session}
-use Rattle.rules.specs.Tables.{mostRows, ahead}
+use Rattle.rules.specs.Tables.{mostRows, ahead, HasRows}
+use Rattle.rules.specs.Widths.{rows-less, has-rows}
 use Rattle.rules.specs.Ranking.{ahead-strict}
 use Rattle.rules.specs.Session.{noPair, places, heldPairs, settled}
 use Rattle.rules.specs.Read.{fieldNext, oldDepth, newDepth}
@@ -37,9 +38,9 @@ pub record Due (field : Bool) (f t : List ℤ) (s : Session) : Type 0 where
   pub ready : Ready s
   pub left : oldDepth field s < ownRows field s
   pub few : ownRows field s ≤ mostRows
-  pub rows : 4 * ownRows field s ≤ length (cond field f t)
+  pub rows : HasRows (cond field f t) (ownRows field s)
   pub other-few : otherDepth field s ≤ mostRows
-  pub other-rows : 4 * otherDepth field s ≤ length (cond field t f)
+  pub other-rows : HasRows (cond field t f) (otherDepth field s)
   pub joined : s .joined ≤ 4294836225
 
 -- ---- The places beyond the held pairs
@@ -117,9 +118,9 @@ module _ (f t : List ℤ) (s : Session) (l : Lent f t s) (n : length (s .pairs) 
             ready = ready;
             left = left;
             few = l .fits .field .few;
-            rows = omega (arith, l .field .size .whole, l .field .count);
+            rows = has-rows f (s .rows .field .0) (omega (arith, l .field .count));
             other-few = omega (arith, l .fits .trim .few, l .fits .trim .within);
-            other-rows = omega (arith, l .trim .size .whole, l .trim .count, l .fits .trim .within);
+            other-rows = has-rows t (s .depth .trim .0) (omega (arith, l .trim .count, l .fits .trim .within));
             joined = joined-few;
           }
       go false left =
@@ -127,9 +128,9 @@ module _ (f t : List ℤ) (s : Session) (l : Lent f t s) (n : length (s .pairs) 
             ready = ready;
             left = left;
             few = l .fits .trim .few;
-            rows = omega (arith, l .trim .size .whole, l .trim .count);
+            rows = has-rows t (s .rows .trim .0) (omega (arith, l .trim .count));
             other-few = omega (arith, l .fits .field .few, l .fits .field .within);
-            other-rows = omega (arith, l .field .size .whole, l .field .count, l .fits .field .within);
+            other-rows = has-rows f (s .depth .field .0) (omega (arith, l .field .count, l .fits .field .within));
             joined = joined-few;
           }
 
@@ -138,8 +139,10 @@ module _ (f t : List ℤ) (s : Session) (l : Lent f t s) (n : length (s .pairs) 
 module _ (f t : List ℤ) (s : Session) (b : Bool) where
   -- it lies within its table
   pub new-inside : Due b f t s
-      → (oldDepth b s ≤ newDepth b s) × (newDepth b s ≤ mostRows) × (4 * newDepth b s ≤ length (cond b f t))
-  new-inside d = omega (arith, d .left, d .few, d .rows)
+      → (oldDepth b s ≤ newDepth b s) × (newDepth b s ≤ mostRows) × HasRows (cond b f t) (newDepth b s)
+  new-inside d =
+      let low : newDepth b s ≤ ownRows b s = omega (arith, d .left) in
+      (omega (arith, d .left), omega (arith, d .few), rows-less (cond b f t) (newDepth b s) (ownRows b s) low (d .rows))
 
   -- what 6 and 7 say of it is the rule's
   pub code-is : b ≡ fieldNext f t s → (own : List ℤ) (d e : ℕ) → own ≡ cond b f t → d ≡ oldDepth b s → e ≡ newDepth b s

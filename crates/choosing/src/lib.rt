@@ -4,9 +4,8 @@ use rules::Pair;
 use rules::Session;
 ghost use mathlib.Core.Path.{_≡_};
 ghost use mathlib.Core.Bool.{false, cond};
-ghost use Prim.Native.Nat.{_+_, _*_, _-_, _≤_, _<_};
-ghost use lib.ListN.{length};
-ghost use Rattle.rules.specs.Tables.{mostRows, weighted};
+ghost use Prim.Native.Nat.{_+_, _-_, _≤_, _<_};
+ghost use Rattle.rules.specs.Tables.{mostRows, weighted, HasRows};
 ghost use Rattle.rules.specs.Session.{settled};
 ghost use Rattle.rules.specs.Read.{scoreDrop, fieldNext, nextDepth};
 ghost use Rattle.rules.specs.Calls.{newBlockCode};
@@ -15,7 +14,7 @@ ghost use Rattle.checks.specs.Codes.{LastHeld};
 
 // How far a table's score, by its weight, has dropped from its first row to the last row read.
 fn drop_of(weight: u32, t: &[i32], depth: u32) -> u64
-    requires { ⌜ (0 < depth) × (4 * depth ≤ length (now t)) ⌝ }
+    requires { ⌜ (0 < depth) × HasRows (now t) depth ⌝ }
     ensures { λ r. ⌜ r ≡ scoreDrop (weighted weight) (now (t .entry)) depth ⌝ }
 {
     let high = tables::weighted(weight, t, 0);

@@ -1,12 +1,12 @@
 -- Demand 3: what is promised of a whole sequence of calls. Definitions only; the proof is in Proved.antt, and Uses.antt
 -- says what the parts come to. Assumes nothing.
-use Prim.Native.Nat.{ℕ, _+_, _*_, _-_, _≤_, max}
+use Prim.Native.Nat.{ℕ, _+_, _-_, _≤_, max}
 use mathlib.Core.Path.{_≡_}
 use mathlib.Core.Bool.{Bool, true, cond}
 use mathlib.Core.List.{List, [], _∷_, _++_, map}
 use mathlib.Core.Logic.{_⊎_}
 use lib.IntN.{ℤ}
-use lib.ListN.{length, take}
+use lib.ListN.{length}
 use Rattle.rules.specs.declared.FieldRows.{FieldRows}
 use Rattle.rules.specs.declared.TrimRows.{TrimRows}
 use Rattle.rules.specs.declared.Pair.{Pair}
@@ -15,7 +15,7 @@ use Rattle.rules.specs.declared.Session.{Session}
 use Rattle.rules.specs.declared.Step.{Step}
 use Rattle.rules.specs.declared.Answer.{Answer}
 use Rattle.rules.specs.declared.Answer.the-variants.{Opened, Given, Finished}
-use Rattle.rules.specs.Tables.{rowCount, legal, row, terms, pairSum}
+use Rattle.rules.specs.Tables.{rowCount, legal, row, terms, pairSum, firstRows}
 use Rattle.rules.specs.Sure.{Sure}
 use Rattle.rules.specs.Numbers.{said}
 use Rattle.rules.specs.Calls.{openCall, readCall, takeCall}
@@ -116,7 +116,7 @@ answersOver q f t lines = map (λ g. g .answer) (byRules (openCall q f t .sessio
 pub record Alike (t u : List ℤ) (depth : ℕ) : Type 0 where
   pub lawful : legal u ≡ true
   pub count : rowCount u ≡ rowCount t
-  pub rows : take (4 * depth) u ≡ take (4 * depth) t
+  pub rows : firstRows depth u ≡ firstRows depth t
 
 -- ---- Demand 3
 

@@ -2,19 +2,20 @@
 use mathlib.Core.Path.{_≡_, refl, sym, ap, _∙_}
 use mathlib.Core.Bool.{Bool, true, false, cond}
 use mathlib.Core.List.{List, [], _∷_, _++_}
-use Prim.Native.Nat.{ℕ, _*_, _≤_, _<_}
+use Prim.Native.Nat.{ℕ, _*_, _<_}
 use native.Mathlib.Omega.{arith}
 use denote.Enum.Declared.{tagOf}
 use types.Run.{OneOf}
 use lib.Dec.{ltb}
 use lib.IntN.{ℤ}
-use lib.ListN.{length, drop}
+use lib.ListN.{length}
 use borrow.Author.Tests.{ltb-false}
 use Rattle.rules.proofs.Loaded.{the-type}
 use Rattle.rules.specs.declared.Loaded.{Loaded}
 use Rattle.rules.specs.declared.Loaded.the-variants.{Rows, Unfit}
 use Rattle.rules.specs.Numbers.{shortSlice}
 use Rattle.rules.specs.File.{fileTable, checkFile, andSlice, loadedInto, loadAnswer, loadNumbers}
+use Rattle.rules.specs.Tables.{width, HasRows, afterRows}
 use Rattle.file_laws.specs.Accepted.{unfit-rows}
 
 -- an answer that is no row count
@@ -42,21 +43,21 @@ module _ (bytes : List ℕ) (kind : ℤ) (lent : List ℤ) where
   unfit-load (Unfit code row) e h = ends (Unfit code row) e
 
   pub whole-load : (n : ℕ) → Rows n ≡ andSlice (length lent) (checkFile bytes kind) →
-      (Rows n ≡ loadAnswer bytes kind lent) × (fileTable bytes n ++ drop (4 * n) lent ≡ loadNumbers bytes kind lent)
+      (Rows n ≡ loadAnswer bytes kind lent) × (fileTable bytes n ++ afterRows n lent ≡ loadNumbers bytes kind lent)
   unfolding loadedInto
   whole-load n e = ends (Rows n) e
 
   -- what is read was checked, and there is room for it
   pub read-passed : (n : ℕ) → Rows n ≡ andSlice (length lent) (checkFile bytes kind) →
-      (checkFile bytes kind ≡ Rows n) × (4 * n ≤ length lent)
+      (checkFile bytes kind ≡ Rows n) × HasRows lent n
   unfolding andSlice
   read-passed n e = go (checkFile bytes kind) (sym e)
     where
-      short : (m : ℕ) (t : Bool) → ltb (length lent) (4 * m) ≡ t → cond t (Unfit shortSlice 0) (Rows m) ≡ Rows n →
-          (Rows m ≡ Rows n) × (4 * n ≤ length lent)
+      short : (m : ℕ) (t : Bool) → ltb (length lent) (width * m) ≡ t → cond t (Unfit shortSlice 0) (Rows m) ≡ Rows n →
+          (Rows m ≡ Rows n) × HasRows lent n
       short m true t h = unfit-rows shortSlice 0 n h
-      short m false t h = let same : m ≡ n = cc in (h, omega (arith, ltb-false (length lent) (4 * m) t))
+      short m false t h = let same : m ≡ n = cc in (h, omega (arith, ltb-false (length lent) (width * m) t))
 
-      go : (x : Loaded) → andSlice (length lent) x ≡ Rows n → (x ≡ Rows n) × (4 * n ≤ length lent)
+      go : (x : Loaded) → andSlice (length lent) x ≡ Rows n → (x ≡ Rows n) × HasRows lent n
       go (Unfit code row) h = unfit-rows code row n h
-      go (Rows m) h = short m (ltb (length lent) (4 * m)) refl h
+      go (Rows m) h = short m (ltb (length lent) (width * m)) refl h

@@ -2,9 +2,9 @@
 ghost use mathlib.Core.Path.{_≡_};
 ghost use mathlib.Core.Bool.{true};
 ghost use mathlib.Core.List.{_++_};
-ghost use Prim.Native.Nat.{_+_, _*_, _≤_, _<_};
-ghost use lib.ListN.{length, drop};
-ghost use Rattle.rules.specs.Tables.{mostRows};
+ghost use Prim.Native.Nat.{_+_, _≤_, _<_};
+ghost use lib.ListN.{length};
+ghost use Rattle.rules.specs.Tables.{mostRows, HasRow, HasRows, afterRows};
 ghost use Rattle.rules.specs.File.{rowStart, rowColumnsFit, rowNumbers, fileTable};
 ghost use Rattle.rules.specs.File.{andSlice, loadAnswer, loadNumbers};
 ghost use Rattle.file.specs.Put.{rowPut, RowsFit};
@@ -19,7 +19,7 @@ fn and_room(checked: Loaded, room: usize) -> Loaded
     let Loaded::Rows(count) = checked else {
         return checked;
     };
-    if room < 4 * (count as usize) {
+    if room < rules::ROW_NUMBERS * (count as usize) {
         return Loaded::Unfit(rules::SHORT_SLICE, 0);
     }
     checked
@@ -27,12 +27,12 @@ fn and_room(checked: Loaded, room: usize) -> Loaded
 
 // Row i + 1, which fits, written to its place. What stands behind it stays.
 fn put_row(bytes: &[u8], i: usize, out: &mut [i32])
-    requires { ⌜ (i < mostRows) × (rowStart (i + 1) ≤ length (now bytes)) × (4 * i + 4 ≤ length (now out)) ⌝ }
+    requires { ⌜ (i < mostRows) × (rowStart (i + 1) ≤ length (now bytes)) × HasRow (now out) i ⌝ }
     requires { ⌜ rowColumnsFit (now bytes) i ≡ true ⌝ }
-    ensures { λ _. ⌜ now (out .exit) ≡ rowPut (4 * i) (rowNumbers (now (bytes .entry)) i) (now (out .entry)) ⌝ }
+    ensures { λ _. ⌜ now (out .exit) ≡ rowPut i (rowNumbers (now (bytes .entry)) i) (now (out .entry)) ⌝ }
 {
     let o = rules::HEADER_BYTES + rules::ROW_BYTES * i;
-    let p = 4 * i;
+    let p = rules::ROW_NUMBERS * i;
     out[p] = number_at(bytes, o, 6, false);
     out[p + 1] = number_at(bytes, o + 6, 6, false);
     out[p + 2] = number_at(bytes, o + 12, 7, true);
@@ -41,9 +41,9 @@ fn put_row(bytes: &[u8], i: usize, out: &mut [i32])
 
 // The first `count` rows, which fit, written from the front of `out`.
 fn put_rows(bytes: &[u8], count: usize, out: &mut [i32])
-    requires { ⌜ (count ≤ mostRows) × (rowStart count ≤ length (now bytes)) × (4 * count ≤ length (now out)) ⌝ }
+    requires { ⌜ (count ≤ mostRows) × (rowStart count ≤ length (now bytes)) × HasRows (now out) count ⌝ }
     requires { ⌜ RowsFit (now bytes) count ⌝ }
-    ensures { λ _. ⌜ now (out .exit) ≡ fileTable (now (bytes .entry)) count ++ drop (4 * count) (now (out .entry)) ⌝ }
+    ensures { λ _. ⌜ now (out .exit) ≡ fileTable (now (bytes .entry)) count ++ afterRows count (now (out .entry)) ⌝ }
 {
     let mut i: usize = 0;
     while i < count {

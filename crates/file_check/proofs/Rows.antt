@@ -12,7 +12,7 @@ use lib.ListN.{getD}
 use lib.Signed.{leZ}
 use borrow.Author.Tests.{eq-eqb, ne-eqb, eqb-false}
 use Rattle.rules.specs.declared.Loaded.the-variants.{Rows, Unfit}
-use Rattle.rules.specs.Tables.{num, rowInRange, rowInOrder}
+use Rattle.rules.specs.Tables.{num, rowInRange, rowInOrder, width}
 use Rattle.rules.specs.Calls.{rowCode}
 use Rattle.rules.specs.File.{columns, endsLine, rowStart, rowColumnsFit, rowNumbers}
 use Rattle.rules.specs.File.{fileTable, fileRowCode, andRow, rowsLoaded}
@@ -60,7 +60,8 @@ module _ (bytes : List ℕ) (i : ℕ) (fit : rowColumnsFit bytes i ≡ true) whe
       let b = number-held true (columns bytes (o + 19) 7) (parts .b) in
       λ k. pattern k ∷ score k ∷ a k ∷ b k ∷ []
 
-  pub held-num : (n j : ℕ) → i < n → j < 4 → getD (numbersOf (rowHeld bytes i)) j (pos 0) ≡ num (fileTable bytes n) i j
+  pub held-num : (n j : ℕ) → i < n → j < width →
+      getD (numbersOf (rowHeld bytes i)) j (pos 0) ≡ num (fileTable bytes n) i j
   held-num n j h k = ap (λ (l : List ℤ). getD l j (pos 0)) numbers-held ∙ sym (table-num bytes n i j h k)
 
   pub score-is : (n : ℕ) → i < n → rowHeld bytes i .score ≡ num (fileTable bytes n) i 1
@@ -90,7 +91,7 @@ code-is bytes n i before h known = go (rowColumnsFit bytes i) refl
         heldRowCode (rowHeld bytes i) (eqb i 0) before ≡ fileRowCode bytes (fileTable bytes n) i
     go false f = simp (fits, f)
     go true f =
-        let number : (j : ℕ) → j < 4 → getD (numbersOf (rowHeld bytes i)) j (pos 0) ≡ num (fileTable bytes n) i j =
+        let number : (j : ℕ) → j < width → getD (numbersOf (rowHeld bytes i)) j (pos 0) ≡ num (fileTable bytes n) i j =
         λ j k. held-num bytes i f n j h k in
         simp (
           fits,

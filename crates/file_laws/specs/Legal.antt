@@ -3,8 +3,7 @@
 use mathlib.Core.Path.{_≡_, refl, sym, ap, _∙_}
 use mathlib.Core.Bool.{Bool, true, false, _&&_}
 use mathlib.Core.List.{List}
-use Prim.Native.Nat.{ℕ, zero, suc, _+_, _*_, _/_, _%_, _≤_, _<_}
-use native.Mathlib.Nat.{mul-div-cancel-left, div-add-mod}
+use Prim.Native.Nat.{ℕ, zero, suc, _+_, _*_, _%_, _≤_, _<_}
 use native.Mathlib.Omega.{arith}
 use lib.Dec.{leb, ltb, eqb}
 use lib.IntN.{ℤ, pos, negsuc}
@@ -13,7 +12,8 @@ use borrow.Author.Tests.{le-leb, le-ltb, leb-true, eqb-true}
 use Rattle.lists.specs.Lists.{every, range}
 use Rattle.rules.specs.declared.Loaded.{Loaded}
 use Rattle.rules.specs.declared.Loaded.the-variants.{Rows, Unfit}
-use Rattle.rules.specs.Tables.{mostRows, natOf, rowInRange, rowInOrder, sizeFits, legal}
+use Rattle.rules.specs.Tables.{mostRows, natOf, rowInRange, rowInOrder, sizeFits, legal, width, HasRows, rowCount}
+use Rattle.rules.specs.Widths.{rows-count, no-rest}
 use Rattle.rules.specs.Calls.{between}
 use Rattle.rules.specs.File.{fileCount, fileKind, fileTable, kindFits, checkFile, andSlice, loadAnswer}
 use Rattle.lists.specs.Bools.{and-left, and-right, and-in}
@@ -36,9 +36,8 @@ unfolding legal sizeFits
 accepted-legal bytes kind n h =
     let f = accepted bytes kind n h in
     let t = fileTable bytes n in
-    let rows : length t / 4 ≡ n =
-    ap (λ (k : ℕ). k / 4) (table-length bytes n) ∙ mul-div-cancel-left n {n = 4} (omega arith) in
-    let whole : length t % 4 ≡ 0 = omega (arith, table-length bytes n, rows, div-add-mod (length t) 4) in
+    let rows : rowCount t ≡ n = rows-count t n (table-length bytes n) in
+    let whole : length t % width ≡ 0 = no-rest t (ap (_*_ width) rows ∙ sym (table-length bytes n)) in
     let each-row : every (λ i. rowInRange t i && rowInOrder t i) (range 0 n) ≡ true =
     every-range (λ i. rowInRange t i && rowInOrder t i) 0 n
     (λ i k l.
@@ -65,7 +64,7 @@ one-kind bytes j k n m h l =
     same (negsuc a) y p q = absurd (omega arith)
 
 -- the check alone and the reading into a long enough slice agree
-pub check-and-load : (bytes : List ℕ) (kind : ℤ) (lent : List ℤ) → 4 * fileCount bytes ≤ length lent →
+pub check-and-load : (bytes : List ℕ) (kind : ℤ) (lent : List ℤ) → HasRows lent (fileCount bytes) →
     loadAnswer bytes kind lent ≡ checkFile bytes kind
 unfolding loadAnswer andSlice
 check-and-load bytes kind lent h = go (checkFile bytes kind) refl
@@ -74,5 +73,5 @@ check-and-load bytes kind lent h = go (checkFile bytes kind) refl
     go (Unfit code row) e = ap (andSlice (length lent)) e ∙ sym e
     go (Rows n) e =
         let f = accepted bytes kind n e in
-        let room : ltb (length lent) (4 * n) ≡ false = le-ltb (length lent) (4 * n) (omega (arith, f .count)) in
+        let room : ltb (length lent) (width * n) ≡ false = le-ltb (length lent) (width * n) (omega (arith, f .count)) in
         ap (andSlice (length lent)) e ∙ rw room (sym e)

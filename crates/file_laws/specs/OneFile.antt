@@ -11,7 +11,7 @@ use lib.ListN.{length, getD, drop, take-append-drop, length-drop, drop-of-length
 use lib.Seq.{drop-drop, drop-cons, length-take-le}
 use borrow.Author.Tests.{eqb-true}
 use Rattle.rules.specs.declared.Loaded.the-variants.{Rows}
-use Rattle.rules.specs.Tables.{natOf, num}
+use Rattle.rules.specs.Tables.{natOf, num, width}
 use Rattle.rules.specs.Calls.{between}
 use Rattle.rules.specs.File.{afterBlanks, digitsFrom, hasMinus, digitsOf, columns, columnFits, columnNumber}
 use Rattle.rules.specs.File.{headerBytes, endsLine, headerFits, fileCount, fileKind, kindFits, checkFile}
@@ -130,7 +130,7 @@ one-file l k kind n m h g t =
   where
     numbers : (a b i : ℕ) → i < a → i < b → fileTable l a ≡ fileTable k b → rowNumbers l i ≡ rowNumbers k i
     numbers a b i s r e =
-        let number : (j : ℕ) → j < 4 → getD (rowNumbers l i) j (pos 0) ≡ getD (rowNumbers k i) j (pos 0) =
+        let number : (j : ℕ) → j < width → getD (rowNumbers l i) j (pos 0) ≡ getD (rowNumbers k i) j (pos 0) =
         λ j u. sym (table-num l a i j s u) ∙ ap (λ (x : List ℤ). num x i j) e ∙ table-num k b i j r u in
         let p = number 0 (omega arith) in
         let q = number 1 (omega arith) in

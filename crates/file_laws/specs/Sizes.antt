@@ -10,7 +10,7 @@ use lib.ListN.{length, drop}
 use borrow.Author.Tests.{eqb-true, eqb-false}
 use Rattle.rules.specs.declared.Loaded.{Loaded}
 use Rattle.rules.specs.declared.Loaded.the-variants.{Rows, Unfit}
-use Rattle.rules.specs.Tables.{mostRows, rowInRange, rowInOrder}
+use Rattle.rules.specs.Tables.{mostRows, rowInRange, rowInOrder, width}
 use Rattle.rules.specs.Numbers.{tableSize, rowLimit, rowOrder, cutFile, badColumn, wrongKind, shortSlice}
 use Rattle.rules.specs.Numbers.{IsRefusal, unless, first}
 use Rattle.rules.specs.Calls.{rowCode}
@@ -89,7 +89,7 @@ check-told bytes kind = go (eqb (headCode bytes kind) 0) refl
 slice-told : (lent : ℕ) (x : Loaded) → Told mostRows x → Told mostRows (andSlice lent x)
 unfolding andSlice
 slice-told lent (Unfit code row) h = h
-slice-told lent (Rows n) h = go (ltb lent (4 * n))
+slice-told lent (Rows n) h = go (ltb lent (width * n))
   where
     go : (b : Bool) → Told mostRows (cond b (Unfit shortSlice 0) (Rows n))
     go true = (omega arith, omega arith, omega arith)

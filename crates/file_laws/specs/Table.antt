@@ -11,7 +11,7 @@ use lib.ListN.{length, getD, length-append, List·getD-append}
 use lib.Seq.{getD-append-add}
 use borrow.Author.Tests.{ltb-true, ltb-false}
 use Rattle.lists.specs.Lists.{range, each}
-use Rattle.rules.specs.Tables.{num}
+use Rattle.rules.specs.Tables.{width, num}
 use Rattle.rules.specs.File.{rowNumbers, fileTable}
 
 module _ {B : Type 0} (f : ℕ → List B) where
@@ -31,7 +31,7 @@ table-last bytes n =
     each-range-last (rowNumbers bytes) 0 n
     ∙ ap (λ (k : ℕ). each (rowNumbers bytes) (range 0 n) ++ rowNumbers bytes k) (zero-add n)
 
-pub table-length : (bytes : List ℕ) (n : ℕ) → length (fileTable bytes n) ≡ 4 * n
+pub table-length : (bytes : List ℕ) (n : ℕ) → length (fileTable bytes n) ≡ width * n
 unfolding fileTable each range rowNumbers
 table-length bytes zero = refl
 table-length bytes (suc n) =
@@ -40,7 +40,7 @@ table-length bytes (suc n) =
     ∙ omega (arith, table-length bytes n)
 
 -- number j of row i + 1
-pub table-num : (bytes : List ℕ) (n i j : ℕ) → i < n → j < 4 →
+pub table-num : (bytes : List ℕ) (n i j : ℕ) → i < n → j < width →
     num (fileTable bytes n) i j ≡ getD (rowNumbers bytes i) j (pos 0)
 table-num bytes zero i j h k = absurd (omega arith)
 table-num bytes (suc n) i j h k =
@@ -50,12 +50,12 @@ table-num bytes (suc n) i j h k =
         num (fileTable bytes n ++ rowNumbers bytes n) i j ≡ getD (rowNumbers bytes i) j (pos 0)
     go above true t =
         let m : i < n = ltb-true i n t in
-        List·getD-append (fileTable bytes n) (rowNumbers bytes n) (pos 0) (4 * i + j)
+        List·getD-append (fileTable bytes n) (rowNumbers bytes n) (pos 0) (width * i + j)
         (omega (arith, table-length bytes n))
         ∙ above m
     go above false t =
         let e : i ≡ n = omega (arith, ltb-false i n t) in
-        let o : 4 * i + j ≡ length (fileTable bytes n) + j = omega (arith, table-length bytes n) in
+        let o : width * i + j ≡ length (fileTable bytes n) + j = omega (arith, table-length bytes n) in
         ap (λ (p : ℕ). getD (fileTable bytes n ++ rowNumbers bytes n) p (pos 0)) o
         ∙ getD-append-add (fileTable bytes n) (rowNumbers bytes n) j (pos 0)
         ∙ ap (λ (p : ℕ). getD (rowNumbers bytes p) j (pos 0)) (sym e)

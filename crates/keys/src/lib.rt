@@ -39,11 +39,7 @@ pub fn place(a: &[u64; 64], i: usize, n: usize) -> Pair
     if i < n {
         return pair(a[i]);
     }
-    Pair {
-        sum: 0,
-        field: 0,
-        trim: 0,
-    }
+    rules::NO_PAIR
 }
 
 // The place of the key p among the first n.

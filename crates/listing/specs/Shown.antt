@@ -4,10 +4,9 @@ use mathlib.Core.Path.{_≡_, refl}
 use mathlib.Core.List.{List}
 use Prim.Native.Nat.{ℕ, _+_, _*_, _-_, _≤_, _<_, _^_}
 use lib.IntN.{ℤ}
-use lib.ListN.{length}
 use Rattle.rules.specs.declared.Pair.{Pair}
 use Rattle.rules.specs.declared.Query.{Query}
-use Rattle.rules.specs.Tables.{row, squaredDistance}
+use Rattle.rules.specs.Tables.{row, squaredDistance, HasRows}
 use Rattle.rules.specs.Session.{placeCount}
 use Rattle.rules.specs.Root.{root, remainder}
 use Rattle.rules.specs.Query.{inputLength, list, pairLine, pairLines}
@@ -23,7 +22,7 @@ abbrev pub listingRoom : ℕ
 listingRoom = inputLength + lineLength * placeCount + lastLength
 
 abbrev pub RowOf : List ℤ → ℕ → Type 0
-RowOf t i = (1 ≤ i) × (4 * i ≤ length t)
+RowOf t i = (1 ≤ i) × HasRows t i
 
 pub record Shown (f t : List ℤ) (p : Pair) : Type 0 where
   pub field : RowOf f (p .field)

@@ -23,8 +23,7 @@ fn pattern(t: &[i32], i: u32) -> u32
     requires { ⌜ RowOf (now t) i ⌝ }
     ensures { λ r. ⌜ r ≡ row (now (t .entry)) (i - 1) .pattern ⌝ }
 {
-    let o = 4 * ((i - 1) as usize);
-    tables::natural(t[o])
+    tables::pattern(t, (i - 1) as usize)
 }
 
 // The squared distance of a pair's shades.

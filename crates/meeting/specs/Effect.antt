@@ -1,66 +1,21 @@
--- What a block pair comes to before it is looked at pair by pair: skipped, or joined with no qualifying pair. Such a
--- pair changes nothing but the joined count. Assumes nothing.
+-- A block pair that is skipped, or has no qualifying pair, changes nothing but the joined count. Assumes nothing.
 use mathlib.Core.Path.{_≡_, refl, sym, ap, _∙_}
-use mathlib.Core.Bool.{Bool, true, false, cond, _&&_}
+use mathlib.Core.Bool.{Bool, cond}
 use mathlib.Core.List.{List, [], append-nil}
-use Prim.Native.Nat.{ℕ, zero, suc, _+_, _-_, _≤_}
+use Prim.Native.Nat.{ℕ, zero, suc, _+_, _-_}
 use native.Mathlib.Omega.{arith}
-use lib.Dec.{ltb}
-use lib.IntN.{ℤ}
 use lib.ListN.{take}
 use lib.Seq.{take-all}
 use Rattle.lists.specs.Lists.{sort}
 use Rattle.lists.specs.Sorts.{ordered-sort}
 use Rattle.rules.specs.declared.Pair.{Pair}
-use Rattle.rules.specs.declared.Query.{Query}
 use Rattle.rules.specs.declared.Session.{Session}
-use Rattle.rules.specs.Tables.{terms, Block, rowCount, qualifying, ahead}
-use Rattle.rules.specs.Session.{heldPairs, firstScore}
+use Rattle.rules.specs.Tables.{terms, Block, qualifying, ahead}
+use Rattle.rules.specs.Session.{heldPairs}
 use Rattle.rules.specs.Read.{skipped, bestHeld, holding, meetBy, meet}
-use Rattle.block.specs.Near.{placed, anyNear, none-placed}
+use Rattle.block.specs.Near.{none-placed}
+use Rattle.skipping.specs.Effect.{Effect, skips}
 use Rattle.choosing.specs.Ready.{Ready}
-
--- what the first rows of two blocks add to a sum
-abbrev pub firstScores : Query → List ℤ → List ℤ → ℕ
-firstScores q x y = firstScore (terms q .field) x + firstScore (terms q .trim) y
-
-abbrev pub skips : Bool → ℕ → Query → List ℤ → List ℤ → Bool
-skips full low q x y = full && ltb (firstScores q x y) low
-
-pub record Effect (full : Bool) (low : ℕ) (q : Query) (x y : List ℤ) (r : ℕ) : Type 0 where
-  pub skip : r ≡ 0 → skips full low q x y ≡ true
-  pub quiet : r ≡ 1 → (skips full low q x y ≡ false) × (anyNear (placed q) x y (rowCount x) ≡ false)
-  pub joined : r ≡ 2 → skips full low q x y ≡ false
-  pub most : r ≤ 2
-
-module _ (full : Bool) (low : ℕ) (q : Query) (x y : List ℤ) where
-  pub effect-skip : skips full low q x y ≡ true → Effect full low q x y 0
-  effect-skip h =
-      record {
-        skip = λ e. h;
-        quiet = λ e. absurd (omega (arith, e));
-        joined = λ e. absurd (omega (arith, e));
-        most = omega arith;
-      }
-
-  pub effect-quiet : skips full low q x y ≡ false → anyNear (placed q) x y (rowCount x) ≡ false
-      → Effect full low q x y 1
-  effect-quiet h k =
-      record {
-        skip = λ e. absurd (omega (arith, e));
-        quiet = λ e. (h, k);
-        joined = λ e. absurd (omega (arith, e));
-        most = omega arith;
-      }
-
-  pub effect-open : skips full low q x y ≡ false → Effect full low q x y 2
-  effect-open h =
-      record {
-        skip = λ e. absurd (omega (arith, e));
-        quiet = λ e. absurd (omega (arith, e));
-        joined = λ e. h;
-        most = omega arith;
-      }
 
 -- a block pair is joined and counted
 abbrev pub joinedPair : Session → Block → Block → Session

@@ -1,5 +1,5 @@
 -- Block pairs met by a record that is ready: it stays ready. Assumes nothing.
-use mathlib.Core.Path.{_≡_, refl, sym, ap, ap₂, _∙_}
+use mathlib.Core.Path.{_≡_, refl, sym, ap, ap₂, subst, _∙_}
 use mathlib.Core.Bool.{Bool, true, false, cond}
 use mathlib.Core.List.{List, _++_}
 use Prim.Native.Nat.{ℕ, zero, suc, _+_, _*_, _-_, _≤_, _<_, min}
@@ -7,14 +7,15 @@ use native.Mathlib.Nat.{mul-le-mul-right, suc-mul}
 use native.Mathlib.Numerals.{add-one}
 use native.Mathlib.Omega.{arith}
 use lib.IntN.{ℤ}
-use lib.ListN.{length, take, drop, length-take, length-drop}
-use lib.Seq.{length-take-le}
+use lib.ListN.{length, take, length-take}
 use Rattle.lists.specs.Lists.{sort}
 use Rattle.lists.specs.Words.{Ordered}
 use Rattle.lists.specs.Sorts.{sort-ordered, take-ordered}
 use Rattle.rules.specs.declared.Pair.{Pair}
 use Rattle.rules.specs.declared.Session.{Session}
-use Rattle.rules.specs.Tables.{rowInRange, row, rowCount, withdrawn, terms, Block, qualifying, ahead}
+use Rattle.rules.specs.Tables.{withdrawn, terms, Block, qualifying, ahead, width, HasRows}
+use Rattle.rules.specs.Tables.{part}
+use Rattle.rules.specs.Widths.{part-length, part-count}
 use Rattle.rules.specs.Ranking.{ahead-strict}
 use Rattle.rules.specs.Session.{places, heldPairs}
 use Rattle.rules.specs.Read.{skipped, bestHeld, holding, meetBy, meet, rowsBetween, meetBlocksBy, meetBlocks}
@@ -22,7 +23,7 @@ use Rattle.session_laws.specs.Tables.{row-part, range-part}
 use Rattle.session_laws.specs.ReadOut.{withdrawn-below}
 use Rattle.session_laws.specs.Calls.{Accepted, NewRowsFit, read-rows}
 use Rattle.keys.specs.Places.{list-of-places}
-use Rattle.block.specs.Block.{at, Rows}
+use Rattle.block.specs.Block.{Rows}
 use Rattle.meeting.specs.declared.Span.{Span}
 use Rattle.choosing.specs.Ready.{Ready}
 use Rattle.meeting.specs.Side.{SpanFits, Passed, spanBlock}
@@ -68,40 +69,27 @@ blocks-ready field s new t depth (suc n) r = meet-ready _ _ _ (blocks-ready fiel
 
 -- ---- Parts of a table as blocks
 
--- the numbers from row a + 1 to row e of a table, as the code cuts them out
-abbrev cut : List ℤ → ℕ → ℕ → List ℤ
-cut t a e = take (4 * e - 4 * a) (drop (4 * a) t)
-
-pub part-is : (t : List ℤ) (a e : ℕ) → at a (cut t a e) ≡ rowsBetween t a e
-part-is t a e =
-    let n : 4 * e - 4 * a ≡ 4 * (e - a) = omega arith in
-    ap (λ (m : ℕ). at a (take m (drop (4 * a) t))) n
-
--- they are whole rows that passed 6 and 7, within a table's 65,535
-pub part-rows : (t : List ℤ) (x : Span) → SpanFits x t → Rows (x .from) (cut t (x .from) (x .to))
+-- whole rows that passed 6 and 7, within a table's 65,535
+pub part-rows : (t : List ℤ) (x : Span) → SpanFits x t → Rows (x .from) (part t (x .from) (x .to - x .from))
 part-rows t x fits =
     let a = x .from in
-    let e = x .to in
-    let n : length (cut t a e) ≡ 4 * e - 4 * a =
-    length-take-le (4 * e - 4 * a) (drop (4 * a) t) (omega (arith, length-drop (4 * a) t, fits .within)) in
-    let inside : (i : ℕ) → i < rowCount (cut t a e) → i < e - a = λ i h. omega (arith, n, h) in
-    let row-is : (i : ℕ) → i < e - a → row (cut t a e) i ≡ row t (a + i) =
-    λ i k. ap (λ (b : Block). row (b .rows) i) (part-is t a e) ∙ row-part t a (e - a) i k in
+    let n = x .to - a in
+    let end : a + n ≡ x .to = omega (arith, fits .some) in
+    let there : HasRows t (a + n) = subst (HasRows t) (sym end) (fits .within) in
+    let count = part-count t a n there in
     record {
-      whole = omega arith;
-      few = omega (arith, fits .some, fits .few);
+      whole = ap (_*_ width) count ∙ sym (part-length t a n there);
+      few = omega (arith, count, fits .few);
       range =
           λ i h.
-          let k = inside i h in
-          ap (λ (b : Block). rowInRange (b .rows) i) (part-is t a e)
-          ∙ range-part t a (e - a) i k
-          ∙ fits .fit (a + i) (omega (arith, k)) .range;
+          let k : i < n = omega (arith, count, h) in
+          range-part t a n i k ∙ fits .fit (a + i) (omega (arith, k)) .range;
       below =
           λ i j h k g.
-          let l = inside j k in
-          ap withdrawn (row-is j l)
-          ∙ withdrawn-below t e (fits .fit) (a + i) (a + j) (omega (arith, h)) (omega (arith, l))
-          (ap withdrawn (sym (row-is i (omega (arith, h, l)))) ∙ g);
+          let l : j < n = omega (arith, count, k) in
+          ap withdrawn (row-part t a n j l)
+          ∙ withdrawn-below t (x .to) (fits .fit) (a + i) (a + j) (omega (arith, h)) (omega (arith, l))
+          (ap withdrawn (sym (row-part t a n i (omega (arith, h, l)))) ∙ g);
     }
 
 -- ---- The rows of a read whose checks have passed

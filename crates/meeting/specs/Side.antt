@@ -1,12 +1,11 @@
 -- A read of one table, field or trim, the other one beside it. Definitions only. Assumes nothing.
-use Prim.Native.Nat.{ℕ, _*_, _≤_, _<_}
+use Prim.Native.Nat.{ℕ, _≤_, _<_}
 use mathlib.Core.Bool.{Bool, cond}
 use mathlib.Core.List.{List}
 use lib.IntN.{ℤ}
-use lib.ListN.{length}
 use Rattle.rules.specs.declared.Counts.{Counts}
 use Rattle.rules.specs.declared.Session.{Session}
-use Rattle.rules.specs.Tables.{mostRows, Block}
+use Rattle.rules.specs.Tables.{mostRows, Block, HasRows}
 use Rattle.rules.specs.Read.{rowsBetween, newDepth}
 use Rattle.session_laws.specs.Tables.{RowFits}
 use Rattle.choosing.specs.Due.{otherDepth}
@@ -33,7 +32,7 @@ FirstFit t e = (i : ℕ) → i < e → RowFits t i
 pub record SpanFits (x : Span) (t : List ℤ) : Type 0 where
   pub some : x .from < x .to
   pub few : x .to ≤ mostRows
-  pub within : 4 * x .to ≤ length t
+  pub within : HasRows t (x .to)
   pub fit : FirstFit t (x .to)
 
 -- what a read knows of rows: those down to the new block's end and those that it meets passed 6 and 7

@@ -25,7 +25,8 @@ use Rattle.meeting.specs.declared.Met.{Met}
 use Rattle.meeting.specs.declared.After.{After}
 use Rattle.choosing.specs.Ready.{Ready}
 use Rattle.meeting.specs.Side.{downTo}
-use Rattle.meeting.specs.Effect.{Effect, firstScores, skips, joinedPair, counted, effect-joins, effect-counts}
+use Rattle.skipping.specs.Effect.{Effect, firstScores, skips}
+use Rattle.meeting.specs.Effect.{joinedPair, counted, effect-joins, effect-counts}
 
 -- 64 numbers, of which the first stand for the pairs that a record holds
 pub record Keys (r : Session) (keys : List ℕ) : Type 0 where

@@ -8,16 +8,16 @@ ghost use mathlib.Core.Path.{_≡_};
 ghost use mathlib.Core.Bool.{false, cond};
 ghost use Prim.Native.Nat.{_+_, _*_, _-_, _≤_, _<_, _^_, min};
 ghost use lib.ListN.{length};
-ghost use Rattle.rules.specs.Tables.{mostRows, terms};
+ghost use Rattle.rules.specs.Tables.{mostRows, terms, HasRows};
 ghost use Rattle.rules.specs.Session.{settled};
 ghost use Rattle.rules.specs.Read.{meetBlocks, readTable, readBlock};
 ghost use Rattle.rules.specs.Calls.{newBlockCode};
 ghost use Rattle.session_laws.specs.Record.{QueryFits};
 ghost use Rattle.session_laws.specs.Calls.{Accepted};
 ghost use Rattle.block.specs.Block.{Joined};
+ghost use Rattle.skipping.specs.Effect.{Effect};
 ghost use Rattle.choosing.specs.Ready.{Ready};
 ghost use Rattle.choosing.specs.Due.{Due};
-ghost use Rattle.meeting.specs.Effect.{Effect};
 ghost use Rattle.meeting.specs.Stands.{Keys, Stands, Meets, withKeys};
 ghost use Rattle.meeting.specs.Side.{FirstFit, SpanFits, Passed, spanBlock, downTo};
 
@@ -56,31 +56,9 @@ fn join_parts(
     ensures { λ r. ⌜ Joined (terms q) room (spanBlock (now (f .entry)) x) (spanBlock (now (t .entry)) y) held
         (now (keys .entry)) r (now (keys .exit)) ⌝ }
 {
-    let i = 4 * x.from;
-    let j = 4 * x.to;
-    let k = 4 * y.from;
-    let l = 4 * y.to;
-    block::join(q, room, &f[i..j], x.from, &t[k..l], y.from, keys, held)
-}
-
-// What a block pair comes to: 0, it is skipped; 1, it is joined, and no pair of it qualifies; 2, it is joined, pair by
-// pair. Only small blocks are tried for 1. `full` says that k pairs are held or out, `low` is the lowest held sum.
-fn effect(full: bool, low: u32, q: Query, x: &[i32], y: &[i32]) -> u64
-    requires { ⌜ (4 ≤ length (now x)) × (4 ≤ length (now y)) ⌝ }
-    ensures { λ r. ⌜ Effect full low q (now (x .entry)) (now (y .entry)) r ⌝ }
-{
-    let first = tables::weighted(q.weights.field.0, x, 0);
-    let second = tables::weighted(q.weights.trim.0, y, 0);
-    if full & (first + second < low as u64) {
-        return 0;
-    }
-    if 128 < x.len() {
-        return 2;
-    }
-    if block::any_near(q, x, y) {
-        return 2;
-    }
-    1
+    let fields = tables::rows(f, x.from, x.to);
+    let trims = tables::rows(t, y.from, y.to);
+    block::join(q, room, fields, x.from, trims, y.from, keys, held)
 }
 
 // The effect of rows of the field table and rows of the trim table.
@@ -89,11 +67,9 @@ fn effect_parts(full: bool, low: u32, q: Query, f: &[i32], x: Span, t: &[i32], y
     ensures { λ r. ⌜ Effect full low q (spanBlock (now (f .entry)) x .rows)
         (spanBlock (now (t .entry)) y .rows) r ⌝ }
 {
-    let i = 4 * x.from;
-    let j = 4 * x.to;
-    let k = 4 * y.from;
-    let l = 4 * y.to;
-    effect(full, low, q, &f[i..j], &t[k..l])
+    let fields = tables::rows(f, x.from, x.to);
+    let trims = tables::rows(t, y.from, y.to);
+    skipping::effect(full, low, q, fields, trims)
 }
 
 // How many pairs are held and how many block pairs are joined.
@@ -149,7 +125,7 @@ fn meet_blocks(
 ) -> Met
     requires { ⌜ Ready s × (s .joined + n < 2 ^ 63) × Keys s (now keys) ⌝ }
     requires { ⌜ SpanFits new (cond field (now f) (now t)) × FirstFit (cond field (now t) (now f)) depth ⌝ }
-    requires { ⌜ (depth ≤ mostRows) × (4 * depth ≤ length (cond field (now t) (now f)))
+    requires { ⌜ (depth ≤ mostRows) × HasRows (cond field (now t) (now f)) depth
         × (n * s .query .block < depth + s .query .block) ⌝ }
     ensures { λ r. ⌜ Stands
         (meetBlocks field s (spanBlock (cond field (now (f .entry)) (now (t .entry))) new)
@@ -208,7 +184,7 @@ fn read_on(field: bool, f: &[i32], t: &[i32], s: Session, keys: &mut [u64; 64]) 
     let d = choosing::pick(field, s.depth.field.0, s.depth.trim.0);
     let depth = choosing::pick(field, s.depth.trim.0, s.depth.field.0);
     let e = choosing::next_depth(block, rows, d);
-    let n = checks::block_count(block, depth);
+    let n = number_checks::block_count(block, depth);
     let new = Span {
         from: d as usize,
         to: e as usize,

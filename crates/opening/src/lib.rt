@@ -3,7 +3,6 @@ use rules::Answer;
 use rules::Counts;
 use rules::FieldRows;
 use rules::FieldWeight;
-use rules::Pair;
 use rules::Query;
 use rules::Session;
 use rules::Step;
@@ -11,7 +10,6 @@ use rules::TrimRows;
 use rules::TrimWeight;
 use rules::Weights;
 ghost use mathlib.Core.Path.{_≡_};
-ghost use Prim.Native.Nat.{_/_};
 ghost use Rattle.rules.specs.Session.{opened, zeros};
 ghost use Rattle.rules.specs.Calls.{openCode, openCall};
 
@@ -19,14 +17,14 @@ ghost use Rattle.rules.specs.Calls.{openCode, openCall};
 fn open_code(q: Query, f: &[i32], t: &[i32]) -> u32
     ensures { λ r. ⌜ r ≡ openCode q (now (f .entry)) (now (t .entry)) ⌝ }
 {
-    let code = checks::query_code(q);
+    let code = number_checks::query_code(q);
     if code != 0 {
         return code;
     }
-    if !checks::size_fits(f) {
+    if !tables::size_fits(f) {
         return 4;
     }
-    if !checks::size_fits(t) {
+    if !tables::size_fits(t) {
         return 4;
     }
     0
@@ -36,11 +34,6 @@ fn open_code(q: Query, f: &[i32], t: &[i32]) -> u32
 fn fresh(q: Query, m: FieldRows, n: TrimRows) -> Session
     ensures { λ r. ⌜ r ≡ opened q m n ⌝ }
 {
-    let z = Pair {
-        sum: 0,
-        field: 0,
-        trim: 0,
-    };
     let rows = Counts { field: m, trim: n };
     let depth = Counts {
         field: FieldRows(0),
@@ -53,7 +46,7 @@ fn fresh(q: Query, m: FieldRows, n: TrimRows) -> Session
         last: 0,
         out: 0,
         held: 0,
-        pairs: [z; 64],
+        pairs: [rules::NO_PAIR; 64],
         joined: 0,
     }
 }
@@ -87,8 +80,8 @@ pub fn start(q: Query, f: &[i32], t: &[i32]) -> Step
             session: s,
         };
     }
-    let m = FieldRows((f.len() / 4) as u32);
-    let n = TrimRows((t.len() / 4) as u32);
+    let m = FieldRows(tables::row_count(f) as u32);
+    let n = TrimRows(tables::row_count(t) as u32);
     let s = fresh(q, m, n);
     Step {
         answer: Answer::Opened,

@@ -1,5 +1,6 @@
 // Read: one block more of two lent tables. The record is a value that goes in and comes back; whatever comes in is
 // checked.
+use number_checks::numbers_fit;
 use rules::Answer;
 use rules::Pair;
 use rules::Session;
@@ -40,7 +41,7 @@ pub fn read(f: &[i32], t: &[i32], s: Session) -> Step
     let n = r.held as usize;
     let end = (n + 63) % 64;
     let depth = r.depth;
-    let mut fits = checks::numbers_fit(r.query, r.rows, r.depth, r.last, r.out, r.held, r.joined);
+    let mut fits = numbers_fit(r.query, r.rows, r.depth, r.last, r.out, r.held, r.joined);
     let mut before: u64 = 0;
     let mut keys: [u64; 64] = [0; 64];
     let mut i = checks::first_place(fits);

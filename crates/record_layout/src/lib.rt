@@ -132,11 +132,7 @@ fn head_in(l: &[u32]) -> Session
         field: FieldRows(l[FIELD_DEPTH]),
         trim: TrimRows(l[TRIM_DEPTH]),
     };
-    let none = Pair {
-        sum: 0,
-        field: 0,
-        trim: 0,
-    };
+    let none = rules::NO_PAIR;
     let low = l[JOINED];
     let high = l[JOINED_HIGH];
     Session {

@@ -13,7 +13,7 @@ use Rattle.rules.specs.declared.Session.{Session}
 use Rattle.rules.specs.declared.Step.{Step}
 use Rattle.rules.specs.declared.Answer.{Answer}
 use Rattle.rules.specs.declared.Answer.the-variants.{Refused, Opened, Read, Settled, Given, NotYet, Finished}
-use Rattle.rules.specs.Tables.{Terms, terms, mostRows, rowCount, rowInRange, rowInOrder, sizeFits, ahead}
+use Rattle.rules.specs.Tables.{Terms, terms, width, mostRows, rowCount, rowInRange, rowInOrder, sizeFits, ahead}
 use Rattle.rules.specs.Session.{opened, zeros, heldPairs, settledBy}
 use Rattle.rules.specs.Read.{blockCount, fieldNextBy, oldDepth, newDepth, readBlockBy}
 use Rattle.rules.specs.Take.{firstHeld, givesPairBy, movedOut, finished, lastBlock, shownRows}
@@ -168,6 +168,6 @@ unfoldable pub showPlace : List ℤ → List ℤ → ℕ × ℕ → ℕ × ℕ �
 showPlace f t atField atTrim s =
     let b = s .query .block in
     cond (eqb (lentCode f t s) 0)
-    (cond (eqb (s .last) 1) (movedOn atField (4 * lastBlock b (s .depth .field .0)))
-    (cond (eqb (s .last) 2) (movedOn atTrim (4 * lastBlock b (s .depth .trim .0))) atField))
+    (cond (eqb (s .last) 1) (movedOn atField (width * lastBlock b (s .depth .field .0)))
+    (cond (eqb (s .last) 2) (movedOn atTrim (width * lastBlock b (s .depth .trim .0))) atField))
     atField

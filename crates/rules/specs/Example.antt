@@ -13,7 +13,7 @@ use Rattle.rules.specs.declared.Session.{Session}
 use Rattle.rules.specs.declared.Answer.{Answer}
 use Rattle.rules.specs.Numbers.{said}
 use Rattle.rules.specs.Tables.{qualifies}
-use Rattle.rules.specs.Session.{ceiling}
+use Rattle.rules.specs.Session.{places, ceiling}
 use Rattle.rules.specs.Calls.{openCall, readCall, takeCall}
 use Rattle.rules.specs.File.{lineFeed, columnFits, columnNumber}
 use Rattle.rules.specs.Query.{wholeQuery, settledSession, tableOf, inputQuery}
@@ -109,9 +109,27 @@ pub record Entry : Type 0 where
 abbrev pub entry : List ℤ → List ℤ → Entry
 entry x y = record { found = x; said = y }
 
--- P1 to P12, in the rules' order: what the rules find, and what is wanted
-pub table : List Entry
-table =
+-- the record after five reads, written out: what P9 and P10 look at is computed once
+abbrev five : Session
+five =
+    record {
+      query = query;
+      rows = record { field = record { 0 = 5 }; trim = record { 0 = 5 } };
+      depth = record { field = record { 0 = 3 }; trim = record { 0 = 2 } };
+      last = 1;
+      out = 0;
+      held = 1;
+      pairs = places (record { sum = 140; field = 1; trim = 2 } ∷ []);
+      joined = 6;
+    }
+
+is-five : afterReads 5 ≡ five
+unfolding run afterReads
+is-five = refl
+
+-- P1 to P12, in the rules' order: what the rules find, and what is wanted; s is the record after five reads
+abbrev tableAt : Session → List Entry
+tableAt s =
     entry (test (qualifies 5 (shade (pos 0) (pos 0)) (shade (pos 3) (pos 4)))) (test true)
     ∷ entry (test (qualifies 4 (shade (pos 0) (pos 0)) (shade (pos 3) (pos 4)))) (test false)
     ∷ entry (test (qualifies 0 (shade (pos 3) (pos 4)) (shade (pos 3) (pos 4)))) (test true)
@@ -120,16 +138,19 @@ table =
     ∷ entry (column false (bytes "   101")) (pos 101 ∷ [])
     ∷ entry (column false (bytes "  0101")) []
     ∷ entry (column true (bytes "     -0")) []
-    ∷ entry (pos (ceiling fields trims (afterReads 5)) ∷ []) (pos 140 ∷ [])
-    ∷ entry (told (takeCall fields trims (afterReads 5) .answer)) (pos 2 ∷ pos 140 ∷ pos 1 ∷ pos 2 ∷ [])
+    ∷ entry (pos (ceiling fields trims s) ∷ []) (pos 140 ∷ [])
+    ∷ entry (told (takeCall fields trims s .answer)) (pos 2 ∷ pos 140 ∷ pos 1 ∷ pos 2 ∷ [])
     ∷ entry (account (settledSession query fields trims)) (pos 4 ∷ pos 4 ∷ pos 10 ∷ [])
     ∷ entry (told (takeCall [] trims (openCall query [] trims .session) .answer)) (pos 4 ∷ [])
     ∷ []
 
+pub table : List Entry
+table = tableAt (afterReads 5)
+
 -- the whole table at once, computed
 holds : map (λ e. e .found) table ≡ map (λ e. e .said) table
-unfolding run table afterReads
-holds = refl
+unfolding run table
+holds = ap (λ (s : Session). map (λ e. e .found) (tableAt s)) is-five
 
 -- each entry, P1 being entry 0
 pub fact : (i : ℕ) → getD table i (entry [] []) .found ≡ getD table i (entry [] []) .said

@@ -8,7 +8,7 @@ use lib.ListN.{length, getD, take, drop}
 use Rattle.lists.specs.Lists.{every, range, each}
 use Rattle.rules.specs.declared.Loaded.{Loaded}
 use Rattle.rules.specs.declared.Loaded.the-variants.{Rows, Unfit}
-use Rattle.rules.specs.Tables.{mostRows, natOf}
+use Rattle.rules.specs.Tables.{width, afterRows, mostRows, natOf}
 use Rattle.rules.specs.Numbers.{tableSize, cutFile, badColumn, wrongKind, shortSlice, unless, first, saidOf}
 use Rattle.rules.specs.Numbers.{signed}
 use Rattle.rules.specs.Calls.{between, rowCode}
@@ -158,12 +158,12 @@ checkFile bytes kind =
 
 -- "then 11": the answer where a slice of so many numbers is lent
 unfoldable pub andSlice : ℕ → Loaded → Loaded
-andSlice lent (Rows n) = cond (ltb lent (4 * n)) (Unfit shortSlice 0) (Rows n)
+andSlice lent (Rows n) = cond (ltb lent (width * n)) (Unfit shortSlice 0) (Rows n)
 andSlice lent (Unfit code row) = Unfit code row
 
 -- the lent numbers after an answer: "the first 4 × count numbers are the rows, the rest untouched"
 unfoldable pub loadedInto : List ℕ → List ℤ → Loaded → List ℤ
-loadedInto bytes lent (Rows n) = fileTable bytes n ++ drop (4 * n) lent
+loadedInto bytes lent (Rows n) = fileTable bytes n ++ afterRows n lent
 loadedInto bytes lent (Unfit code row) = lent
 
 -- Reading a file into a lent slice: the answer, and the slice after it

@@ -1,4 +1,5 @@
 pub mod Tables
+pub mod Widths
 pub mod Session
 pub mod Read
 pub mod Take

@@ -15,7 +15,7 @@ use Rattle.rules.specs.Read.{fieldNext, skipped, rowsBetween}
 use Rattle.rules.specs.Take.{lastBlock}
 use Rattle.rules.specs.Numbers.{saidOf, refusal}
 use Rattle.rules.specs.Calls.{queryCode, sizeCode, rowsCode, recordCode, callCode, openCode, openCall, showCall}
-use Rattle.rules.specs.File.{loadAnswer}
+use Rattle.rules.specs.File.{loadAnswer, loadNumbers}
 use Rattle.rules.specs.Root.{root, remainder}
 use Rattle.rules.specs.Query.{readUntilSettled, settledSession, list, pairLine, wholeQuery, refusalLine}
 use Rattle.rules.specs.Run.{run}
@@ -244,6 +244,22 @@ pub begins-withdrawn : depthsOf (settledSession (asked 1 1 0) noneLive allLive)
     ∷ [] ≡ (1 ∷ 0 ∷ []) ∷ (1 ∷ 1 ∷ []) ∷ (0 ∷ 0 ∷ []) ∷ []
 unfolding run
 begins-withdrawn = refl
+
+-- ---- What a refused reading leaves in the lent numbers: a bad column in the second row, and too short a slice
+
+abbrev twoRows : String
+twoRows = "     2     1\n     7     9      0      0\n     8     9      0     -0\n"
+
+abbrev oneRow : String
+oneRow = "     1     1\n     7     9      0      0\n"
+
+pub refused-leaves :
+    loadNumbers (bytes twoRows) (pos 1) (replicate 8 (pos 5))
+    ∷ loadNumbers (bytes oneRow) (pos 1) (replicate 3 (pos 5))
+    ∷ []
+    ≡ replicate 8 (pos 5) ∷ replicate 3 (pos 5) ∷ []
+unfolding run
+refused-leaves = refl
 
 -- ---- Distance in whole steps
 

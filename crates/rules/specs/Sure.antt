@@ -1,15 +1,14 @@
 -- docs/RULES.md, "Sure readings". Definitions only. Assumes nothing.
-use Prim.Native.Nat.{ℕ, _*_, _≤_}
+use Prim.Native.Nat.{ℕ, _≤_}
 use mathlib.Core.Path.{_≡_}
 use mathlib.Core.Bool.{true}
 use mathlib.Core.List.{List, map}
 use lib.IntN.{ℤ}
-use lib.ListN.{take}
 use Rattle.lists.specs.Lists.{best}
 use Rattle.rules.specs.declared.FieldRows.{FieldRows}
 use Rattle.rules.specs.declared.TrimRows.{TrimRows}
 use Rattle.rules.specs.declared.Query.{Query}
-use Rattle.rules.specs.Tables.{rowCount, legal, terms, Block, qualifying}
+use Rattle.rules.specs.Tables.{rowCount, firstRows, legal, terms, Block, qualifying}
 
 abbrev pub whole : List ℤ → Block
 whole t = record { start = 0; rows = t }
@@ -22,7 +21,7 @@ qualifyingSums q f t = map (λ p. p .sum) (qualifying (terms q) (whole f) (whole
 -- "A table whose last row is within the reading is known to end there."
 pub record Begins (n : ℕ) (t u : List ℤ) : Type 0 where
   pub lawful : legal u ≡ true
-  pub alike : take (4 * n) u ≡ take (4 * n) t
+  pub alike : firstRows n u ≡ firstRows n t
   pub ends : rowCount t ≤ n → u ≡ t
 
 -- A reading of m field rows and n trim rows "is sure of k if all legal tables that begin with these rows, or are these

@@ -1,5 +1,5 @@
 -- docs/RULES.md, "Tables". Definitions only. Assumes nothing.
-use Prim.Native.Nat.{ℕ, _+_, _*_, _-_, _/_, _%_}
+use Prim.Native.Nat.{ℕ, _+_, _*_, _-_, _/_, _%_, _≤_}
 use mathlib.Core.Bool.{Bool, _&&_, _||_, not}
 use mathlib.Core.List.{List, map}
 use lib.Dec.{leb, ltb, eqb}
@@ -11,12 +11,30 @@ use Rattle.rules.specs.declared.Shade.{Shade}
 use Rattle.rules.specs.declared.Pair.{Pair}
 use Rattle.rules.specs.declared.Query.{Query}
 
--- "four to a row": number j of row i + 1 (rows are numbered from 1)
+-- "four to a row"
+abbrev pub width : ℕ
+width = 4
+
+-- number j of row i + 1 (rows are numbered from 1)
 abbrev pub num : List ℤ → ℕ → ℕ → ℤ
-num t i j = getD t (4 * i + j) (pos 0)
+num t i j = getD t (width * i + j) (pos 0)
 
 abbrev pub rowCount : List ℤ → ℕ
-rowCount t = length t / 4
+rowCount t = length t / width
+
+-- the table has row i + 1; its first n rows
+abbrev pub HasRow : List ℤ → ℕ → Type 0
+HasRow t i = width * i + width ≤ length t
+
+abbrev pub HasRows : List ℤ → ℕ → Type 0
+HasRows t n = width * n ≤ length t
+
+-- its first n rows, and what follows them
+abbrev pub firstRows : ℕ → List ℤ → List ℤ
+firstRows n t = take (width * n) t
+
+abbrev pub afterRows : ℕ → List ℤ → List ℤ
+afterRows n t = drop (width * n) t
 
 unfoldable pub within : ℤ → ℤ → ℤ → Bool
 within low high x = leZ low x && leZ x high
@@ -41,7 +59,7 @@ mostRows = 65535
 
 -- and four numbers to each
 unfoldable pub sizeFits : List ℤ → Bool
-sizeFits t = eqb (length t % 4) 0 && leb (rowCount t) mostRows
+sizeFits t = eqb (length t % width) 0 && leb (rowCount t) mostRows
 
 -- "It is legal if every row keeps these ranges and no score exceeds the one before it."
 unfoldable pub legal : List ℤ → Bool
@@ -68,7 +86,7 @@ row t i =
 
 -- rows a + 1 to a + n, as a part of their table
 abbrev pub part : List ℤ → ℕ → ℕ → List ℤ
-part t a n = take (4 * n) (drop (4 * a) t)
+part t a n = firstRows n (afterRows a t)
 
 -- how far apart two numbers lie
 unfoldable pub gap : ℤ → ℤ → ℕ

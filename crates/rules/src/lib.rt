@@ -29,6 +29,9 @@ pub const WEIGHT_RANGE: u32 = 12;
 // The largest list length: so many pair places has a record.
 pub const PLACES: usize = 64;
 
+// The numbers of a table's row.
+pub const ROW_NUMBERS: usize = 4;
+
 // The rows of the longest table.
 pub const MOST_ROWS: u32 = 65535;
 
@@ -90,6 +93,13 @@ pub struct Pair {
     pub field: u32,
     pub trim: u32,
 }
+
+// A pair place that holds none.
+pub const NO_PAIR: Pair = Pair {
+    sum: 0,
+    field: 0,
+    trim: 0,
+};
 
 // The session's record: a value that goes in and comes back.
 pub struct Session {

@@ -52,12 +52,7 @@ struct TakenOut {
 fn take_on(f: &[i32], t: &[i32], s: Session) -> TakenOut
     ensures { λ r. ⌜ r ≡ takenOut (now (f .entry)) (now (t .entry)) s ⌝ }
 {
-    let none = Pair {
-        sum: 0,
-        field: 0,
-        trim: 0,
-    };
-    let mut pairs = [none; rules::PLACES];
+    let mut pairs = [rules::NO_PAIR; rules::PLACES];
     let mut left = s;
     let mut n: usize = 0;
     while n < rules::PLACES {

@@ -4,12 +4,13 @@ use mathlib.Core.Path.{_≡_, refl, sym, ap, ap₂, _∙_}
 use mathlib.Core.Bool.{Bool, true, false, cond, _&&_, _||_, not}
 use mathlib.Core.List.{List, [], _∷_}
 use Prim.Native.Nat.{ℕ, zero, suc, _+_, _*_, _-_, _≤_, _<_, min}
+use native.Mathlib.Nat.{mul-le-mul-left}
 use native.Mathlib.Omega.{arith}
 use native.Mathlib.Decide.{decLe}
 use lib.Dec.{leb, ltb, eqb, lit≤}
-use lib.IntN.{ℤ, pos}
-use lib.ListN.{length, getD, take, drop}
-use lib.Seq.{getD-take, take-take, take-nil, length-take-le}
+use lib.IntN.{ℤ}
+use lib.ListN.{take, drop}
+use lib.Seq.{take-take, take-nil}
 use borrow.Author.Tests.{eqb-false, ltb-true}
 use Rattle.lists.specs.Lists.{every}
 use Rattle.lists.specs.Bools.{or-none-out}
@@ -17,8 +18,8 @@ use Rattle.lists.specs.Parts.{every-same}
 use Rattle.rules.specs.declared.Pair.{Pair}
 use Rattle.rules.specs.declared.Session.{Session}
 use Rattle.rules.specs.Tables.{num, mostRows, rowCount, rowInRange, rowInOrder, legal, natOf, row, withdrawn, Terms}
-use Rattle.rules.specs.Tables.{terms}
-use Rattle.rules.specs.Tables.{part, Block}
+use Rattle.rules.specs.Tables.{terms, width, firstRows, part, Block}
+use Rattle.rules.specs.Widths.{has-rows, first-length, first-count, first-num}
 use Rattle.rules.specs.Session.{withdrawnWithin, readOut, isEmpty}
 use Rattle.rules.specs.Session.{heldPairs, firstScore, lastScore, fieldReadOut, trimReadOut, bothReadOut}
 use Rattle.rules.specs.Session.{aTableIsEmpty, aDepthIsZero, ceilingBy, ceiling, securedBy, secured, settledBy, settled}
@@ -30,14 +31,14 @@ use Rattle.session_laws.specs.Tables.{RowFits, legal-in}
 
 -- two tables with the same first n rows
 abbrev pub SameRows : ℕ → List ℤ → List ℤ → Type 0
-SameRows n t u = take (4 * n) u ≡ take (4 * n) t
+SameRows n t u = firstRows n u ≡ firstRows n t
 
 -- of lists alike up to n, those alike up to m
 take-less : (m n : ℕ) (t u : List ℤ) → m ≤ n → take n u ≡ take n t → take m u ≡ take m t
 take-less m n t u h e = sym (take-take m n u h) ∙ ap (take m) e ∙ take-take m n t h
 
 pub same-less : (m n : ℕ) (t u : List ℤ) → m ≤ n → SameRows n t u → SameRows m t u
-same-less m n t u h e = take-less (4 * m) (4 * n) t u (omega arith) e
+same-less m n t u h e = take-less (width * m) (width * n) t u (mul-le-mul-left width h) e
 
 take-drop : (m j : ℕ) (l : List ℤ) → take m (drop j l) ≡ drop j (take (j + m) l)
 take-drop m zero l = ap (λ n. take n l) (let z : m ≡ 0 + m = omega arith in z)
@@ -53,11 +54,8 @@ same-slice m j n t u e h =
 -- ---- Rows and parts
 
 module _ (n : ℕ) (t u : List ℤ) (same : SameRows n t u) where
-  same-num : (i j : ℕ) → i < n → j < 4 → num u i j ≡ num t i j
-  same-num i j h k =
-      sym (getD-take (4 * n) u (4 * i + j) (pos 0) (omega arith))
-      ∙ ap (λ l. getD l (4 * i + j) (pos 0)) same
-      ∙ getD-take (4 * n) t (4 * i + j) (pos 0) (omega arith)
+  same-num : (i j : ℕ) → i < n → j < width → num u i j ≡ num t i j
+  same-num i j h k = sym (first-num u n i j h k) ∙ ap (λ l. num l i j) same ∙ first-num t n i j h k
 
   same-row : (i : ℕ) → i < n → row u i ≡ row t i
   unfolding row
@@ -81,8 +79,11 @@ module _ (n : ℕ) (t u : List ℤ) (same : SameRows n t u) where
   pub same-part : (a b : ℕ) → b ≤ n → rowsBetween u a b ≡ rowsBetween t a b
   same-part a b h = ap (λ l. record { start = a; rows = l }) (go (decLe a b))
     where
+      fits : a ≤ b → width * a + width * (b - a) ≤ width * n
+      fits k = let e : a + (b - a) ≡ b = omega arith in omega (arith, mul-le-mul-left width h, ap (_*_ width) e)
+
       go : Dec (a ≤ b) → part u a (b - a) ≡ part t a (b - a)
-      go (yes k) = same-slice (4 * (b - a)) (4 * a) (4 * n) t u same (omega arith)
+      go (yes k) = same-slice (width * (b - a)) (width * a) (width * n) t u same (fits k)
       go (no k) =
           let z : b - a ≡ 0 = omega arith in
           ap (part u a) z ∙ sym (ap (part t a) z)
@@ -111,25 +112,26 @@ module _ (n : ℕ) (t u : List ℤ) (same : SameRows n t u) where
 -- ---- The first n rows of a table, as a table by themselves
 
 module _ (t : List ℤ) (n : ℕ) (fits : n ≤ rowCount t) where
-  pub cut-same : SameRows n t (take (4 * n) t)
-  cut-same = take-take (4 * n) (4 * n) t (omega arith)
+  pub cut-same : SameRows n t (firstRows n t)
+  cut-same = take-take (width * n) (width * n) t (omega arith)
 
-  cut-length : length (take (4 * n) t) ≡ 4 * n
-  cut-length = length-take-le (4 * n) t (omega arith)
-
-  pub cut-count : rowCount (take (4 * n) t) ≡ n
-  cut-count = omega (arith, cut-length)
+  pub cut-count : rowCount (firstRows n t) ≡ n
+  cut-count = first-count t n (has-rows t n fits)
 
   -- it is legal where its rows are refused neither by 6 nor by 7
-  pub cut-legal : n ≤ mostRows → ((i : ℕ) → i < n → RowFits t i) → legal (take (4 * n) t) ≡ true
+  pub cut-legal : n ≤ mostRows → ((i : ℕ) → i < n → RowFits t i) → legal (firstRows n t) ≡ true
   cut-legal few good =
-      legal-in (take (4 * n) t)
+      legal-in (firstRows n t)
       (record {
-        size = record { few = omega (arith, cut-count); whole = omega (arith, cut-count, cut-length) };
+        size =
+            record {
+              few = omega (arith, cut-count);
+              whole = ap (_*_ width) cut-count ∙ sym (first-length t n (has-rows t n fits));
+            };
         rows =
             λ i h.
             let k : i < n = omega (arith, cut-count) in
-            same-fits n t (take (4 * n) t) cut-same i k (good i k);
+            same-fits n t (firstRows n t) cut-same i k (good i k);
       })
 
 -- ---- Judging

@@ -1,5 +1,5 @@
 -- What 4, 6 and 7 say of a table: its size, its rows, and what a legal table is. Assumes nothing.
-use mathlib.Core.Path.{_≡_, refl, sym, ap, subst, _∙_}
+use mathlib.Core.Path.{_≡_, refl, sym, subst}
 use mathlib.Core.Bool.{Bool, true, _&&_}
 use mathlib.Core.List.{List, [], _∷_}
 use Prim.Native.Nat.{ℕ, zero, suc, _+_, _*_, _≤_, _<_, _%_}
@@ -9,14 +9,14 @@ use native.Mathlib.Decide.{decLe}
 use lib.Dec.{eqb, leb, lit≤}
 use lib.IntN.{ℤ, pos, negsuc}
 use lib.Signed.{leZ}
-use lib.ListN.{length, getD, drop}
-use lib.Seq.{getD-take, getD-drop}
+use lib.ListN.{length}
 use borrow.Author.Tests.{eqb-true, eq-eqb, leb-true, le-leb}
 use Rattle.lists.specs.Lists.{every, range}
 use Rattle.lists.specs.Bools.{clash, and-out, and-in}
 use Rattle.lists.specs.Parts.{mem-range, every-at, every-of}
 use Rattle.rules.specs.Tables.{num, mostRows, rowCount, within, inRange, rowInRange, rowInOrder, sizeFits, legal}
-use Rattle.rules.specs.Tables.{natOf, row, part, weighted}
+use Rattle.rules.specs.Tables.{width, natOf, row, part, weighted}
+use Rattle.rules.specs.Widths.{rows-rest, no-rest, part-num}
 use Rattle.rules.specs.Numbers.{unless, rowLimit, rowOrder}
 use Rattle.rules.specs.Checks.{first-out, first-in, unless-out}
 use Rattle.rules.specs.Calls.{rowCode, rowsCode}
@@ -25,19 +25,19 @@ use Rattle.rules.specs.Calls.{rowCode, rowsCode}
 
 pub record Sized (t : List ℤ) : Type 0 where
   pub few : rowCount t ≤ mostRows
-  pub whole : 4 * rowCount t ≡ length t
+  pub whole : width * rowCount t ≡ length t
 
 pub size-out : (t : List ℤ) → sizeFits t ≡ true → Sized t
 unfolding sizeFits
 size-out t h =
-    let both = and-out (eqb (length t % 4) 0) (leb (rowCount t) mostRows) h in
-    let rest : length t % 4 ≡ 0 = eqb-true (length t % 4) 0 (both .0) in
-    record { few = leb-true (rowCount t) mostRows (both .1); whole = omega arith }
+    let both = and-out (eqb (length t % width) 0) (leb (rowCount t) mostRows) h in
+    let rest : length t % width ≡ 0 = eqb-true (length t % width) 0 (both .0) in
+    record { few = leb-true (rowCount t) mostRows (both .1); whole = rows-rest t rest }
 
 pub size-in : (t : List ℤ) → Sized t → sizeFits t ≡ true
 unfolding sizeFits
 size-in t h =
-    and-in (eqb (length t % 4) 0) (leb (rowCount t) mostRows) (eq-eqb (length t % 4) 0 (omega (arith, h .whole)))
+    and-in (eqb (length t % width) 0) (leb (rowCount t) mostRows) (eq-eqb (length t % width) 0 (no-rest t (h .whole)))
     (le-leb (rowCount t) mostRows (h .few))
 
 -- ---- 6: the ranges of a row's numbers
@@ -96,28 +96,22 @@ module _ (t : List ℤ) (i : ℕ) (h : rowInRange t i ≡ true) where
 
 -- rows of a part are those of its table
 module _ (t : List ℤ) (a n i : ℕ) (h : i < n) where
-  pub num-part : (j : ℕ) → j < 4 → num (part t a n) i j ≡ num t (a + i) j
-  num-part j k =
-      let e : 4 * a + (4 * i + j) ≡ 4 * (a + i) + j = omega arith in
-      getD-take (4 * n) (drop (4 * a) t) (4 * i + j) (pos 0) (omega arith)
-      ∙ getD-drop (4 * a) t (4 * i + j) (pos 0)
-      ∙ ap (λ m. getD t m (pos 0)) e
-
   pub row-part : row (part t a n) i ≡ row t (a + i)
   unfolding row
   row-part =
       λ k.
       record {
-        pattern = natOf (num-part 0 (lit≤ tt) k);
-        score = natOf (num-part 1 (lit≤ tt) k);
-        shade = record { a = num-part 2 (lit≤ tt) k; b = num-part 3 (lit≤ tt) k };
+        pattern = natOf (part-num t a n i 0 h (lit≤ tt) k);
+        score = natOf (part-num t a n i 1 h (lit≤ tt) k);
+        shade = record { a = part-num t a n i 2 h (lit≤ tt) k; b = part-num t a n i 3 h (lit≤ tt) k };
       }
 
   pub range-part : rowInRange (part t a n) i ≡ rowInRange t (a + i)
   unfolding rowInRange
   range-part =
       λ k.
-      inRange (num-part 0 (lit≤ tt) k) (num-part 1 (lit≤ tt) k) (num-part 2 (lit≤ tt) k) (num-part 3 (lit≤ tt) k)
+      inRange (part-num t a n i 0 h (lit≤ tt) k) (part-num t a n i 1 h (lit≤ tt) k) (part-num t a n i 2 h (lit≤ tt) k)
+      (part-num t a n i 3 h (lit≤ tt) k)
 
 -- ---- 6 and 7: rows
 

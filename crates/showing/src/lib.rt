@@ -3,20 +3,18 @@ use rules::Session;
 ghost use mathlib.Core.Path.{_≡_};
 ghost use Prim.Native.Nat.{_*_, _-_, _≤_, _<_, _/_};
 ghost use denote.Ref.{ptr};
-ghost use lib.ListN.{length};
-ghost use Rattle.rules.specs.Tables.{mostRows, part};
+ghost use Rattle.rules.specs.Tables.{mostRows, part, width, HasRows};
 ghost use Rattle.rules.specs.Take.{lastBlock};
 ghost use Rattle.rules.specs.Calls.{showCall, movedOn, showPlace};
 
 // The rows of a table from the first to the last of its last block down to a depth.
 fn last_rows<'a>(t: &'a [i32], block: u32, depth: u32) -> &'a [i32]
-    requires { ⌜ (0 < block) × (0 < depth) × (depth ≤ mostRows) × (4 * depth ≤ length (now t)) ⌝ }
+    requires { ⌜ (0 < block) × (0 < depth) × (depth ≤ mostRows) × HasRows (now t) depth ⌝ }
     ensures { λ r. ⌜ now r ≡ part (now (t .entry)) (lastBlock block depth) (depth - lastBlock block depth) ⌝ }
-    ensures { λ r. ⌜ ptr r ≡ movedOn (ptr (t .entry)) (4 * lastBlock block depth) ⌝ }
+    ensures { λ r. ⌜ ptr r ≡ movedOn (ptr (t .entry)) (width * lastBlock block depth) ⌝ }
 {
-    let a = 4 * (((depth - 1) / block * block) as usize);
-    let e = 4 * (depth as usize);
-    &t[a..e]
+    let a = ((depth - 1) / block * block) as usize;
+    tables::rows(t, a, depth as usize)
 }
 
 // Show: the rows last read, as a part of the table that they came from; the empty part at the front of the field table

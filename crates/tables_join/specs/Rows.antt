@@ -25,7 +25,8 @@ use Rattle.rules.specs.Tables.{mostRows, rowCount, inRange, Row, row, qualifies
 use Rattle.rules.specs.Tables.{withdrawn, rowsQualify, weighted, terms}
 use Rattle.rules.specs.Session.{withdrawnWithin, isEmpty}
 use Rattle.rules.specs.declared.Shade.{Shade}
-use Rattle.rules.specs.Tables.{legal}
+use Rattle.rules.specs.Tables.{legal, width, firstRows}
+use Rattle.rules.specs.Widths.{rows-count}
 use Rattle.rules.specs.Tables.{natOf, gap, squaredDistance}
 use Rattle.rules.specs.declared.Query.{Query}
 use Rattle.rules.specs.Calls.{queryCode}
@@ -181,15 +182,15 @@ cell x (suc zero) = pos (x .score)
 cell x (suc (suc zero)) = x .shade .a
 cell x (suc (suc (suc j))) = x .shade .b
 
-pub length-flat : (l : List Row) → length (flat l) ≡ 4 * length l
+pub length-flat : (l : List Row) → length (flat l) ≡ width * length l
 unfolding flat
 length-flat [] = refl
 length-flat (x ∷ l) = omega (arith, length-flat l)
 
 pub count-flat : (l : List Row) → rowCount (flat l) ≡ length l
-count-flat l = omega (arith, length-flat l)
+count-flat l = rows-count (flat l) (length l) (length-flat l)
 
-num-flat : (l : List Row) (i j : ℕ) → j < 4 → num (flat l) i j ≡ cell (getD l i blankRow) j
+num-flat : (l : List Row) (i j : ℕ) → j < width → num (flat l) i j ≡ cell (getD l i blankRow) j
 unfolding flat cell
 num-flat [] i zero h = refl
 num-flat [] i (suc zero) h = refl
@@ -201,7 +202,7 @@ num-flat (x ∷ l) zero (suc (suc zero)) h = refl
 num-flat (x ∷ l) zero (suc (suc (suc zero))) h = refl
 num-flat (x ∷ l) zero (suc (suc (suc (suc j)))) h = absurd (omega arith)
 num-flat (x ∷ l) (suc i) j h =
-    let on : 4 * suc i + j ≡ suc (suc (suc (suc (4 * i + j)))) = omega arith in
+    let on : width * suc i + j ≡ suc (suc (suc (suc (width * i + j)))) = omega arith in
     ap (λ n. getD (flat (x ∷ l)) n (pos 0)) on ∙ num-flat l i j h
 
 pub row-flat : (l : List Row) (i : ℕ) → row (flat l) i ≡ getD l i blankRow
@@ -219,7 +220,7 @@ rows-flat l =
     ext-getD blankRow (rowsOf (flat l)) l (length-rows (flat l) ∙ count-flat l)
     (λ i h. rows-at (flat l) i (omega (arith, length-rows (flat l))) ∙ row-flat l i)
 
-cell-row : (t : List ℤ) (i : ℕ) → rowInRange t i ≡ true → (j : ℕ) → j < 4 → cell (row t i) j ≡ num t i j
+cell-row : (t : List ℤ) (i : ℕ) → rowInRange t i ≡ true → (j : ℕ) → j < width → cell (row t i) j ≡ num t i j
 unfolding cell row
 cell-row t i g zero h = pattern-kept t i g
 cell-row t i g (suc zero) h = score-kept t i g
@@ -235,32 +236,32 @@ flat-rows t g = ext-getD (pos 0) (flat (rowsOf t)) t lengths same
 
     same : (m : ℕ) → m < length (flat (rowsOf t)) → getD (flat (rowsOf t)) m (pos 0) ≡ getD t m (pos 0)
     same m h =
-        let e : m ≡ 4 * (m / 4) + m % 4 = omega arith in
-        let k : m / 4 < rowCount t = omega (arith, length-flat (rowsOf t), length-rows t) in
-        let j : m % 4 < 4 = omega arith in
+        let e : m ≡ width * (m / width) + m % width = omega arith in
+        let k : m / width < rowCount t = omega (arith, length-flat (rowsOf t), length-rows t) in
+        let j : m % width < width = omega arith in
         ap (λ n. getD (flat (rowsOf t)) n (pos 0)) e
-        ∙ num-flat (rowsOf t) (m / 4) (m % 4) j
-        ∙ ap (λ x. cell x (m % 4)) (rows-at t (m / 4) k)
-        ∙ cell-row t (m / 4) (legal-out t g .rows (m / 4) k .range) (m % 4) j
+        ∙ num-flat (rowsOf t) (m / width) (m % width) j
+        ∙ ap (λ x. cell x (m % width)) (rows-at t (m / width) k)
+        ∙ cell-row t (m / width) (legal-out t g .rows (m / width) k .range) (m % width) j
         ∙ ap (λ n. getD t n (pos 0)) (sym e)
 
 -- past the end too
 pub row-at : (t : List ℤ) → legal t ≡ true → (i : ℕ) → getD (rowsOf t) i blankRow ≡ row t i
 row-at t g i = sym (row-flat (rowsOf t) i) ∙ ap (λ u. row u i) (flat-rows t g)
 
-pub flat-take : (n : ℕ) (l : List Row) → take (4 * n) (flat l) ≡ flat (take n l)
+pub flat-take : (n : ℕ) (l : List Row) → firstRows n (flat l) ≡ flat (take n l)
 unfolding flat
 flat-take zero l = refl
-flat-take (suc n) [] = take-nil (4 * suc n)
+flat-take (suc n) [] = take-nil (width * suc n)
 flat-take (suc n) (x ∷ l) =
-    let on : 4 * suc n ≡ suc (suc (suc (suc (4 * n)))) = omega arith in
+    let on : width * suc n ≡ suc (suc (suc (suc (width * n)))) = omega arith in
     ap (λ m. take m (flat (x ∷ l))) on
     ∙ ap (λ r. pos (x .pattern) ∷ pos (x .score) ∷ x .shade .a ∷ x .shade .b ∷ r) (flat-take n l)
 
 -- the first n rows, cut from the table or from the rows
-pub rows-take : (n : ℕ) (t : List ℤ) → legal t ≡ true → rowsOf (take (4 * n) t) ≡ take n (rowsOf t)
+pub rows-take : (n : ℕ) (t : List ℤ) → legal t ≡ true → rowsOf (firstRows n t) ≡ take n (rowsOf t)
 rows-take n t g =
-    ap (λ u. rowsOf (take (4 * n) u)) (sym (flat-rows t g))
+    ap (λ u. rowsOf (firstRows n u)) (sym (flat-rows t g))
     ∙ ap rowsOf (flat-take n (rowsOf t))
     ∙ rows-flat (take n (rowsOf t))
 

@@ -4,7 +4,7 @@ use mathlib.Core.Path.{_≡_, sym, ap, ap₂, _∙_, refl}
 use mathlib.Core.Bool.{Bool, cond, _&&_, _||_, true, false}
 use mathlib.Core.List.{List, map, map-map}
 use mathlib.Core.Logic.{_↔_}
-use Prim.Native.Nat.{ℕ, _+_, _*_, max, _-_}
+use Prim.Native.Nat.{ℕ, _+_, max, _-_}
 use native.Mathlib.Omega.{arith}
 use lib.Dec.{leb, eqb}
 use lib.IntN.{ℤ}
@@ -20,6 +20,7 @@ use Rattle.rules.specs.declared.FieldRows.{FieldRows}
 use Rattle.rules.specs.declared.TrimRows.{TrimRows}
 use Rattle.rules.specs.declared.Query.{Query}
 use Rattle.rules.specs.Tables.{rowCount, legal, Row, row, withdrawn, Terms, terms, pairSum, Block, pairAt, qualifying}
+use Rattle.rules.specs.Tables.{firstRows}
 use Rattle.rules.specs.Session.{withdrawnWithin, firstScore, lastScore}
 use Rattle.rules.specs.Calls.{queryCode}
 use Rattle.rules.specs.Sure.{qualifyingSums, whole, Begins, Sure}
@@ -47,7 +48,7 @@ ceilingAt query f t p q =
 -- a table is empty, or both are read out, or rows of both are read and k sums of theirs are at least the ceiling
 unfoldable pub isSure : Query → List ℤ → List ℤ → FieldRows → TrimRows → Bool
 isSure query f t p q =
-    let sums = qualifyingSums query (take (4 * p .0) f) (take (4 * q .0) t) in
+    let sums = qualifyingSums query (firstRows (p .0) f) (firstRows (q .0) t) in
     emptyBy f (p .0)
     || (emptyBy t (q .0)
     || ((readOutBy f (p .0) && readOutBy t (q .0))
@@ -96,7 +97,7 @@ module _ {weight : Row → ℕ} (rises : Rises weight) (n : ℕ) (t : List ℤ) 
   begins-flat : (l : List Row) → Join.Begins (falling (rowsBy weight)) n (rowsOf t) l → Begins n t (flat l)
   begins-flat l b = record {
     lawful = flat-legal rises l (b .legal);
-    alike = flat-take n l ∙ ap flat (sym (b .rows)) ∙ sym (flat-take n (rowsOf t)) ∙ ap (take (4 * n)) (flat-rows t g);
+    alike = flat-take n l ∙ ap flat (sym (b .rows)) ∙ sym (flat-take n (rowsOf t)) ∙ ap (firstRows n) (flat-rows t g);
     ends = λ h. ap flat (b .ends (omega (arith, length-rows t))) ∙ flat-rows t g;
   }
 
@@ -107,9 +108,9 @@ module _ {weight : Row → ℕ} (rises : Rises weight) (n : ℕ) (t : List ℤ) 
         sym (rows-flat (take n (rowsOf t)))
         ∙ ap rowsOf
         (sym (flat-take n (rowsOf t))
-        ∙ ap (take (4 * n)) (flat-rows t g)
+        ∙ ap (firstRows n) (flat-rows t g)
         ∙ sym (b .alike)
-        ∙ ap (take (4 * n)) (sym (flat-rows u (b .lawful)))
+        ∙ ap (firstRows n) (sym (flat-rows u (b .lawful)))
         ∙ flat-take n (rowsOf u))
         ∙ rows-flat (take n (rowsOf u));
     ends = λ h. ap rowsOf (b .ends (omega (arith, length-rows t)));
@@ -207,11 +208,11 @@ module _ (query : Query) (accepted : queryCode query ≡ 0) (f t : List ℤ) (g 
         weight-at (w .trim) t h (n .0 - 1),
       )
 
-  reading-sums : qualifyingSums query (take (4 * m .0) f) (take (4 * n .0) t)
+  reading-sums : qualifyingSums query (firstRows (m .0) f) (firstRows (n .0) t)
       ≡ sumsOf (fieldSide query) (trimSide query) (near query) (take (m .0) (rowsOf f)) (take (n .0) (rowsOf t))
   unfolding qualifyingSums
   reading-sums =
-      sums-rows query (whole (take (4 * m .0) f)) (whole (take (4 * n .0) t))
+      sums-rows query (whole (firstRows (m .0) f)) (whole (firstRows (n .0) t))
       ∙ ap₂ (sumsOf (fieldSide query) (trimSide query) (near query)) (rows-take (m .0) f g) (rows-take (n .0) t h)
 
   test-is : sureTest (fieldSide query) (trimSide query) (near query) (query .k) (rowsOf f) (m .0) (rowsOf t) (n .0)

@@ -15,7 +15,7 @@ use Rattle.lists.specs.Members.{mem-take, mem-sort, sort-ranked, ranked-take, r
 use Rattle.rules.specs.declared.Pair.{Pair}
 use Rattle.rules.specs.declared.Query.{Query}
 use Rattle.rules.specs.declared.Session.{Session}
-use Rattle.rules.specs.Tables.{terms, ahead, Block, qualifying, rowCount, legal}
+use Rattle.rules.specs.Tables.{terms, ahead, Block, qualifying, rowCount, legal, firstRows}
 use Rattle.rules.specs.Session.{heldPairs, firstScore}
 use Rattle.rules.specs.Read.{rowsBetween, blockCount, blockAt, oldDepth, newDepth, fieldNext, bestHeld, meet}
 use Rattle.rules.specs.Read.{meetBlocksBy, meetBlocks, readTo, readTableBy, readTable, readBlock}
@@ -179,10 +179,10 @@ module _ (field : Bool) (f t : List ℤ) (s : Session) (a : Accepted f t s) (new
 
   -- the rows that the read looks at, as tables by themselves
   abbrev f′ : List ℤ
-  f′ = take (4 * m) f
+  f′ = firstRows m f
 
   abbrev t′ : List ℤ
-  t′ = take (4 * n) t
+  t′ = firstRows n t
 
   abbrev fits : RecordFits s
   fits = a .lent .fits

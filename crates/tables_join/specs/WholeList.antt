@@ -4,11 +4,10 @@ use mathlib.Core.Path.{_≡_, refl, sym, ap, subst, subst₂}
 use mathlib.Core.Bool.{true, Bool, false}
 use mathlib.Core.List.{List, _++_, List·Memᴰ, [], _∷_, map, append-nil, append-assoc}
 use mathlib.Core.Logic.{_⊎_, inl, _↔_}
-use Prim.Native.Nat.{_≤_, ℕ, zero, suc, _+_, _*_, _-_, _<_}
+use Prim.Native.Nat.{_≤_, ℕ, zero, suc, _+_, _-_, _<_}
 use native.Mathlib.Omega.{arith}
 use lib.IntN.{ℤ}
 use lib.ListN.{length, length-append}
-use lib.Seq.{take-all}
 use Rattle.lists.specs.Words.{Distinct}
 use Rattle.lists.specs.Lists.{best}
 use Rattle.join.specs.BestFirst.{BestFirst}
@@ -20,6 +19,7 @@ use Rattle.rules.specs.declared.Step.{Step}
 use Rattle.rules.specs.declared.Answer.the-variants.{Read, Settled, Given, Finished}
 use Rattle.rules.specs.Session.{settled, opened}
 use Rattle.rules.specs.Tables.{rowCount, legal, terms, qualifying}
+use Rattle.rules.specs.Widths.{part-all}
 use Rattle.rules.specs.Read.{rowsBetween, fieldNext, readBlock}
 use Rattle.rules.specs.Take.{firstHeld, givesPair, movedOut, finished}
 use Rattle.rules.specs.Calls.{queryCode, callCode, newBlockCode, step, readCall, takeCall}
@@ -195,7 +195,7 @@ module _ (q : Query) (f t : List ℤ) (g : legal f ≡ true) (h : legal t ≡ tr
 whole-part : (t : List ℤ) → legal t ≡ true → rowsBetween t 0 (rowCount t) ≡ whole t
 whole-part t g =
     ap (λ l. record { start = 0; rows = l })
-    (take-all (4 * (rowCount t - 0)) t (omega (arith, legal-out t g .size .whole)))
+    (part-all t (rowCount t - 0) (omega (arith, legal-out t g .size .whole)))
 
 -- every pair that qualifies, once
 pub all-qualify : (query : Query) (f t : List ℤ) → legal f ≡ true → legal t ≡ true → (p : Pair)

@@ -4,11 +4,10 @@ use mathlib.Core.Path.{_≡_, refl, ap, subst, _∙_}
 use mathlib.Core.Bool.{true, false, _&&_, _||_}
 use mathlib.Core.List.{List, []}
 use mathlib.Core.Logic.{_⊎_, inl, inr, ⊎-elim}
-use Prim.Native.Nat.{ℕ, zero, suc, _+_, _*_, _≤_, _<_, min}
+use Prim.Native.Nat.{ℕ, zero, suc, _+_, _≤_, _<_, min}
 use native.Mathlib.Omega.{arith}
 use lib.Dec.{leb, eqb}
 use lib.IntN.{ℤ}
-use lib.ListN.{take}
 use borrow.Author.Tests.{leb-true, le-leb, lt-leb, eqb-true, ne-eqb, lt-ltb}
 use Rattle.lists.specs.Lists.{atLeast}
 use Rattle.lists.specs.Bools.{clash, and-out, or-out, or-true}
@@ -16,7 +15,7 @@ use Rattle.rules.specs.declared.FieldRows.{FieldRows}
 use Rattle.rules.specs.declared.TrimRows.{TrimRows}
 use Rattle.rules.specs.declared.Query.{Query}
 use Rattle.rules.specs.declared.Session.{Session}
-use Rattle.rules.specs.Tables.{rowCount, legal, row, withdrawn}
+use Rattle.rules.specs.Tables.{rowCount, legal, row, withdrawn, firstRows}
 use Rattle.rules.specs.Session.{withdrawnWithin, readOut, isEmpty, opened, settledBy, settled}
 use Rattle.rules.specs.Read.{fieldNextBy, fieldNext, readTable}
 use Rattle.rules.specs.declared.Answer.the-variants.{Read}
@@ -65,7 +64,7 @@ module _ (q : Query) (accepted : queryCode q ≡ 0) (f t : List ℤ) (g : legal 
   -- k sums of a reading are at least its ceiling
   abbrev pub Enough : ℕ → ℕ → Type 0
   Enough m n =
-      q .k ≤ atLeast (ceilingAt q f t (fieldRows m) (trimRows n)) (qualifyingSums q (take (4 * m) f) (take (4 * n) t))
+      q .k ≤ atLeast (ceilingAt q f t (fieldRows m) (trimRows n)) (qualifyingSums q (firstRows m f) (firstRows n t))
 
   -- what makes a reading sure
   pub data Grounds (m n : ℕ) : Type 0 where
@@ -78,7 +77,7 @@ module _ (q : Query) (accepted : queryCode q ≡ 0) (f t : List ℤ) (g : legal 
   unfolding isSure
   sure-grounds m n s =
       let some =
-      atLeast (ceilingAt q f t (fieldRows m) (trimRows n)) (qualifyingSums q (take (4 * m) f) (take (4 * n) t)) in
+      atLeast (ceilingAt q f t (fieldRows m) (trimRows n)) (qualifyingSums q (firstRows m f) (firstRows n t)) in
       let last = leb 1 m && (leb 1 n && leb (q .k) some) in
       let outs = readOutBy f m && readOutBy t n in
       let e = sure-is-test q accepted f t g h (fieldRows m) (trimRows n) .0 s in

@@ -1,7 +1,7 @@
 // Take: the next pair out of a session over two lent tables. The record is a value that goes in and comes back;
 // whatever comes in is checked.
+use number_checks::numbers_fit;
 use rules::Answer;
-use rules::Pair;
 use rules::Session;
 use rules::Step;
 ghost use mathlib.Core.Path.{_≡_};
@@ -64,7 +64,7 @@ pub fn take(f: &[i32], t: &[i32], s: Session) -> Step
     let mut r = s;
     let n = r.held as usize;
     let depth = r.depth;
-    let mut fits = checks::numbers_fit(r.query, r.rows, r.depth, r.last, r.out, r.held, r.joined);
+    let mut fits = numbers_fit(r.query, r.rows, r.depth, r.last, r.out, r.held, r.joined);
     let mut before: u64 = 0;
     let mut i = checks::first_place(fits);
     while i < 64 {
@@ -86,11 +86,7 @@ pub fn take(f: &[i32], t: &[i32], s: Session) -> Step
             r.pairs[j] = q;
             j += 1;
         }
-        let z = Pair {
-            sum: 0,
-            field: 0,
-            trim: 0,
-        };
+        let z = rules::NO_PAIR;
         r.pairs[63] = z;
         r.out = r.out + 1;
         r.held = r.held - 1;

@@ -1,23 +1,26 @@
 -- `any_near` meets its contract: after i turns the first i rows are looked at. Assumes nothing.
 use mathlib.Core.Path.{_≡_, refl, ap, _∙_}
-use Prim.Native.Nat.{_-_, _≤_, _/_}
+use Prim.Native.Nat.{_-_, _≤_}
 use native.Mathlib.Numerals.{add-one}
 use native.Mathlib.Omega.{arith}
-use lib.ListN.{length}
 use borrow.Author.Needs.{needs}
+use Rattle.rules.specs.Tables.{rowCount}
 use Rattle.block.specs.Near.{placed, anyNear}
 use Rattle.block.proofs.any_near.Statement.{statement}
 use Rattle.block.proofs.any_near.Tie as tie
 
 abbrev Inv-loop : tie.InvT-loop
-Inv-loop q x y m seen₀ i₀ seen i = (i ≤ m) × (m ≡ length x / 4) × (seen ≡ anyNear (placed q) x y i)
+Inv-loop q x y m seen₀ i₀ seen i = (i ≤ m) × (m ≡ rowCount x) × (seen ≡ anyNear (placed q) x y i)
 
 abbrev μ-loop : tie.MeasureT-loop
 μ-loop q x y m seen₀ i₀ seen i = m - i
 
+row-count-requires : tie.Need-row-count-requires Inv-loop μ-loop
+row-count-requires c κs = search needs
+
 loop-holds : tie.Need-loop-holds Inv-loop μ-loop
 unfolding anyNear
-loop-holds c = (search needs, refl, refl)
+loop-holds c = (search needs, c .row-count .ensures, refl)
 
 row-near-requires : tie.Need-row-near-requires Inv-loop μ-loop
 row-near-requires c κs = omega arith
@@ -30,16 +33,16 @@ loop-less c = omega arith
 
 loop-again : tie.Need-loop-again Inv-loop μ-loop
 unfolding anyNear
-loop-again c = (search needs, refl, rw add-one (cc))
+loop-again c = (search needs, c .before .before .before .row-count .ensures, rw add-one (cc))
 
 returns : tie.Need-returns Inv-loop μ-loop
 returns c =
-    let s = c .before .before in
+    let s = c .before .before .before in
     let v = c .before .loop in
-    let e : v .i ≡ length (s .args .x .now) / 4 = omega arith in
+    let e : v .i ≡ rowCount (s .args .x .now) = omega arith in
     v .inv .2 ∙ ap (anyNear (placed (s .args .q)) (s .args .x .now) (s .args .y .now)) e
 
 pub any-near-spec : {M : Type 1} → statement M
 any-near-spec =
     tie.close
-    (tie.spec Inv-loop μ-loop loop-holds row-near-requires add-i loop-less loop-again returns)
+    (tie.spec Inv-loop μ-loop row-count-requires loop-holds row-near-requires add-i loop-less loop-again returns)

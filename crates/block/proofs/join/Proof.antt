@@ -2,7 +2,7 @@
 -- and withdrawn rows qualify with none. Assumes nothing.
 use mathlib.Core.Path.{_≡_, refl, sym, ap, subst, _∙_}
 use mathlib.Core.Logic.{⊎-elim}
-use Prim.Native.Nat.{ℕ, _+_, _*_, _-_, _%_, _≤_, _<_, _/_}
+use Prim.Native.Nat.{ℕ, _+_, _*_, _-_, _%_, _≤_, _<_}
 use native.Mathlib.Nat.{suc-mul}
 use native.Mathlib.Omega.{arith}
 use lib.Dec.{eqb, ltb}
@@ -10,7 +10,7 @@ use lib.ListN.{length, getD}
 use borrow.Author.Needs.{needs}
 use borrow.Author.Tests.{not-false, eqb-true}
 use Rattle.lists.specs.Bools.{and-out}
-use Rattle.rules.specs.Tables.{terms}
+use Rattle.rules.specs.Tables.{terms, rowCount}
 use Rattle.block.specs.Block.{at}
 use Rattle.block.specs.Live.{none-beyond-first, none-beyond-second}
 use Rattle.block.specs.Small.{rows-small}
@@ -19,13 +19,13 @@ use Rattle.block.proofs.join.Statement.{statement}
 use Rattle.block.proofs.join.Tie as tie
 
 abbrev Inv-loop : tie.InvT-loop
-Inv-loop q room x a y c keys₀ held m n last small g₀ i₀ j₀ keys g i j =
+Inv-loop q room x a y c keys₀ held m n last g₀ i₀ j₀ keys g i j =
     (i ≤ m) × (j ≤ n) × (m ≤ i → j ≡ 0) × (g ≤ room) × (length keys ≡ 64) × Turns.Met (terms q) room (at a x)
     (at c y) held keys₀ i j g keys
 
 -- the pairs of rows that are left, one more for the end of each row
 abbrev μ-loop : tie.MeasureT-loop
-μ-loop q room x a y c keys₀ held m n last small g₀ i₀ j₀ keys g i j = (m - i) * (n + 1) + (n - j)
+μ-loop q room x a y c keys₀ held m n last g₀ i₀ j₀ keys g i j = (m - i) * (n + 1) + (n - j)
 
 row-less : (m n i j : ℕ) → i < m → (m - (i + 1)) * (n + 1) + (n - 0) < (m - i) * (n + 1) + (n - j)
 row-less m n i j h =
@@ -45,7 +45,7 @@ add-last c = omega arith
 
 loop-holds : tie.Need-loop-holds Inv-loop μ-loop
 loop-holds c =
-    let s = c .before .before .before in (
+    let s = c .before .before in (
       omega arith,
       omega arith,
       λ _. refl,
@@ -57,7 +57,7 @@ loop-holds c =
 
 next-near-requires : tie.Need-next-near-requires Inv-loop μ-loop
 next-near-requires c κs =
-    let live = c .before .before .before in
+    let live = c .before .before in
     let s = live .before .before in
     let a = s .args in
     let turn = c .loop-test .taken in
@@ -73,13 +73,13 @@ next-near-requires c κs =
 
 pair-at-requires : tie.Need-pair-at-requires Inv-loop μ-loop
 pair-at-requires c κs =
-    let live = c .before .before .before .before .before in
+    let live = c .before .before .before .before in
     let s = live .before .before in
     let x = s .pre .1 .1 in
     let y = s .pre .1 .2 in
-    let turn : c .before .before .before .loop .i < length (s .args .x .now) / 4 =
+    let turn : c .before .before .before .loop .i < rowCount (s .args .x .now) =
     omega (arith, c .before .before .loop-test .taken, live .before .live-rows .ensures .upto) in
-    let h : c .before .next-near .result < length (s .args .y .now) / 4 =
+    let h : c .before .next-near .result < rowCount (s .args .y .now) =
     omega (arith, c .if1 .taken, live .live-rows2 .ensures .upto) in (
       (s .pre .1 .0, x .range _ turn, y .range _ h),
       omega (arith, h, turn, x .whole, x .few, y .whole, y .few),
@@ -97,7 +97,7 @@ element-copy-out-if2 c = omega arith
 put-requires : tie.Need-put-requires Inv-loop μ-loop
 put-requires c κs =
     let v = c .before .before .before .before .before .before .before .before in
-    let s = v .before .before .before .before in
+    let s = v .before .before .before in
     (c .before .before .before .before .pair-at .ensures .1, v .loop .inv .3, s .pre .0 .1)
 
 add-j : tie.Need-add-j Inv-loop μ-loop
@@ -111,7 +111,7 @@ loop-less c =
 loop-again : tie.Need-loop-again Inv-loop μ-loop
 loop-again c =
     let found = c .before .before .before .before .before in
-    let live = c .before .before .before .before .before .before .before .before .before in
+    let live = c .before .before .before .before .before .before .before .before in
     let s = live .before .before in
     let v = c .before .before .before .before .before .before .before .loop in
     let near = found .next-near in
@@ -152,14 +152,14 @@ add-i c = omega arith
 
 loop-less-2 : tie.Need-loop-less-2 Inv-loop μ-loop
 loop-less-2 c =
-    let live = c .before .before .before .before .before in
+    let live = c .before .before .before .before in
     let v = c .before .before .before .loop in
     row-less (live .before .live-rows .result) (live .live-rows2 .result) (v .i) (v .j)
     (c .before .before .loop-test .taken)
 
 loop-again-2 : tie.Need-loop-again-2 Inv-loop μ-loop
 loop-again-2 c =
-    let live = c .before .before .before .before .before in
+    let live = c .before .before .before .before in
     let s = live .before .before in
     let v = c .before .before .before .loop in
     let near = c .before .next-near in
@@ -184,7 +184,7 @@ loop-again-2 c =
 
 returns : tie.Need-returns Inv-loop μ-loop
 returns c =
-    let live = c .before .before .before in
+    let live = c .before .before in
     let s = live .before .before in
     let v = c .before .loop in
     let x = at (s .args .a) (s .args .x .now) in

@@ -1,24 +1,29 @@
 -- `live_rows` meets its contract: the rows passed from the end upward are withdrawn. Assumes nothing.
 use mathlib.Core.Path.{_≡_, sym, _∙_}
 use mathlib.Core.Bool.{true}
-use Prim.Native.Nat.{ℕ, _-_, _≤_, _<_, _/_}
+use Prim.Native.Nat.{ℕ, _-_, _≤_, _<_}
 use native.Mathlib.Omega.{arith}
-use lib.ListN.{length}
+use borrow.Author.Needs.{needs}
 use borrow.Author.Tests.{not-true, not-false}
-use Rattle.rules.specs.Tables.{row, withdrawn}
+use Rattle.rules.specs.Tables.{row, withdrawn, rowCount}
 use Rattle.block.specs.Live.{above-live}
 use Rattle.block.proofs.live_rows.Statement.{statement}
 use Rattle.block.proofs.live_rows.Tie as tie
 
 abbrev Inv-loop : tie.InvT-loop
 Inv-loop x n₀ n =
-    (n ≤ length x / 4) × ((i : ℕ) → n ≤ i → i < length x / 4 → withdrawn (row x i) ≡ true)
+    (n ≤ rowCount x) × ((i : ℕ) → n ≤ i → i < rowCount x → withdrawn (row x i) ≡ true)
 
 abbrev μ-loop : tie.MeasureT-loop
 μ-loop x n₀ n = n
 
+row-count-requires : tie.Need-row-count-requires Inv-loop μ-loop
+row-count-requires c κs = search needs
+
 loop-holds : tie.Need-loop-holds Inv-loop μ-loop
-loop-holds c = (omega arith, λ i h k. absurd (omega (arith, h, k)))
+loop-holds c =
+    let n = c .row-count .ensures in
+    (omega (arith, n), λ i h k. absurd (omega (arith, h, k, n)))
 
 sub-is-withdrawn : tie.Need-sub-is-withdrawn Inv-loop μ-loop
 sub-is-withdrawn c = omega arith
@@ -28,7 +33,7 @@ is-withdrawn-requires c κs = omega arith
 
 returns : tie.Need-returns Inv-loop μ-loop
 returns c =
-    let s = c .before .before .before .before in
+    let s = c .before .before .before .before .before in
     let v = c .before .before .before .loop in
     let some = c .before .before .loop-test .taken in
     let last = sym (c .before .is-withdrawn .ensures) ∙ not-true _ (c .if1 .taken) in
@@ -46,7 +51,7 @@ loop-less c = omega arith
 
 loop-again : tie.Need-loop-again Inv-loop μ-loop
 loop-again c =
-    let s = c .before .before .before .before in
+    let s = c .before .before .before .before .before in
     let v = c .before .before .before .loop in
     let last = sym (c .before .is-withdrawn .ensures) ∙ not-false _ (c .if1 .left) in
     (omega arith, λ i h k. s .pre (v .n - 1) i h k last)
@@ -63,6 +68,7 @@ live-rows-spec =
     (tie.spec
     Inv-loop
     μ-loop
+    row-count-requires
     loop-holds
     sub-is-withdrawn
     is-withdrawn-requires

@@ -13,9 +13,6 @@ shade-requires c κs = search needs
 shade-requires-2 : tie.Need-shade-requires-2
 shade-requires-2 c κs = search needs
 
-qualifies-requires : tie.Need-qualifies-requires
-qualifies-requires c κs = search needs
-
 -- the distance of the two shades is all that the rule asks
 asks : (c : tie.After-shade2)
     → let a = c .before .before .args in
@@ -28,22 +25,19 @@ asks c =
     ap₂ (qualifies (a .q .radius)) (c .before .shade .ensures) (c .shade2 .ensures)
     ∙ sym (rows-qualify-in (a .q .radius) (row (a .x .now) (a .i)) (row (a .y .now) (a .j)) (live .0) (live .1))
 
-returns : tie.Need-returns
-returns c = c .qualifies .ensures ∙ asks (c .before .before)
-
 near-small-requires : tie.Need-near-small-requires
 near-small-requires c κs =
-    let s = c .before .before .before in
+    let s = c .before .before in
     let k = s .pre .1 .1 in (
-      rw (c .before .before .shade .ensures) (k .first (s .args .i) (omega arith)),
-      rw (c .before .shade2 .ensures) (k .second (s .args .j) (omega arith)),
+      rw (c .before .shade .ensures) (k .first (s .args .i) (omega arith)),
+      rw (c .shade2 .ensures) (k .second (s .args .j) (omega arith)),
       k .within,
     )
 
-returns-2 : tie.Need-returns-2
-returns-2 c = c .near-small .ensures ∙ asks (c .before .before)
+returns : tie.Need-returns
+returns c = c .near-small .ensures ∙ asks (c .before)
 
 pub near-by-spec : {M : Type 1} → statement M
 near-by-spec =
     tie.close
-    (tie.spec shade-requires shade-requires-2 qualifies-requires returns near-small-requires returns-2)
+    (tie.spec shade-requires shade-requires-2 near-small-requires returns)

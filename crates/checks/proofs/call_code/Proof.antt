@@ -2,12 +2,12 @@
 use mathlib.Core.Path.{_≡_, refl, sym, _∙_}
 use mathlib.Core.Bool.{true}
 use mathlib.Core.List.{List}
-use Prim.Native.Nat.{ℕ, _+_, _*_, _≤_}
+use Prim.Native.Nat.{ℕ, _+_, _≤_}
 use native.Mathlib.Omega.{arith}
 use lib.IntN.{ℤ}
-use lib.ListN.{length}
 use borrow.Author.Tests.{ne-eqb}
-use Rattle.rules.specs.Tables.{mostRows}
+use Rattle.rules.specs.Tables.{mostRows, HasRows}
+use Rattle.rules.specs.Widths.{has-rows}
 use Rattle.session_laws.specs.Calls.{SameSize}
 use Rattle.checks.specs.Codes.{callOf, lent-of-out}
 use borrow.Author.Needs.{needs}
@@ -21,8 +21,8 @@ known c =
     lent-of-out (s .fits) (s .rows) (s .f .now) (s .t .now) (sym (c .before .lent-code .ensures) ∙ c .if1 .left)
 
 rows-within : (t : List ℤ) (rows depth : ℕ) → SameSize rows t → (depth ≤ rows) × (rows ≤ mostRows)
-    → (0 + depth ≤ mostRows) × (4 * (0 + depth) ≤ length t)
-rows-within t rows depth h k = omega (arith, h .size .whole, h .count, k)
+    → (0 + depth ≤ mostRows) × HasRows t (0 + depth)
+rows-within t rows depth h k = (omega (arith, k), has-rows t (0 + depth) (omega (arith, h .count, k)))
 
 lent-code-requires : tie.Need-lent-code-requires
 lent-code-requires c κs = search needs

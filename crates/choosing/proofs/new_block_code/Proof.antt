@@ -2,9 +2,9 @@
 use mathlib.Core.Path.{_≡_, refl, sym, ap, _∙_}
 use native.Mathlib.Omega.{arith}
 use lib.ListN.{length, length-map}
-use Prim.Native.Nat.{_*_, _≤_}
+use Prim.Native.Nat.{_≤_}
 use mathlib.Core.Bool.{Bool, cond}
-use Rattle.rules.specs.Tables.{mostRows}
+use Rattle.rules.specs.Tables.{mostRows, HasRows}
 use Rattle.rules.specs.Read.{oldDepth, newDepth}
 use Rattle.choosing.specs.Due.{Due, due, new-inside, code-is}
 use borrow.Author.Needs.{needs}
@@ -49,10 +49,10 @@ new c = simp (c .next-depth .ensures, c .before .pick2 .ensures, c .before .befo
 -- the new block lies within its table
 inside : (c : tie.After-next-depth)
     → (c .before .pick2 .result ≤ c .next-depth .result) × (c .next-depth .result ≤ mostRows)
-    ×
-    (4 * c .next-depth .result ≤ length
+    × HasRows
     (cond (c .before .before .before .field-next .result) (c .before .before .before .before .args .f .now)
-    (c .before .before .before .before .args .t .now)))
+    (c .before .before .before .before .args .t .now))
+    (c .next-depth .result)
 inside c =
     let a = c .before .before .before .before .args in
     let k =

@@ -9,6 +9,7 @@ use lib.Seq.{sets-eq}
 use mir.Syntax.{w32}
 use mir.Facts.{toZ-ofZ}
 use Rattle.rules.specs.File.{rowNumbers}
+use Rattle.rules.specs.Tables.{width}
 use Rattle.file_laws.specs.Parts.{row-parts}
 use Rattle.file.specs.Put.{rowPut}
 use borrow.Author.Needs.{needs, sfits-of}
@@ -120,7 +121,7 @@ returns c =
       plus-2,
       plus-3,
     )
-    (sets-eq four out (4 * i) (s .pre .0 .2) ∙ ap (λ (l : List ℤ). rowPut (4 * i) l out) numbers)
+    (sets-eq four out (width * i) (s .pre .0 .2) ∙ ap (λ (l : List ℤ). rowPut i l out) numbers)
 
 pub put-row-spec : {M : Type 1} → statement M
 put-row-spec =

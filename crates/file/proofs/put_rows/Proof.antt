@@ -1,13 +1,15 @@
 -- `put_rows` meets its contract: the rows passed stand at the front, the rest is as it was. Assumes nothing.
 use mathlib.Core.Path.{_≡_, refl, ap, _∙_}
 use mathlib.Core.List.{List, _++_}
-use Prim.Native.Nat.{ℕ, _+_, _*_, _-_, _≤_, _<_}
+use Prim.Native.Nat.{ℕ, _+_, _-_, _≤_, _<_}
 use native.Mathlib.Omega.{arith}
 use lib.IntN.{ℤ}
-use lib.ListN.{length, drop}
+use lib.ListN.{length}
 use borrow.Author.Needs.{needs}
 use Rattle.lists.specs.Lists.{range, each}
 use Rattle.rules.specs.File.{rowNumbers, fileTable}
+use Rattle.rules.specs.Tables.{afterRows}
+use Rattle.rules.specs.Widths.{rows-row}
 use Rattle.file.specs.Put.{rowPut}
 use Rattle.file.proofs.Table.{one-row}
 use Rattle.file.proofs.put_rows.Statement.{statement}
@@ -15,7 +17,7 @@ use Rattle.file.proofs.put_rows.Tie as tie
 
 abbrev Inv-loop : tie.InvT-loop
 Inv-loop bytes count out₀ i₀ out i =
-    (i ≤ count) × (length out ≡ length out₀) × (out ≡ fileTable bytes i ++ drop (4 * i) out₀)
+    (i ≤ count) × (length out ≡ length out₀) × (out ≡ fileTable bytes i ++ afterRows i out₀)
 
 abbrev μ-loop : tie.MeasureT-loop
 μ-loop bytes count out₀ i₀ out i = count - i
@@ -30,7 +32,8 @@ put-row-requires c κs =
     let s = c .before .before .before .before in
     let long : length (l .out) ≡ length (s .args .out .now) = l .inv .1 in
     let h : l .i < s .args .count = c .before .loop-test .taken in
-    ((omega arith, omega (arith, s .pre .0), omega (arith, s .pre .0, long)), s .pre .1 (l .i) h)
+    let row = rows-row (s .args .out .now) (l .i) (s .args .count) h (s .pre .0 .2) in
+    ((omega arith, omega (arith, s .pre .0), omega (arith, row, long)), s .pre .1 (l .i) h)
 
 add-i : tie.Need-add-i Inv-loop μ-loop
 add-i c = search needs
@@ -47,7 +50,7 @@ loop-again c =
       omega (arith, h),
       c .before .put-row .kept .1 .1 .0 ∙ l .inv .1,
       c .before .put-row .ensures
-          ∙ ap (rowPut (4 * l .i) (rowNumbers bytes (l .i))) (l .inv .2)
+          ∙ ap (rowPut (l .i) (rowNumbers bytes (l .i))) (l .inv .2)
           ∙ one-row bytes (l .i) (s .out .now),
     )
 
@@ -59,7 +62,7 @@ returns c =
     let l = c .before .loop in
     let s = c .before .before .before .args in
     let e : l .i ≡ s .count = omega arith in
-    l .inv .2 ∙ ap (λ (k : ℕ). fileTable (s .bytes .now) k ++ drop (4 * k) (s .out .now)) e
+    l .inv .2 ∙ ap (λ (k : ℕ). fileTable (s .bytes .now) k ++ afterRows k (s .out .now)) e
 
 pub put-rows-spec : {M : Type 1} → statement M
 put-rows-spec =

@@ -5,7 +5,7 @@ use Prim.Native.Nat.{_+_, _%_}
 use lib.ListN.{getD}
 use Rattle.keys.specs.Held.{pairOf}
 use Rattle.meeting.specs.Side.{spanBlock}
-use Rattle.meeting.specs.Effect.{Effect}
+use Rattle.skipping.specs.Effect.{Effect}
 use Rattle.meeting.specs.Stands.{meets-joined, meets-counted}
 use borrow.Author.Needs.{needs}
 use Rattle.meeting.proofs.meet_parts.Statement.{statement}

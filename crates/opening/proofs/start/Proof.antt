@@ -25,18 +25,31 @@ unfolding openCall
 returns c =
     simp (← c .before .before .open-code .ensures, ne-eqb _ _ (c .before .if1 .taken), c .all-zeros .ensures) refl
 
-cast-t13 : tie.Need-cast-t13
-cast-t13 c = record { fits = omega (arith, opening c .field .few, opening c .trim .few) }
+row-count-requires : tie.Need-row-count-requires
+row-count-requires c κs = search needs
 
-cast-t13-2 : tie.Need-cast-t13-2
-cast-t13-2 c = record { fits = omega (arith, opening c .field .few, opening c .trim .few) }
+cast-t12 : tie.Need-cast-t12
+cast-t12 c =
+    let o = opening (c .before) in
+    record { fits = omega (arith, c .row-count .ensures, o .field .few, o .trim .few) }
+
+row-count-requires-2 : tie.Need-row-count-requires-2
+row-count-requires-2 c κs = search needs
+
+cast-t12-2 : tie.Need-cast-t12-2
+cast-t12-2 c =
+    let o = opening (c .before .before) in
+    record { fits = omega (arith, c .row-count2 .ensures, o .field .few, o .trim .few) }
 
 fresh-requires : tie.Need-fresh-requires
 fresh-requires c κs = search needs
 
 returns-2 : tie.Need-returns-2
 unfolding openCall
-returns-2 c = simp (eq-eqb _ _ (passed (c .before)), c .fresh .ensures) refl
+returns-2 c =
+    let m = c .before .before in
+    let n = c .before in
+    simp (eq-eqb _ _ (passed (m .before)), c .fresh .ensures, m .row-count .ensures, n .row-count2 .ensures) refl
 
 pub start-spec : {M : Type 1} → statement M
 start-spec =
@@ -45,7 +58,9 @@ start-spec =
     open-code-requires
     all-zeros-requires
     returns
-    cast-t13
-    cast-t13-2
+    row-count-requires
+    cast-t12
+    row-count-requires-2
+    cast-t12-2
     fresh-requires
     returns-2)

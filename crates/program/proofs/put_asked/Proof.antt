@@ -2,8 +2,9 @@
 use mathlib.Core.Path.{_≡_, sym, ap, _∙_}
 use Rattle.rules.specs.declared.Query.{Query}
 use Rattle.rules.specs.Query.{inputCode, inputQuery}
-use Rattle.program.specs.declared.Input.{Input}
-use Rattle.program.specs.Program.{inputHeld, held-query, answerBytes, inputBytes}
+use Rattle.program_input.specs.declared.Input.{Input}
+use Rattle.program_input.specs.Given.{inputHeld, held-query}
+use Rattle.program.specs.Program.{answerBytes, inputBytes}
 use Rattle.program.proofs.Steps.{written-as, refused-as, passed-as}
 use borrow.Author.Needs.{needs}
 use Rattle.program.proofs.put_asked.Statement.{statement}

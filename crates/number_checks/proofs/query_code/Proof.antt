@@ -1,0 +1,67 @@
+-- `query_code` meets its contract: 1, 2, 3, then 12 of either weight. Assumes nothing.
+use Rattle.rules.specs.Calls.{queryCode}
+use borrow.Author.Needs.{needs}
+use Rattle.number_checks.proofs.query_code.Statement.{statement}
+use Rattle.number_checks.proofs.query_code.Tie as tie
+
+unless-requires : tie.Need-unless-requires
+unless-requires c κs = search needs
+
+unless-requires-2 : tie.Need-unless-requires-2
+unless-requires-2 c κs = search needs
+
+unless-requires-3 : tie.Need-unless-requires-3
+unless-requires-3 c κs = search needs
+
+weight-code-requires : tie.Need-weight-code-requires
+weight-code-requires c κs = search needs
+
+weight-code-requires-2 : tie.Need-weight-code-requires-2
+weight-code-requires-2 c κs = search needs
+
+first-requires : tie.Need-first-requires
+first-requires c κs = search needs
+
+first-requires-2 : tie.Need-first-requires-2
+first-requires-2 c κs = search needs
+
+first-requires-3 : tie.Need-first-requires-3
+first-requires-3 c κs = search needs
+
+first-requires-4 : tie.Need-first-requires-4
+first-requires-4 c κs = search needs
+
+returns : tie.Need-returns
+unfolding queryCode
+returns c =
+    let weights = c .before .before .before in
+    let trim = weights .before in
+    let field = trim .before in
+    let radius = field .before in
+    let block = radius .before .before in
+    simp (
+      c .before .before .first2 .ensures,
+      c .before .first3 .ensures,
+      weights .first .ensures,
+      trim .weight-code2 .ensures,
+      field .weight-code .ensures,
+      radius .unless3 .ensures,
+      block .unless2 .ensures,
+      block .before .before .before .unless .ensures,
+    )
+    at (c .first4 .ensures)
+
+pub query-code-spec : {M : Type 1} → statement M
+query-code-spec =
+    tie.close
+    (tie.spec
+    unless-requires
+    unless-requires-2
+    unless-requires-3
+    weight-code-requires
+    weight-code-requires-2
+    first-requires
+    first-requires-2
+    first-requires-3
+    first-requires-4
+    returns)

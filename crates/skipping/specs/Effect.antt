@@ -1,0 +1,55 @@
+-- What a block pair comes to before it is looked at pair by pair: skipped, or joined with no qualifying pair. Assumes
+-- nothing.
+use mathlib.Core.Path.{_≡_}
+use mathlib.Core.Bool.{Bool, true, false, _&&_}
+use mathlib.Core.List.{List}
+use Prim.Native.Nat.{ℕ, _+_, _≤_}
+use native.Mathlib.Omega.{arith}
+use lib.Dec.{ltb}
+use lib.IntN.{ℤ}
+use Rattle.rules.specs.declared.Query.{Query}
+use Rattle.rules.specs.Tables.{terms, rowCount}
+use Rattle.rules.specs.Session.{firstScore}
+use Rattle.block.specs.Near.{placed, anyNear}
+
+-- what the first rows of two blocks add to a sum
+abbrev pub firstScores : Query → List ℤ → List ℤ → ℕ
+firstScores q x y = firstScore (terms q .field) x + firstScore (terms q .trim) y
+
+abbrev pub skips : Bool → ℕ → Query → List ℤ → List ℤ → Bool
+skips full low q x y = full && ltb (firstScores q x y) low
+
+pub record Effect (full : Bool) (low : ℕ) (q : Query) (x y : List ℤ) (r : ℕ) : Type 0 where
+  pub skip : r ≡ 0 → skips full low q x y ≡ true
+  pub quiet : r ≡ 1 → (skips full low q x y ≡ false) × (anyNear (placed q) x y (rowCount x) ≡ false)
+  pub joined : r ≡ 2 → skips full low q x y ≡ false
+  pub most : r ≤ 2
+
+module _ (full : Bool) (low : ℕ) (q : Query) (x y : List ℤ) where
+  pub effect-skip : skips full low q x y ≡ true → Effect full low q x y 0
+  effect-skip h =
+      record {
+        skip = λ e. h;
+        quiet = λ e. absurd (omega (arith, e));
+        joined = λ e. absurd (omega (arith, e));
+        most = omega arith;
+      }
+
+  pub effect-quiet : skips full low q x y ≡ false → anyNear (placed q) x y (rowCount x) ≡ false
+      → Effect full low q x y 1
+  effect-quiet h k =
+      record {
+        skip = λ e. absurd (omega (arith, e));
+        quiet = λ e. (h, k);
+        joined = λ e. absurd (omega (arith, e));
+        most = omega arith;
+      }
+
+  pub effect-open : skips full low q x y ≡ false → Effect full low q x y 2
+  effect-open h =
+      record {
+        skip = λ e. absurd (omega (arith, e));
+        quiet = λ e. absurd (omega (arith, e));
+        joined = λ e. h;
+        most = omega arith;
+      }
