@@ -37,49 +37,42 @@ pub fn first_rows(field: Table, trim: Table, rows: Counts) -> Lent {
     }
 }
 
-fn field_of(l: Lent) -> Table {
-    l.field
-}
-
-fn trim_of(l: Lent) -> Table {
-    l.trim
+// The first numbers of a table.
+fn part(t: &Table, n: u32) -> &[i32] {
+    let all = &t[..];
+    &all[0..(n % 53) as usize]
 }
 
 pub fn open(l: Lent, query: Query) -> Step {
-    let f = field_of(l);
-    let t = trim_of(l);
-    let m = (l.fields % 53) as usize;
-    let n = (l.trims % 53) as usize;
-    opening::start(query, &f[0..m], &t[0..n])
+    let f = l.field;
+    let t = l.trim;
+    opening::start(query, part(&f, l.fields), part(&t, l.trims))
 }
 
 // A read or a take.
 pub fn call(l: Lent, s: Session, is_read: bool) -> Step {
-    let f = field_of(l);
-    let t = trim_of(l);
-    let m = (l.fields % 53) as usize;
-    let n = (l.trims % 53) as usize;
+    let f = l.field;
+    let t = l.trim;
+    let fields = part(&f, l.fields);
+    let trims = part(&t, l.trims);
     if is_read {
-        return reading::read(&f[0..m], &t[0..n], s);
+        return reading::read(fields, trims, s);
     }
-    taking::take(&f[0..m], &t[0..n], s)
+    taking::take(fields, trims, s)
 }
 
 // How many numbers are shown.
 pub fn shown(l: Lent, s: Session) -> u32 {
-    let f = field_of(l);
-    let t = trim_of(l);
-    let m = (l.fields % 53) as usize;
-    let n = (l.trims % 53) as usize;
-    let part = showing::show(&f[0..m], &t[0..n], s);
-    (part.len() % 53) as u32
+    let f = l.field;
+    let t = l.trim;
+    let rows = showing::show(part(&f, l.fields), part(&t, l.trims), s);
+    (rows.len() % 53) as u32
 }
 
 // The number, if the call was answered by it and gave back this record; else 0.
 pub fn kept(step: Step, s: Session, code: u32) -> u32 {
-    let r = step.session;
     let a = step.answer;
-    let same = (due::number(a) == code) & (judge::differs(s, r) == 0);
+    let same = (due::number(a) == code) & (judge::differs(s, step.session) == 0);
     judge::when(same, code, 0)
 }
 
@@ -93,12 +86,14 @@ pub const HARMS: u32 = 24;
 // none is; a harm that needs a longer block, a second row or a held pair is another where there is none.
 pub fn harmed(s: Session, kind: u32) -> Session {
     let mut r = s;
+    if kind < 5 {
+        r.pairs[0] = harmed_pair(s.depth, kind);
+        return r;
+    }
+    if 13 <= kind {
+        return harmed_rows(s, kind);
+    }
     match kind {
-        0 => r.pairs[0] = pair(179983, 1, 1),
-        1 => r.pairs[0] = pair(5, 0, 1),
-        2 => r.pairs[0] = pair(5, 1, 0),
-        3 => r.pairs[0] = pair(5, wrapping_add_u32(s.depth.field.0, 1), 1),
-        4 => r.pairs[0] = pair(5, 1, wrapping_add_u32(s.depth.trim.0, 1)),
         5 => r.query.k = 0,
         6 => r.query.k = 65,
         7 => r.query.block = 0,
@@ -106,7 +101,26 @@ pub fn harmed(s: Session, kind: u32) -> Session {
         9 => r.query.radius = 40001,
         10 => r.out = 65,
         11 => r.held = 65,
-        12 => r.last = 3,
+        _ => r.last = 3,
+    }
+    r
+}
+
+// A pair that no record of this depth holds.
+fn harmed_pair(d: Counts, kind: u32) -> Pair {
+    match kind {
+        0 => pair(179983, 1, 1),
+        1 => pair(5, 0, 1),
+        2 => pair(5, 1, 0),
+        3 => pair(5, wrapping_add_u32(d.field.0, 1), 1),
+        _ => pair(5, 1, wrapping_add_u32(d.trim.0, 1)),
+    }
+}
+
+// A record with its rows, its depth, a weight or a later pair harmed.
+fn harmed_rows(s: Session, kind: u32) -> Session {
+    let mut r = s;
+    match kind {
         13 => r.rows.field.0 = 65536,
         14 => r.rows.trim.0 = 65536,
         15 => r.depth.field.0 = wrapping_add_u32(s.rows.field.0, 1),
@@ -310,21 +324,31 @@ fn harmed_opening(l: Lent, q: Query, kind: u32) -> u32 {
 pub fn some(c: Case, m: &Sums, l: Lent, s: Session, seed: u64, place: u64) -> u32 {
     let is_read = dice::one_in(seed, wrapping_add_u64(place, 40000), 2);
     let any = dice::below(seed, wrapping_add_u64(place, 10000), 720);
-    let kind = any % 16;
-    let row = wrapping_add_u32(dice::below(seed, wrapping_add_u64(place, 20000), 12), 1);
-    match dice::below(seed, wrapping_add_u64(place, 30000), 8) {
-        0 | 1 => harmed_record(l, s, any % HARMS, is_read),
+    let list = dice::below(seed, wrapping_add_u64(place, 30000), 8);
+    if list < 2 {
+        return harmed_record(l, s, any % HARMS, is_read);
+    }
+    if list < 6 {
+        let row = wrapping_add_u32(dice::below(seed, wrapping_add_u64(place, 20000), 12), 1);
+        return harmed_table(l, s, list, any % 16, row, is_read);
+    }
+    if list == 6 {
+        return harmed_block(c, m, l, s, any % 16);
+    }
+    harmed_opening(l, s.query, any % 16 % 9)
+}
+
+// A call with a table of another size, or with a row that was read harmed.
+fn harmed_table(l: Lent, s: Session, list: u32, kind: u32, row: u32, is_read: bool) -> u32 {
+    match list {
         2 => kept(call(resized(l, kind), s, is_read), s, 4),
         3 => harmed_range(l, s, kind, row, is_read),
-        4 | 5 => harmed_order(l, s, kind, row, is_read),
-        6 => harmed_block(c, m, l, s, kind),
-        _ => harmed_opening(l, s.query, kind % 9),
+        _ => harmed_order(l, s, kind, row, is_read),
     }
 }
 
 // An opening with a table of 65,536 rows, which must be refused by 4.
-pub fn too_long(q: Query) -> u32 {
-    let long = [0i32; 262144];
+pub fn too_long(q: Query, long: &[i32; 262144]) -> u32 {
     let t = [1i32; 4];
-    kept(opening::start(q, &long, &t), zeros(), 4)
+    kept(opening::start(q, long, &t), zeros(), 4)
 }
