@@ -71,8 +71,9 @@ pub fn shown(l: Lent, s: Session) -> u32 {
 
 // The number, if the call was answered by it and gave back this record; else 0.
 pub fn kept(step: Step, s: Session, code: u32) -> u32 {
+    let r = step.session;
     let a = step.answer;
-    let same = (due::number(a) == code) & (judge::differs(s, step.session) == 0);
+    let same = (due::number(a) == code) & (judge::differs(s, r) == 0);
     judge::when(same, code, 0)
 }
 
@@ -86,14 +87,12 @@ pub const HARMS: u32 = 24;
 // none is; a harm that needs a longer block, a second row or a held pair is another where there is none.
 pub fn harmed(s: Session, kind: u32) -> Session {
     let mut r = s;
-    if kind < 5 {
-        r.pairs[0] = harmed_pair(s.depth, kind);
-        return r;
-    }
-    if 13 <= kind {
-        return harmed_rows(s, kind);
-    }
     match kind {
+        0 => r.pairs[0] = pair(179983, 1, 1),
+        1 => r.pairs[0] = pair(5, 0, 1),
+        2 => r.pairs[0] = pair(5, 1, 0),
+        3 => r.pairs[0] = pair(5, wrapping_add_u32(s.depth.field.0, 1), 1),
+        4 => r.pairs[0] = pair(5, 1, wrapping_add_u32(s.depth.trim.0, 1)),
         5 => r.query.k = 0,
         6 => r.query.k = 65,
         7 => r.query.block = 0,
@@ -101,26 +100,7 @@ pub fn harmed(s: Session, kind: u32) -> Session {
         9 => r.query.radius = 40001,
         10 => r.out = 65,
         11 => r.held = 65,
-        _ => r.last = 3,
-    }
-    r
-}
-
-// A pair that no record of this depth holds.
-fn harmed_pair(d: Counts, kind: u32) -> Pair {
-    match kind {
-        0 => pair(179983, 1, 1),
-        1 => pair(5, 0, 1),
-        2 => pair(5, 1, 0),
-        3 => pair(5, wrapping_add_u32(d.field.0, 1), 1),
-        _ => pair(5, 1, wrapping_add_u32(d.trim.0, 1)),
-    }
-}
-
-// A record with its rows, its depth, a weight or a later pair harmed.
-fn harmed_rows(s: Session, kind: u32) -> Session {
-    let mut r = s;
-    match kind {
+        12 => r.last = 3,
         13 => r.rows.field.0 = 65536,
         14 => r.rows.trim.0 = 65536,
         15 => r.depth.field.0 = wrapping_add_u32(s.rows.field.0, 1),
@@ -324,26 +304,15 @@ fn harmed_opening(l: Lent, q: Query, kind: u32) -> u32 {
 pub fn some(c: Case, m: &Sums, l: Lent, s: Session, seed: u64, place: u64) -> u32 {
     let is_read = dice::one_in(seed, wrapping_add_u64(place, 40000), 2);
     let any = dice::below(seed, wrapping_add_u64(place, 10000), 720);
-    let list = dice::below(seed, wrapping_add_u64(place, 30000), 8);
-    if list < 2 {
-        return harmed_record(l, s, any % HARMS, is_read);
-    }
-    if list < 6 {
-        let row = wrapping_add_u32(dice::below(seed, wrapping_add_u64(place, 20000), 12), 1);
-        return harmed_table(l, s, list, any % 16, row, is_read);
-    }
-    if list == 6 {
-        return harmed_block(c, m, l, s, any % 16);
-    }
-    harmed_opening(l, s.query, any % 16 % 9)
-}
-
-// A call with a table of another size, or with a row that was read harmed.
-fn harmed_table(l: Lent, s: Session, list: u32, kind: u32, row: u32, is_read: bool) -> u32 {
-    match list {
+    let kind = any % 16;
+    let row = wrapping_add_u32(dice::below(seed, wrapping_add_u64(place, 20000), 12), 1);
+    match dice::below(seed, wrapping_add_u64(place, 30000), 8) {
+        0 | 1 => harmed_record(l, s, any % HARMS, is_read),
         2 => kept(call(resized(l, kind), s, is_read), s, 4),
         3 => harmed_range(l, s, kind, row, is_read),
-        _ => harmed_order(l, s, kind, row, is_read),
+        4 | 5 => harmed_order(l, s, kind, row, is_read),
+        6 => harmed_block(c, m, l, s, kind),
+        _ => harmed_opening(l, s.query, kind % 9),
     }
 }
 

@@ -163,15 +163,9 @@ fn field_next(c: Case, m: &Sums, d: Counts) -> bool {
     if (p == 0) | (q == 0) {
         return p == 0;
     }
-    let out = field_out(c, d);
-    if out | trim_out(c, d) {
-        return !out;
+    if field_out(c, d) | trim_out(c, d) {
+        return !field_out(c, d);
     }
-    field_fell_less(m, p, q)
-}
-
-// Whether row p of the field table is less below its first than row q of the trim table is, or as much and no deeper.
-fn field_fell_less(m: &Sums, p: u32, q: u32) -> bool {
     let first = plain::sum_at(m, 1, 1);
     let x = plain::apart(first, plain::sum_at(m, p, 1));
     let y = plain::apart(first, plain::sum_at(m, 1, q));

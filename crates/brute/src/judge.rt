@@ -5,7 +5,6 @@ use crate::plain;
 use crate::plain::Sums;
 use rules::Counts;
 use rules::Pair;
-use rules::Query;
 use rules::Session;
 use std::num::wrapping_add_u32;
 
@@ -93,19 +92,16 @@ fn same_pairs(a: [Pair; 64], b: [Pair; 64]) -> bool {
     same
 }
 
-fn same_query(a: Query, b: Query) -> bool {
-    let v = a.weights;
-    let w = b.weights;
-    let weights = (v.field.0 == w.field.0) & (v.trim.0 == w.trim.0);
-    let sizes = (a.block == b.block) & (a.radius == b.radius);
-    (a.k == b.k) & (sizes & weights)
-}
-
 // What is wrong with a record that must be a certain one, number by number.
 pub fn differs(a: Session, b: Session) -> u32 {
     let p = a.pairs;
     let q = b.pairs;
-    let kept = same_query(a.query, b.query) & (same_counts(a.rows, b.rows) & (a.out == b.out));
+    let sizes = (a.query.block == b.query.block) & (a.query.radius == b.query.radius);
+    let v = a.query.weights;
+    let w = b.query.weights;
+    let weights = (v.field.0 == w.field.0) & (v.trim.0 == w.trim.0);
+    let query = (a.query.k == b.query.k) & (sizes & weights);
+    let kept = query & (same_counts(a.rows, b.rows) & (a.out == b.out));
     let read = same_counts(a.depth, b.depth) & (a.last == b.last);
     let held = (a.held == b.held) & same_pairs(p, q);
     let joined = when(a.joined != b.joined, JOINED, when(held, 0, HELD));

@@ -1,7 +1,5 @@
 // The session against a plain double loop, over tables made from seeds. Prints totals; the comparer is tried first.
-use crate::calls::Lent;
 use crate::due::Case;
-use crate::plain::Sums;
 use libc::STDOUT_FILENO;
 use rules::Counts;
 
@@ -15,7 +13,7 @@ mod play;
 mod tally;
 mod wrong;
 
-// A case made from a seed.
+// A case: its session is played, and counted.
 fn case(seed: u64, tally: &mut [u64; 48]) {
     let field = made::table(seed);
     let trim = made::table(std::num::wrapping_add_u64(seed, 1000000));
@@ -27,33 +25,22 @@ fn case(seed: u64, tally: &mut [u64; 48]) {
         plain::live(&trim, rows.trim.0),
     );
     let c = due::case_of(query, rows, live, &sums);
-    played(c, &sums, calls::first_rows(field, trim, rows), seed, tally);
+    let seen = play::whole(c, &sums, calls::first_rows(field, trim, rows), seed, tally);
+    counted(c, seen.said, seen.fault, seen.session.depth, tally);
 }
 
-// A case: its session is played, and counted.
-fn played(c: Case, m: &Sums, l: Lent, seed: u64, tally: &mut [u64; 48]) {
-    let seen = play::whole(c, m, l, seed, tally);
-    counted(c, seen.session.depth, tally);
-    ended(seen.said, seen.fault, tally);
-}
-
-// Counts what kind of case this is, its session ended at this depth.
-fn counted(c: Case, d: Counts, tally: &mut [u64; 48]) {
+fn counted(c: Case, said: u32, fault: u32, d: Counts, tally: &mut [u64; 48]) {
     let empty = (c.rows.field.0 == 0) | (c.rows.trim.0 == 0);
+    let exact = !empty & (plain::higher(d.field.0, d.trim.0) == c.limit);
+    tally::count(tally, tally::CASES);
     tally::count_if(tally, empty, tally::EMPTY);
     let field = c.live.field.0 < c.rows.field.0;
     let trim = c.live.trim.0 < c.rows.trim.0;
     tally::count_if(tally, field | trim, tally::WITHDRAWN);
-    let exact = !empty & (plain::higher(d.field.0, d.trim.0) == c.limit);
-    tally::count_if(tally, exact, tally::EXACT);
-    tally::count_if(tally, exact & (1 < c.query.block), tally::EXACT_BLOCKS);
-}
-
-// Counts a case, and how its session ended.
-fn ended(said: u32, fault: u32, tally: &mut [u64; 48]) {
-    tally::count(tally, tally::CASES);
     tally::count_if(tally, said != due::FINISHED, tally::UNFINISHED);
     tally::count_if(tally, fault != 0, tally::MISMATCHES);
+    tally::count_if(tally, exact, tally::EXACT);
+    tally::count_if(tally, exact & (1 < c.query.block), tally::EXACT_BLOCKS);
 }
 
 fn all_cases(tally: &mut [u64; 48]) {
@@ -77,9 +64,6 @@ fn totals(a: [u64; 48]) {
     line(a, due::READ, b"blocks read: ");
     line(a, due::SETTLED, b"settled: ");
     line(a, due::GIVEN, b"pairs: ");
-}
-
-fn endings(a: [u64; 48]) {
     line(a, tally::TIES, b"ties: ");
     line(a, due::NOT_YET, b"not yet: ");
     line(a, due::FINISHED, b"finished: ");
@@ -106,6 +90,7 @@ fn refusals(a: [u64; 48]) {
     refused(a, 6);
     refused(a, 7);
     refused(a, 12);
+    line(a, 0, b"not refused so, or changed: ");
 }
 
 fn main() {
@@ -115,13 +100,7 @@ fn main() {
     let long = [0i32; 262144];
     tally::count(&mut tally, calls::too_long(made::query(0), &long));
     totals(tally);
-    endings(tally);
     refusals(tally);
-    faults(tally);
-}
-
-fn faults(a: [u64; 48]) {
-    line(a, 0, b"not refused so, or changed: ");
-    line(a, tally::UNFINISHED, b"never finished: ");
-    line(a, tally::MISMATCHES, b"mismatches: ");
+    line(tally, tally::UNFINISHED, b"never finished: ");
+    line(tally, tally::MISMATCHES, b"mismatches: ");
 }

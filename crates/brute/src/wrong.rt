@@ -66,8 +66,11 @@ fn case(m: &Sums) -> Case {
 
 // What the comparer must see at its end.
 fn right() -> Seen {
-    let first = with_pair(judge::unseen(reads(3)), 0, pair(16, 1, 1));
-    let mut s = with_pair(with_pair(first, 1, pair(15, 2, 1)), 2, pair(14, 1, 2));
+    let mut s = judge::unseen(reads(3));
+    s.given[0] = pair(16, 1, 1);
+    s.given[1] = pair(15, 2, 1);
+    s.given[2] = pair(14, 1, 2);
+    s.count = 3;
     s.said = FINISHED;
     s.due = FINISHED;
     s
@@ -79,16 +82,12 @@ fn finds(name: &[u8], s: Seen, fault: u32) {
     line(name, judge::fault(case(&m), &m, s) == fault);
 }
 
-// A list of three pairs or more with another pair at a place.
-fn with_pair(s: Seen, i: u32, p: Pair) -> Seen {
-    let mut r = s;
-    r.given[(i % 64) as usize] = p;
-    r.count = plain::higher(3, wrapping_add_u32(i, 1));
-    r
-}
-
+// The right list with another pair at a place.
 fn listed(name: &[u8], i: u32, p: Pair, fault: u32) {
-    finds(name, with_pair(right(), i, p), fault);
+    let mut s = right();
+    s.given[(i % 64) as usize] = p;
+    s.count = plain::higher(3, wrapping_add_u32(i, 1));
+    finds(name, s, fault);
 }
 
 fn wrong_pairs() {
@@ -96,12 +95,11 @@ fn wrong_pairs() {
     listed(b"no such trim row", 0, pair(16, 1, 0), judge::NO_ROW);
     listed(b"too far apart", 1, pair(11, 1, 3), judge::TOO_FAR);
     listed(b"another sum than its own", 0, pair(17, 1, 1), judge::SUM);
-}
-
-fn wrong_lists() {
     listed(b"a pair twice", 1, pair(16, 1, 1), judge::TWICE);
     listed(b"the best pair left out", 0, pair(13, 2, 2), judge::ORDER);
-    let swapped = with_pair(with_pair(right(), 1, pair(14, 1, 2)), 2, pair(15, 2, 1));
+    let mut swapped = right();
+    swapped.given[1] = pair(14, 1, 2);
+    swapped.given[2] = pair(15, 2, 1);
     finds(b"sums out of order", swapped, judge::ORDER);
     listed(b"a pair too many", 3, pair(13, 2, 2), judge::ORDER);
 }
@@ -124,10 +122,13 @@ fn wrong_answers() {
     answered(b"read on though settled", 0, READ, SETTLED, judge::ANSWER);
 }
 
-fn wrong_session() {
-    let mut deep = right();
-    deep.session.depth.trim.0 = 5;
-    finds(b"read too deep", deep, judge::DEEP);
+fn wrong_depth() {
+    let mut s = right();
+    s.session.depth.trim.0 = 5;
+    finds(b"read too deep", s, judge::DEEP);
+}
+
+fn wrong_record() {
     let mut s = right();
     s.record = judge::CHANGED;
     finds(b"a record that is not as it should be", s, judge::CHANGED);
@@ -211,9 +212,9 @@ fn wrong_refusals() {
 pub fn all() {
     finds(b"a right list, no fault", right(), 0);
     wrong_pairs();
-    wrong_lists();
     wrong_answers();
-    wrong_session();
+    wrong_depth();
+    wrong_record();
     wrong_records();
     wrong_refusals();
 }
