@@ -37,42 +37,36 @@ pub fn first_rows(field: Table, trim: Table, rows: Counts) -> Lent {
     }
 }
 
-fn field_of(l: Lent) -> Table {
-    l.field
-}
-
-fn trim_of(l: Lent) -> Table {
-    l.trim
+// The first numbers of a table.
+fn part(t: &Table, n: u32) -> &[i32] {
+    let all = &t[..];
+    &all[0..(n % 53) as usize]
 }
 
 pub fn open(l: Lent, query: Query) -> Step {
-    let f = field_of(l);
-    let t = trim_of(l);
-    let m = (l.fields % 53) as usize;
-    let n = (l.trims % 53) as usize;
-    opening::start(query, &f[0..m], &t[0..n])
+    let f = l.field;
+    let t = l.trim;
+    opening::start(query, part(&f, l.fields), part(&t, l.trims))
 }
 
 // A read or a take.
 pub fn call(l: Lent, s: Session, is_read: bool) -> Step {
-    let f = field_of(l);
-    let t = trim_of(l);
-    let m = (l.fields % 53) as usize;
-    let n = (l.trims % 53) as usize;
+    let f = l.field;
+    let t = l.trim;
+    let fields = part(&f, l.fields);
+    let trims = part(&t, l.trims);
     if is_read {
-        return reading::read(&f[0..m], &t[0..n], s);
+        return reading::read(fields, trims, s);
     }
-    taking::take(&f[0..m], &t[0..n], s)
+    taking::take(fields, trims, s)
 }
 
 // How many numbers are shown.
 pub fn shown(l: Lent, s: Session) -> u32 {
-    let f = field_of(l);
-    let t = trim_of(l);
-    let m = (l.fields % 53) as usize;
-    let n = (l.trims % 53) as usize;
-    let part = showing::show(&f[0..m], &t[0..n], s);
-    (part.len() % 53) as u32
+    let f = l.field;
+    let t = l.trim;
+    let rows = showing::show(part(&f, l.fields), part(&t, l.trims), s);
+    (rows.len() % 53) as u32
 }
 
 // The number, if the call was answered by it and gave back this record; else 0.
@@ -323,8 +317,7 @@ pub fn some(c: Case, m: &Sums, l: Lent, s: Session, seed: u64, place: u64) -> u3
 }
 
 // An opening with a table of 65,536 rows, which must be refused by 4.
-pub fn too_long(q: Query) -> u32 {
-    let long = [0i32; 262144];
+pub fn too_long(q: Query, long: &[i32; 262144]) -> u32 {
     let t = [1i32; 4];
-    kept(opening::start(q, &long, &t), zeros(), 4)
+    kept(opening::start(q, long, &t), zeros(), 4)
 }

@@ -209,22 +209,24 @@ fn joined(q: Query, m: &Sums, of_field: bool, a: u32, e: u32, d: u32) -> u32 {
     n
 }
 
+// The rows of one table.
+fn rows_of(of_field: bool, d: Counts) -> u32 {
+    if of_field { d.field.0 } else { d.trim.0 }
+}
+
 // The record with one block more read.
 fn read_on(c: Case, m: &Sums, s: Session) -> Session {
-    let mut r = s;
-    let p = s.depth.field.0;
-    let q = s.depth.trim.0;
     let of_field = field_next(c, m, s.depth);
-    let a = if of_field { p } else { q };
-    let rows = if of_field {
-        c.rows.field.0
-    } else {
-        c.rows.trim.0
-    };
-    let e = plain::lower(wrapping_add_u32(a, c.query.block), rows);
-    let n = joined(c.query, m, of_field, a, e, if of_field { q } else { p });
-    r.depth = if of_field { counts(e, q) } else { counts(p, e) };
-    r.last = if of_field { 1 } else { 2 };
+    let a = rows_of(of_field, s.depth);
+    let d = rows_of(!of_field, s.depth);
+    let e = plain::lower(
+        wrapping_add_u32(a, c.query.block),
+        rows_of(of_field, c.rows),
+    );
+    let n = joined(c.query, m, of_field, a, e, d);
+    let mut r = s;
+    r.depth = reading(of_field, e, d);
+    r.last = wrapping_sub_u32(2, of_field as u32);
     r.joined = wrapping_add_u64(s.joined, n as u64);
     r
 }
@@ -260,7 +262,7 @@ fn with_held(m: &Sums, s: Session, given: [Pair; 64]) -> Session {
     let mut r = s;
     r.held = 0;
     r.pairs = none;
-    let mut cut = plain::cut_after(m, s.depth, plain::top());
+    let mut cut = plain::cut_after(m, s.depth, plain::pair(plain::PAST, 0, 0));
     for i in 0..all {
         r = holding(r, given, cut.next, most);
         cut = plain::cut_after(m, s.depth, cut.next);

@@ -75,15 +75,21 @@ fn totals(a: [u64; 48]) {
     );
 }
 
+fn refused(a: [u64; 48], by: u32) {
+    io::write_all(STDOUT_FILENO, b"refused by ");
+    io::print_decimal(STDOUT_FILENO, by as u64);
+    line(a, by, b": ");
+}
+
 fn refusals(a: [u64; 48]) {
-    line(a, 1, b"refused by 1: ");
-    line(a, 2, b"refused by 2: ");
-    line(a, 3, b"refused by 3: ");
-    line(a, 4, b"refused by 4: ");
-    line(a, 5, b"refused by 5: ");
-    line(a, 6, b"refused by 6: ");
-    line(a, 7, b"refused by 7: ");
-    line(a, 12, b"refused by 12: ");
+    refused(a, 1);
+    refused(a, 2);
+    refused(a, 3);
+    refused(a, 4);
+    refused(a, 5);
+    refused(a, 6);
+    refused(a, 7);
+    refused(a, 12);
     line(a, 0, b"not refused so, or changed: ");
 }
 
@@ -91,7 +97,8 @@ fn main() {
     wrong::all();
     let mut tally = [0u64; 48];
     all_cases(&mut tally);
-    tally::count(&mut tally, calls::too_long(made::query(0)));
+    let long = [0i32; 262144];
+    tally::count(&mut tally, calls::too_long(made::query(0), &long));
     totals(tally);
     refusals(tally);
     line(tally, tally::UNFINISHED, b"never finished: ");

@@ -120,13 +120,8 @@ pub fn pair(sum: u32, field: u32, trim: u32) -> Pair {
     Pair { sum, field, trim }
 }
 
-// No row has this number: as a rank it is the last.
-const PAST: u32 = 4294967295;
-
-// What ranks before every pair.
-pub fn top() -> Pair {
-    pair(PAST, 0, 0)
-}
+// No row has this number: as a rank it is the last. A pair of this sum ranks before every other.
+pub const PAST: u32 = 4294967295;
 
 // Whether x ranks before y.
 fn ahead(x: Pair, y: Pair) -> bool {

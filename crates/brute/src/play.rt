@@ -89,10 +89,9 @@ fn read_next(order: u32, said: u32, coin: bool) -> bool {
 
 // Whether the last two of n pairs have the same sum.
 fn is_tie(given: [Pair; 64], n: u32) -> bool {
-    if n < 2 {
-        return false;
-    }
-    given[((n - 1) % 64) as usize].sum == given[((n - 2) % 64) as usize].sum
+    let last = given[(wrapping_add_u32(n, 63) % 64) as usize];
+    let other = given[(wrapping_add_u32(n, 62) % 64) as usize];
+    (1 < n) & (last.sum == other.sum)
 }
 
 // A call that must be refused, where one can be made, then one that must not.

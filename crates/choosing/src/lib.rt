@@ -1,6 +1,4 @@
-// What a read decides before it reads: whether anything unread can matter, which table is next, and what 6 and 7 say of
-// its new block.
-use rules::Pair;
+// Which table an unsettled session reads next, and what 6 and 7 say of its new block.
 use rules::Session;
 ghost use mathlib.Core.Path.{_≡_};
 ghost use mathlib.Core.Bool.{false, cond};
@@ -10,7 +8,6 @@ ghost use Rattle.rules.specs.Session.{settled};
 ghost use Rattle.rules.specs.Read.{scoreDrop, fieldNext, nextDepth};
 ghost use Rattle.rules.specs.Calls.{newBlockCode};
 ghost use Rattle.session_laws.specs.Calls.{Accepted};
-ghost use Rattle.checks.specs.Codes.{LastHeld};
 
 // How far a table's score, by its weight, has dropped from its first row to the last row read.
 fn drop_of(weight: u32, t: &[i32], depth: u32) -> u64
@@ -53,30 +50,6 @@ pub fn field_next(f: &[i32], t: &[i32], s: Session) -> bool
         return false;
     }
     d <= e
-}
-
-// Whether nothing unread can matter. `last` is the last held pair: of ranked pairs it decides.
-pub fn is_settled(f: &[i32], t: &[i32], s: Session, last: Pair) -> bool
-    requires { ⌜ Accepted (now f) (now t) s × LastHeld s last ⌝ }
-    ensures { λ r. ⌜ r ≡ settled (now (f .entry)) (now (t .entry)) s ⌝ }
-{
-    let m = s.rows.field.0;
-    let n = s.rows.trim.0;
-    let d = s.depth.field.0;
-    let e = s.depth.trim.0;
-    if ceiling::is_empty(f, m, d) | ceiling::is_empty(t, n, e) {
-        return true;
-    }
-    if ceiling::read_out(f, m, d) & ceiling::read_out(t, n, e) {
-        return true;
-    }
-    if s.out == s.query.k {
-        return true;
-    }
-    if s.out + s.held != s.query.k {
-        return false;
-    }
-    ceiling::is_secured(f, t, s, last)
 }
 
 // Of two numbers the first where the flag says so, else the second.

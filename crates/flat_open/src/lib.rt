@@ -14,7 +14,7 @@ pub fn start(query: &[u32], f: &[i32], t: &[i32], lent: &mut [u32]) -> i32
     if (query.len() < QUERY_SIZE) | (lent.len() < SIZE) {
         return answers::short();
     }
-    let q = record_layout::query_in(query);
+    let q = record_taken::query_in(query);
     let step = opening::start(q, f, t);
     let answer = step.answer;
     if let Answer::Opened = answer {

@@ -13,7 +13,7 @@ pub fn read(f: &[i32], t: &[i32], lent: &mut [u32]) -> i32
     if lent.len() < SIZE {
         return answers::short();
     }
-    let s = record_layout::unpack(lent);
+    let s = record_taken::unpack(lent);
     let step = reading::read(f, t, s);
     let answer = step.answer;
     if let Answer::Read = answer {

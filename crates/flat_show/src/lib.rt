@@ -49,7 +49,7 @@ pub fn show(f: &[i32], t: &[i32], lent: &[u32], place: &mut [u32]) -> i32
     if (lent.len() < SIZE) | (place.len() < PAIR_SIZE) {
         return answers::short();
     }
-    let s = record_layout::unpack(lent);
+    let s = record_taken::unpack(lent);
     put_shown(f, t, s, place);
     0
 }

@@ -7,7 +7,7 @@ use lib.IntN.{ℤ}
 use lib.ListN.{length, getD}
 use Rattle.rules.specs.Query.{wasGiven}
 use Rattle.rules.specs.Calls.{takeCall}
-use Rattle.taking.specs.Answers.{take-keeps}
+use Rattle.take_answers.specs.Answers.{take-keeps}
 use Rattle.record_layout.specs.Flat.{joinedAt, flatSize, word, unflatten}
 use Rattle.flat_calls.specs.Calls.{leftIn}
 use Rattle.flat_calls.specs.Unchanged.{same-left}

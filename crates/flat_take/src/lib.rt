@@ -30,7 +30,7 @@ pub fn take(f: &[i32], t: &[i32], lent: &mut [u32], pair: &mut [u32]) -> i32
     if (lent.len() < SIZE) | (pair.len() < PAIR_SIZE) {
         return answers::short();
     }
-    let s = record_layout::unpack(lent);
+    let s = record_taken::unpack(lent);
     let step = taking::take(f, t, s);
     let answer = step.answer;
     if let Answer::Given(_) = answer {

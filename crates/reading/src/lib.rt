@@ -21,7 +21,7 @@ fn read_answer(code: u32, f: &[i32], t: &[i32], s: Session, last: Pair) -> Answe
     if code != 0 {
         return Answer::Refused(code);
     }
-    if choosing::is_settled(f, t, s, last) {
+    if settling::is_settled(f, t, s, last) {
         return Answer::Settled;
     }
     let new = choosing::new_block_code(f, t, s);

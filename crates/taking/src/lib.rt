@@ -5,56 +5,7 @@ use rules::Answer;
 use rules::Session;
 use rules::Step;
 ghost use mathlib.Core.Path.{_≡_};
-ghost use Prim.Native.Nat.{_+_, _-_, _≤_, _<_};
-ghost use Rattle.rules.specs.Take.{givesPair, finished};
 ghost use Rattle.rules.specs.Calls.{takeCall};
-ghost use Rattle.session_laws.specs.Calls.{Accepted};
-ghost use Rattle.taking.specs.Answers.{takeAnswer};
-
-// Whether a take answers the first held pair.
-fn gives_pair(f: &[i32], t: &[i32], s: Session) -> bool
-    requires { ⌜ Accepted (now f) (now t) s ⌝ }
-    ensures { λ r. ⌜ r ≡ givesPair (now (f .entry)) (now (t .entry)) s ⌝ }
-{
-    if s.held == 0 {
-        return false;
-    }
-    let p = s.pairs[0];
-    ceiling::is_secured(f, t, s, p)
-}
-
-// Whether no further pair can come.
-fn is_finished(f: &[i32], t: &[i32], s: Session) -> bool
-    requires { ⌜ Accepted (now f) (now t) s ⌝ }
-    ensures { λ r. ⌜ r ≡ finished (now (f .entry)) (now (t .entry)) s ⌝ }
-{
-    let m = s.rows.field.0;
-    let n = s.rows.trim.0;
-    let d = s.depth.field.0;
-    let e = s.depth.trim.0;
-    let empty = ceiling::is_empty(f, m, d) | ceiling::is_empty(t, n, e);
-    let out = ceiling::read_out(f, m, d) & ceiling::read_out(t, n, e);
-    (s.out == s.query.k) | (empty | (out & (s.held == 0)))
-}
-
-// What a take answers, of the code that the checks gave: refused; the first held pair, if it is secured; else finished,
-// or not yet.
-fn take_answer(code: u32, f: &[i32], t: &[i32], s: Session) -> Answer
-    requires { ⌜ (code ≡ 0 → Accepted (now f) (now t) s) ⌝ }
-    ensures { λ r. ⌜ r ≡ takeAnswer code (now (f .entry)) (now (t .entry)) s ⌝ }
-{
-    if code != 0 {
-        return Answer::Refused(code);
-    }
-    if gives_pair(f, t, s) {
-        let p = s.pairs[0];
-        return Answer::Given(p);
-    }
-    if is_finished(f, t, s) {
-        return Answer::Finished;
-    }
-    Answer::NotYet
-}
 
 // Take: the first held pair is answered and moved out, those behind it move up, and a place of zeros stands at the end;
 // nothing else changes the record.
@@ -78,7 +29,7 @@ pub fn take(f: &[i32], t: &[i32], s: Session) -> Step
         i += 1;
     }
     let code = checks::call_code(fits, r.rows, r.depth, f, t);
-    let answer = take_answer(code, f, t, r);
+    let answer = take_answers::take_answer(code, f, t, r);
     if let Answer::Given(_) = answer {
         let mut j: usize = 0;
         while j < 63 {

@@ -21,7 +21,7 @@ pub fn whole(query: &[u32], f: &[i32], t: &[i32], out: &mut [u64]) -> i32
     ensures { λ _. ⌜ now (out .exit)
         ≡ lentQueryNumbers (now (query .entry)) (now (f .entry)) (now (t .entry)) (now (out .entry)) ⌝ }
 {
-    let q = record_layout::query_in(query);
+    let q = record_taken::query_in(query);
     let run = run_query::run(q, f, t);
     let there = record_layout::QUERY_SIZE <= query.len();
     let code = asked_code(
@@ -43,7 +43,7 @@ pub fn listed(query: &[u32], f: &[i32], t: &[i32], out: &mut [u8]) -> i32
     ensures { λ _. ⌜ now (out .exit)
         ≡ lentListingBytes (now (query .entry)) (now (f .entry)) (now (t .entry)) (now (out .entry)) ⌝ }
 {
-    let q = record_layout::query_in(query);
+    let q = record_taken::query_in(query);
     let run = run_query::run(q, f, t);
     let there = record_layout::QUERY_SIZE <= query.len();
     let number = asked_code(there, run.opening, run.reading, listing::ROOM <= out.len());

@@ -16,7 +16,7 @@ use Rattle.lists.specs.Bools.{and-left}
 use Rattle.checks.proofs.Looking.{Looking, look-starts, look-on, look-stops, look-ends}
 use Rattle.checks.specs.Codes.{depths-fit}
 use borrow.Author.Needs.{needs}
-use Rattle.taking.specs.Answers.{afterTake, take-asked, take-ends}
+use Rattle.take_answers.specs.Answers.{afterTake, take-asked, take-ends}
 use Rattle.checks.proofs.Checked.{Checked, checked}
 use Rattle.taking.proofs.Moving.{Moving, move-starts, move-on, move-ends, move-keeps}
 use Rattle.checks.proofs.Answers.{not-given}

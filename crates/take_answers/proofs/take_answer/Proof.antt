@@ -2,9 +2,9 @@
 use mathlib.Core.Path.{refl}
 use borrow.Author.Tests.{ne-eqb}
 use borrow.Author.Needs.{needs}
-use Rattle.taking.specs.Answers.{takeAnswer}
-use Rattle.taking.proofs.take_answer.Statement.{statement}
-use Rattle.taking.proofs.take_answer.Tie as tie
+use Rattle.take_answers.specs.Answers.{takeAnswer}
+use Rattle.take_answers.proofs.take_answer.Statement.{statement}
+use Rattle.take_answers.proofs.take_answer.Tie as tie
 
 returns : tie.Need-returns
 unfolding takeAnswer

@@ -9,10 +9,10 @@ use Rattle.lists.specs.Lists.{range}
 use Rattle.rules.specs.declared.Pair.{Pair}
 use Rattle.rules.specs.declared.Session.{Session}
 use Rattle.rules.specs.Session.{noPair, placeCount}
 use Rattle.record_layout.specs.Flat.{pairsIn, withPairs, unflatten}
 use Rattle.record_layout.proofs.Places.{one-in}
-use Rattle.record_layout.proofs.unpack.Statement.{statement}
-use Rattle.record_layout.proofs.unpack.Tie as tie
+use Rattle.record_taken.proofs.unpack.Statement.{statement}
+use Rattle.record_taken.proofs.unpack.Tie as tie
 
 abbrev zeros : List Pair
 zeros = replicate placeCount noPair

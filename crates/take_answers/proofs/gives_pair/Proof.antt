@@ -7,8 +7,8 @@ use borrow.Author.Tests.{lt-ltb}
 use Rattle.rules.specs.Take.{givesPairBy}
 use Rattle.ceiling.specs.Last.{held-then-read}
 use borrow.Author.Needs.{needs}
-use Rattle.taking.proofs.gives_pair.Statement.{statement}
-use Rattle.taking.proofs.gives_pair.Tie as tie
+use Rattle.take_answers.proofs.gives_pair.Statement.{statement}
+use Rattle.take_answers.proofs.gives_pair.Tie as tie
 
 returns : tie.Need-returns
 unfolding givesPairBy

@@ -1,10 +1,10 @@
 -- `head_in` meets its contract. Assumes nothing.
 use mathlib.Core.Path.{refl}
 use native.Mathlib.Omega.{arith}
 use Rattle.record_layout.specs.Flat.{joinedAt, joinedHighAt, withPairs}
 use borrow.Author.Needs.{needs}
-use Rattle.record_layout.proofs.head_in.Statement.{statement}
-use Rattle.record_layout.proofs.head_in.Tie as tie
+use Rattle.record_taken.proofs.head_in.Statement.{statement}
+use Rattle.record_taken.proofs.head_in.Tie as tie
 
 shared-slice-read-low : tie.Need-shared-slice-read-low
 shared-slice-read-low c = search needs

@@ -1,8 +1,8 @@
 -- `query_in` meets its contract. Assumes nothing.
 use Rattle.record_layout.specs.Flat.{queryIn}
 use borrow.Author.Needs.{needs}
-use Rattle.record_layout.proofs.query_in.Statement.{statement}
-use Rattle.record_layout.proofs.query_in.Tie as tie
+use Rattle.record_taken.proofs.query_in.Statement.{statement}
+use Rattle.record_taken.proofs.query_in.Tie as tie
 
 number-or-requires : tie.Need-number-or-requires
 number-or-requires c κs = search needs

@@ -8,8 +8,8 @@ use borrow.Author.Tests.{eq-eqb, ne-eqb}
 use Rattle.rules.specs.Session.{aTableIsEmpty, bothReadOut, settledBy}
 use Rattle.ceiling.specs.Last.{held-then-read, held-secured}
 use borrow.Author.Needs.{needs}
-use Rattle.choosing.proofs.is_settled.Statement.{statement}
-use Rattle.choosing.proofs.is_settled.Tie as tie
+use Rattle.settling.proofs.is_settled.Statement.{statement}
+use Rattle.settling.proofs.is_settled.Tie as tie
 
 -- a record has 64 pair places: that is its array's type
 long : (c : tie.Start) → length (c .args .s .pairs) ≡ 64

@@ -1,9 +1,9 @@
 -- `pair_in` meets its contract. Assumes nothing.
 use mathlib.Core.Path.{refl}
 use Rattle.record_layout.specs.Flat.{pairIn}
 use borrow.Author.Needs.{needs}
-use Rattle.record_layout.proofs.pair_in.Statement.{statement}
-use Rattle.record_layout.proofs.pair_in.Tie as tie
+use Rattle.record_taken.proofs.pair_in.Statement.{statement}
+use Rattle.record_taken.proofs.pair_in.Tie as tie
 
 mul-at : tie.Need-mul-at
 mul-at c = search needs

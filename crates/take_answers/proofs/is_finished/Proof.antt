@@ -1,8 +1,8 @@
 -- `is_finished` meets its contract: the tests are the rule's. Assumes nothing.
 use Rattle.rules.specs.Take.{finished}
 use borrow.Author.Needs.{needs}
-use Rattle.taking.proofs.is_finished.Statement.{statement}
-use Rattle.taking.proofs.is_finished.Tie as tie
+use Rattle.take_answers.proofs.is_finished.Statement.{statement}
+use Rattle.take_answers.proofs.is_finished.Tie as tie
 
 is-empty-requires : tie.Need-is-empty-requires
 is-empty-requires c κs = search needs
