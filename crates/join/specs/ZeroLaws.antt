@@ -11,17 +11,11 @@ use lib.Dec.{leb, eqb}
 use lib.ListN.{length, getD}
 use lib.Seq.{getD-take}
 use borrow.Author.Tests.{leb-true, leb-false, le-leb, eqb-true, eq-eqb}
-use Rattle.lists.specs.Bools.{clash, and-out, and-in, or-out, or-true, or-none-out}
+use Rattle.lists.specs.Bools.{clash, and-out, and-in, or-out, or-in-left, or-in-right, or-none-out}
 use Rattle.join.specs.Join.{SideLaws, Laws, Partner, Begins, weightAt, flip}
 use Rattle.join.specs.Plain.{Rows, PlainLegal}
 use Rattle.join.specs.PlainLaws.{legal-one, legal-take, legal-more}
 use Rattle.join.specs.Zero.{zeroAmong, falling, Mates}
-
-or-left : (a b : Bool) → a ≡ true → a || b ≡ true
-or-left a b e = ap (λ x. x || b) e
-
-or-right : (a b : Bool) → b ≡ true → a || b ≡ true
-or-right a b e = ap (λ x. a || x) e ∙ or-true a
 
 module _ {A : Type 0} (R : Rows A) where
   abbrev at : List A → ℕ → A
@@ -43,8 +37,8 @@ module _ {A : Type 0} (R : Rows A) where
       go : Dec (n ≤ k) → (k < n → zeroAmong R l n ≡ true) → zeroAmong R l n || last ≡ true
       go (yes m) before =
           let same : n ≡ k = omega arith in
-          or-right (zeroAmong R l n) last (eq-eqb (weightOf l n) 0 (ap (weightOf l) same ∙ e))
-      go (no m) before = or-left (zeroAmong R l n) last (before (omega arith))
+          or-in-right (zeroAmong R l n) last (eq-eqb (weightOf l n) 0 (ap (weightOf l) same ∙ e))
+      go (no m) before = or-in-left (zeroAmong R l n) last (before (omega arith))
 
   zero-out : (l : List A) (n : ℕ) → zeroAmong R l n ≡ true → (k : ℕ) × (k < n) × (weightOf l k ≡ 0)
   unfolding zeroAmong
@@ -98,39 +92,39 @@ module _ {A : Type 0} (R : Rows A) where
   ended-more : (l : List A) (n m : ℕ) → n ≤ m → falling R .ended l n ≡ true → falling R .ended l m ≡ true
   ended-more l n m h e =
       ⊎-elim
-      (λ a. or-left (leb (length l) m) (zeroAmong R l m)
+      (λ a. or-in-left (leb (length l) m) (zeroAmong R l m)
       (le-leb (length l) m (omega (arith, leb-true (length l) n a))))
       (λ a. let k = zero-out l n a in
-      or-right (leb (length l) m) (zeroAmong R l m) (zero-in l m (k .0) (omega (arith, k .1)) (k .2)))
+      or-in-right (leb (length l) m) (zeroAmong R l m) (zero-in l m (k .0) (omega (arith, k .1)) (k .2)))
       (or-out (leb (length l) n) (zeroAmong R l n) e)
 
   empty-ended : (l : List A) (n : ℕ) → falling R .empty l n ≡ true → falling R .ended l n ≡ true
   empty-ended l n e =
       ⊎-elim
-      (λ a. or-left (leb (length l) n) (zeroAmong R l n)
+      (λ a. or-in-left (leb (length l) n) (zeroAmong R l n)
       (le-leb (length l) n (omega (arith, leb-true (length l) 0 a))))
       (λ a. let k = first-zero-out l n a in
-      or-right (leb (length l) n) (zeroAmong R l n) (zero-in l n 0 (k .0) (k .1)))
+      or-in-right (leb (length l) n) (zeroAmong R l n) (zero-in l n 0 (k .0) (k .1)))
       (or-out (leb (length l) 0) (firstZero l n) e)
 
   ended-zero : (l : List A) → falling R .ended l 0 ≡ true → falling R .empty l 0 ≡ true
   unfolding zeroAmong
   ended-zero l e =
-      ⊎-elim (λ a. or-left (leb (length l) 0) (firstZero l 0) a) (λ a. clash a refl)
+      ⊎-elim (λ a. or-in-left (leb (length l) 0) (firstZero l 0) a) (λ a. clash a refl)
       (or-out (leb (length l) 0) (zeroAmong R l 0) e)
 
   empty-first : (l : List A) (n m : ℕ) → 1 ≤ m → falling R .empty l n ≡ true → falling R .empty l m ≡ true
   empty-first l n m h e =
-      ⊎-elim (λ a. or-left (leb (length l) 0) (firstZero l m) a)
-      (λ a. or-right (leb (length l) 0) (firstZero l m) (first-zero-in l m h (first-zero-out l n a .1)))
+      ⊎-elim (λ a. or-in-left (leb (length l) 0) (firstZero l m) a)
+      (λ a. or-in-right (leb (length l) 0) (firstZero l m) (first-zero-in l m h (first-zero-out l n a .1)))
       (or-out (leb (length l) 0) (firstZero l n) e)
 
   empty-more : (l : List A) (n m : ℕ) → n ≤ m → falling R .empty l n ≡ true → falling R .empty l m ≡ true
   empty-more l n m h e =
-      ⊎-elim (λ a. or-left (leb (length l) 0) (firstZero l m) a)
+      ⊎-elim (λ a. or-in-left (leb (length l) 0) (firstZero l m) a)
       (λ a.
       let k = first-zero-out l n a in
-      or-right (leb (length l) 0) (firstZero l m) (first-zero-in l m (omega (arith, k .0)) (k .1)))
+      or-in-right (leb (length l) 0) (firstZero l m) (first-zero-in l m (omega (arith, k .0)) (k .1)))
       (or-out (leb (length l) 0) (firstZero l n) e)
 
 module _ {A B : Type 0} (R : Rows A) (Q : Rows B) (qual : A → B → Bool) (mates : Mates R Q qual) where
@@ -207,7 +201,7 @@ module _ {A B : Type 0} (R : Rows A) (Q : Rows B) (qual : A → B → Bool) (mat
   falling-side = record {
     legal-take = legal-take R;
     falls = λ l i g h. g .falls i h;
-    ended-all = λ l n h. or-left (leb (length l) n) (zeroAmong R l n) (le-leb (length l) n h);
+    ended-all = λ l n h. or-in-left (leb (length l) n) (zeroAmong R l n) (le-leb (length l) n h);
     ended-more = ended-more R;
     ended-dead = λ l l′ n g b e i h k y. ended-dead l l′ n b e i h k y;
     empty-dead = λ l l′ n g b e i k y. empty-dead l l′ n b e i k y;

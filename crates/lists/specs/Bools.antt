@@ -50,6 +50,10 @@ pub or-out : (a b : Bool) → a || b ≡ true → (a ≡ true) ⊎ (b ≡ true)
 or-out true b e = inl refl
 or-out false b e = inr e
 
+pub or-in-left : (a b : Bool) → a ≡ true → a || b ≡ true
+or-in-left true b h = refl
+or-in-left false b h = clash h refl
+
 pub or-in-right : (a b : Bool) → b ≡ true → a || b ≡ true
 or-in-right true b h = refl
 or-in-right false b h = h

@@ -11,16 +11,10 @@ use lib.Dec.{eqb, ltb}
 use lib.IntN.{ℤ}
 use lib.Signed.{leZ}
 use borrow.Author.Tests.{eqb-true, eqb-false, eq-eqb, ne-eqb, ltb-true, lt-ltb, leb-true, not-true}
-use Rattle.lists.specs.Bools.{clash, and-out, and-in, or-out, or-true, or-none-out}
+use Rattle.lists.specs.Bools.{clash, and-out, and-in, or-out, or-in-left, or-in-right, or-none-out}
 use Rattle.rules.specs.Tables.{num, rowCount, rowInOrder, legal, Row, row, qualifies, withdrawn, rowsQualify}
 use Rattle.rules.specs.Session.{withdrawnWithin, readOut, isEmpty}
 use Rattle.session_laws.specs.Tables.{RowFits, score-kept, legal-out}
-
-or-left : (a b : Bool) → a ≡ true → a || b ≡ true
-or-left a b e = ap (λ x. x || b) e
-
-or-right : (a b : Bool) → b ≡ true → a || b ≡ true
-or-right a b e = ap (λ x. a || x) e ∙ or-true a
 
 -- ---- Rows that qualify are not withdrawn
 
@@ -49,8 +43,8 @@ module _ (t : List ℤ) where
       go : Dec (n ≤ k) → (k < n → withdrawnWithin t n ≡ true) → withdrawnWithin t n || withdrawn (row t n) ≡ true
       go (yes m) before =
           let same : n ≡ k = omega arith in
-          or-right (withdrawnWithin t n) (withdrawn (row t n)) (ap (λ i. withdrawn (row t i)) same ∙ e)
-      go (no m) before = or-left (withdrawnWithin t n) (withdrawn (row t n)) (before (omega arith))
+          or-in-right (withdrawnWithin t n) (withdrawn (row t n)) (ap (λ i. withdrawn (row t i)) same ∙ e)
+      go (no m) before = or-in-left (withdrawnWithin t n) (withdrawn (row t n)) (before (omega arith))
 
   pub within-out : (n : ℕ) → withdrawnWithin t n ≡ true → (k : ℕ) × (k < n) × (withdrawn (row t k) ≡ true)
   unfolding withdrawnWithin
