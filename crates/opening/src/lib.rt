@@ -22,10 +22,10 @@ fn open_code(q: Query, f: &[i32], t: &[i32]) -> u32
         return code;
     }
     if !tables::size_fits(f) {
-        return 4;
+        return rules::TABLE_SIZE;
     }
     if !tables::size_fits(t) {
-        return 4;
+        return rules::TABLE_SIZE;
     }
     0
 }

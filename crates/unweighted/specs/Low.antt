@@ -27,7 +27,7 @@ use Rattle.session_laws.specs.Calls.{Accepted, NewRowsFit, read-rows}
 use Rattle.session_laws.specs.Read.{new-within, own-within, blocks-keep}
 use Rattle.tables_join.specs.Pairs.{QualifyingPair, Between, mem-between}
 use Rattle.tables_join.specs.Held.{held-holding}
-use Rattle.unweighted.specs.Unweighted.{isLow}
+use Rattle.unweighted.specs.Unweighted.{mostLowSum, isLow}
 
 module _ (test : Pair → Bool) where
   -- one block pair
@@ -123,7 +123,7 @@ sum-low q f t p ones m x y =
     ap (λ v. weighted (v .field .0) (row f i)) ones ∙ weighted-one f i in
     let second : weighted (q .weights .trim .0) (row t j) ≡ row t j .score =
     ap (λ v. weighted (v .trim .0) (row t j)) ones ∙ weighted-one t j in
-    le-leb (p .sum) 19998
+    le-leb (p .sum) mostLowSum
     (omega (arith, m .own-sum, first, second, score-most f i (x .range), score-most t j (y .range)))
 
 -- the rows of a pair that a read meets were checked

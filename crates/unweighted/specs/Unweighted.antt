@@ -1,6 +1,6 @@
 -- The rules without weights: what a row adds to a sum is its score, and the largest held sum is 19,998. Definitions
 -- only. Assumes nothing.
-use Prim.Native.Nat.{_+_}
+use Prim.Native.Nat.{ℕ, _+_}
 use mathlib.Core.Bool.{Bool, cond}
 use mathlib.Core.List.{List, [], _∷_}
 use lib.Dec.{leb}
@@ -19,8 +19,11 @@ use Rattle.rules.specs.Query.{readUntilSettledBy, takeUntilFinishedBy}
 use Rattle.demand.specs.Demand.{Call, reading, taking, Line}
 
 -- "a held sum is outside 0 to 19,998"
+abbrev pub mostLowSum : ℕ
+mostLowSum = 19998
+
 abbrev pub isLow : Pair → Bool
-isLow p = leb (p .sum) 19998
+isLow p = leb (p .sum) mostLowSum
 
 unfoldable pub lowSums : Session → Bool
 lowSums s = every isLow (heldPairs s)
