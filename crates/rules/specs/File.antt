@@ -8,7 +8,7 @@ use lib.ListN.{length, getD, take, drop}
 use Rattle.lists.specs.Lists.{every, range, each}
 use Rattle.rules.specs.declared.Loaded.{Loaded}
 use Rattle.rules.specs.declared.Loaded.the-variants.{Rows, Unfit}
-use Rattle.rules.specs.Tables.{width, afterRows, mostRows, natOf}
+use Rattle.rules.specs.Tables.{Table, lent, width, afterRows, mostRows, natOf}
 use Rattle.rules.specs.Numbers.{tableSize, cutFile, badColumn, wrongKind, shortSlice, unless, first, saidOf}
 use Rattle.rules.specs.Numbers.{signed}
 use Rattle.rules.specs.Calls.{between, rowCode}
@@ -117,20 +117,20 @@ rowNumbers bytes i =
     ∷ []
 
 -- the first n rows, as a table
-unfoldable pub fileTable : List ℕ → ℕ → List ℤ
-fileTable bytes n = each (rowNumbers bytes) (range 0 n)
+unfoldable pub fileTable : List ℕ → ℕ → Table
+fileTable bytes n = lent (each (rowNumbers bytes) (range 0 n))
 
 -- "each row by 9, 6, 7": row i + 1, t being the file's table
-unfoldable pub fileRowCode : List ℕ → List ℤ → ℕ → ℕ
+unfoldable pub fileRowCode : List ℕ → Table → ℕ → ℕ
 fileRowCode bytes t i = first (unless (rowColumnsFit bytes i) badColumn ∷ rowCode t i ∷ [])
 
 -- the answer where row n + 1 follows rows that were answered so: "Refusals 6, 7, 9 add the row number"
-unfoldable pub andRow : List ℕ → List ℤ → ℕ → Loaded → Loaded
+unfoldable pub andRow : List ℕ → Table → ℕ → Loaded → Loaded
 andRow bytes t n (Rows m) = cond (eqb (fileRowCode bytes t n) 0) (Rows (n + 1)) (Unfit (fileRowCode bytes t n) (n + 1))
 andRow bytes t n (Unfit code row) = Unfit code row
 
 -- the first n rows
-unfoldable pub rowsLoaded : List ℕ → List ℤ → ℕ → Loaded
+unfoldable pub rowsLoaded : List ℕ → Table → ℕ → Loaded
 rowsLoaded bytes t zero = Rows 0
 rowsLoaded bytes t (suc n) = andRow bytes t n (rowsLoaded bytes t n)
 
@@ -158,20 +158,20 @@ checkFile bytes kind =
 
 -- "then 11": the answer where a slice of so many numbers is lent
 unfoldable pub andSlice : ℕ → Loaded → Loaded
-andSlice lent (Rows n) = cond (ltb lent (width * n)) (Unfit shortSlice 0) (Rows n)
-andSlice lent (Unfit code row) = Unfit code row
+andSlice room (Rows n) = cond (ltb room (width 2 * n)) (Unfit shortSlice 0) (Rows n)
+andSlice room (Unfit code row) = Unfit code row
 
 -- the lent numbers after an answer: "the first 4 × count numbers are the rows, the rest untouched"
 unfoldable pub loadedInto : List ℕ → List ℤ → Loaded → List ℤ
-loadedInto bytes lent (Rows n) = fileTable bytes n ++ afterRows n lent
-loadedInto bytes lent (Unfit code row) = lent
+loadedInto bytes out (Rows n) = fileTable bytes n .numbers ++ afterRows n (lent out) .numbers
+loadedInto bytes out (Unfit code row) = out
 
 -- Reading a file into a lent slice: the answer, and the slice after it
 unfoldable pub loadAnswer : List ℕ → ℤ → List ℤ → Loaded
-loadAnswer bytes kind lent = andSlice (length lent) (checkFile bytes kind)
+loadAnswer bytes kind out = andSlice (length out) (checkFile bytes kind)
 
 unfoldable pub loadNumbers : List ℕ → ℤ → List ℤ → List ℤ
-loadNumbers bytes kind lent = loadedInto bytes lent (loadAnswer bytes kind lent)
+loadNumbers bytes kind out = loadedInto bytes out (loadAnswer bytes kind out)
 
 -- "A check alone, without a slice and so without 11 .. returns the row count, or minus the refusal number."
 unfoldable pub checkAlone : List ℕ → ℤ → ℤ

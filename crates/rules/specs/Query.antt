@@ -11,7 +11,7 @@ use Rattle.rules.specs.declared.Query.{Query}
 use Rattle.rules.specs.declared.Session.{Session}
 use Rattle.rules.specs.declared.Step.{Step}
 use Rattle.rules.specs.declared.Answer.{Answer}
-use Rattle.rules.specs.Tables.{natOf, row, squaredDistance}
+use Rattle.rules.specs.Tables.{Table, natOf, row, squaredDistance}
 use Rattle.rules.specs.Session.{weights}
 use Rattle.rules.specs.Numbers.{tableSize, cutFile, badColumn, unless, first, said, saidOf, refusal}
 use Rattle.rules.specs.Calls.{openCode, openCall, readCall, takeCall}
@@ -31,7 +31,7 @@ readUntilSettledBy read (suc n) s =
     let r = read s in
     elim (wasRead (r .answer)) [ true ↦ readUntilSettledBy read n (r .session) | false ↦ s ]
 
-abbrev pub readUntilSettled : ℕ → List ℤ → List ℤ → Session → Session
+abbrev pub readUntilSettled : ℕ → Table → Table → Session → Session
 readUntilSettled n f t = readUntilSettledBy (readCall f t) n
 
 -- the pair that three values are
@@ -55,17 +55,17 @@ takeUntilFinishedBy take (suc n) s =
     let r = take s in
     elim (wasGiven (r .answer)) [ true ↦ given (r .answer) ++ takeUntilFinishedBy take n (r .session) | false ↦ [] ]
 
-abbrev pub takeUntilFinished : ℕ → List ℤ → List ℤ → Session → List Pair
+abbrev pub takeUntilFinished : ℕ → Table → Table → Session → List Pair
 takeUntilFinished n f t = takeUntilFinishedBy (takeCall f t) n
 
 -- the record when it is settled; each read reads a row at least, so that the bound is never what ends it
-unfoldable pub settledSession : Query → List ℤ → List ℤ → Session
+unfoldable pub settledSession : Query → Table → Table → Session
 settledSession q f t =
     let s = openCall q f t .session in
     readUntilSettled (s .rows .field .0 + s .rows .trim .0 + 1) f t s
 
 -- the list; at most k pairs come out, so that the bound is never what ends it
-unfoldable pub list : Query → List ℤ → List ℤ → List Pair
+unfoldable pub list : Query → Table → Table → List Pair
 list q f t = takeUntilFinished (q .k + 1) f t (settledSession q f t)
 
 -- a number right-justified in w columns
@@ -76,7 +76,7 @@ decimal (suc w) n =
 
 -- "Pairs: rank, sum, field number, trim number (six columns each)"; "s and the remainder, eight columns each, in place
 -- of the squared distance"
-unfoldable pub pairLine : List ℤ → List ℤ → ℕ → Pair → List ℕ
+unfoldable pub pairLine : Table → Table → ℕ → Pair → List ℕ
 pairLine f t rank p =
     let x = row f (p .field - 1) in
     let y = row t (p .trim - 1) in
@@ -87,7 +87,7 @@ pairLine f t rank p =
     ++ (decimal 6 (y .pattern) ++ (decimal 8 (root n) ++ (decimal 8 (remainder n) ++ (lineFeed ∷ []))))))
 
 -- the lines of a list whose first pair has this rank
-unfoldable pub pairLines : List ℤ → List ℤ → ℕ → List Pair → List ℕ
+unfoldable pub pairLines : Table → Table → ℕ → List Pair → List ℕ
 pairLines f t rank [] = []
 pairLines f t rank (p ∷ l) = pairLine f t rank p ++ pairLines f t (rank + 1) l
 
@@ -101,7 +101,7 @@ lastLine s =
     decimal 6 (s .depth .field .0)
     ++ (decimal 6 (s .depth .trim .0) ++ (decimal 12 (s .joined) ++ (lineFeed ∷ [])))
 
-unfoldable pub listing : Query → List ℤ → List ℤ → List ℕ
+unfoldable pub listing : Query → Table → Table → List ℕ
 listing q f t = queryLine q ++ (pairLines f t 1 (list q f t) ++ lastLine (settledSession q f t))
 
 -- "A file above 13,837 bytes": 512 rows
@@ -142,7 +142,7 @@ inputQuery input =
     }
 
 -- the table of an accepted file
-abbrev pub tableOf : List ℕ → List ℤ
+abbrev pub tableOf : List ℕ → Table
 tableOf bytes = fileTable bytes (fileCount bytes)
 
 -- "A refusal prints its number alone, in six columns, and LF."
