@@ -93,6 +93,12 @@ part-all t m h =
     (ap (λ (k : ℕ). take (width (t .coordinates) * m) (drop k (t .numbers))) z
     ∙ take-all (width (t .coordinates) * m) (t .numbers) h)
 
+-- no rows, wherever they were looked for
+pub part-none : (t : Table) (a : ℕ) → part t a 0 ≡ table (t .coordinates) []
+part-none t a =
+    let z : width (t .coordinates) * 0 ≡ 0 = omega arith in
+    ap (λ (k : ℕ). table (t .coordinates) (take k (drop (width (t .coordinates) * a) (t .numbers)))) z
+
 -- the first m rows
 module _ (t : Table) (m : ℕ) where
   abbrev v : ℕ
@@ -106,6 +112,17 @@ module _ (t : Table) (m : ℕ) where
 
   pub first-num : (i j : ℕ) → i < m → j < v → num (firstRows m t) i j ≡ num t i j
   first-num i j h k = getD-take (v * m) (t .numbers) (v * i + j) (pos 0) (omega (arith, next-row v i m h))
+
+  -- the first of the first, and a part of them
+  pub first-first : (k : ℕ) → k ≤ m → firstRows k (firstRows m t) ≡ firstRows k t
+  first-first k h = ap (table (t .coordinates)) (take-take (v * k) (v * m) (t .numbers) (mul-le-mul-left v h))
+
+  pub part-first : (a k : ℕ) → a + k ≤ m → part (firstRows m t) a k ≡ part t a k
+  part-first a k h =
+      let e : 0 + v * a ≡ v * a = omega arith in
+      ap (table (t .coordinates))
+      (cut (v * a) (v * k) 0 (v * m) (t .numbers) (omega (arith, mul-le-mul-left v h))
+      ∙ ap (λ (o : ℕ). take (v * k) (drop o (t .numbers))) e)
 
   pub first-shade : (i : ℕ) → i < m → shadeAt (firstRows m t) i ≡ shadeAt t i
   first-shade i h =
