@@ -12,16 +12,16 @@ use Rattle.rules.specs.declared.Query.{Query}
 use Rattle.rules.specs.declared.Session.{Session}
 use Rattle.rules.specs.Session.{weights}
 use Rattle.demand.specs.Demand.{Call, Line, promised, isAccepted, Follows, byRules}
-use Rattle.rules.specs.Tables.{Table, lentTable}
+use Rattle.rules.specs.Tables.{Table, oldTable}
 
 -- ---- Small tables and queries
 
 -- a table of no rows; a row at a place of the a axis, and the rows after it
 abbrev pub noRows : Table
-noRows = lentTable []
+noRows = oldTable []
 
 abbrev pub rowThen : ℤ → ℤ → Table → Table
-rowThen score a rest = lentTable (pos 1 ∷ score ∷ a ∷ pos 0 ∷ rest .numbers)
+rowThen score a rest = oldTable (pos 1 ∷ score ∷ a ∷ pos 0 ∷ rest .numbers)
 
 -- the best pair of rows at one place, by blocks of so many rows
 abbrev pub topOne : ℕ → Query
