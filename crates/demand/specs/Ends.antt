@@ -5,7 +5,6 @@ use mathlib.Core.Bool.{Bool, true, false, cond}
 use mathlib.Core.List.{List, [], _∷_, _++_}
 use Prim.Native.Nat.{_+_, _≤_}
 use native.Mathlib.Omega.{arith}
-use lib.IntN.{ℤ}
 use borrow.Author.Tests.{eq-eqb}
 use Rattle.lists.specs.Words.{total}
 use Rattle.lists.specs.Bools.{clash}
@@ -14,7 +13,7 @@ use Rattle.rules.specs.declared.Step.{Step}
 use Rattle.rules.specs.declared.Pair.{Pair}
 use Rattle.rules.specs.declared.Query.{Query}
 use Rattle.rules.specs.declared.Answer.the-variants.{Read, Settled, Given, NotYet, Finished}
-use Rattle.rules.specs.Tables.{rowCount, legal}
+use Rattle.rules.specs.Tables.{Table, rowCount, legal}
 use Rattle.rules.specs.Session.{settled}
 use Rattle.rules.specs.Read.{readBlock}
 use Rattle.rules.specs.Take.{firstHeld, givesPair, movedOut, finished}
@@ -36,7 +35,7 @@ use Rattle.demand.specs.Sequences.{reached, some-block, calls-before, re
 
 -- No call is refused
 
-module _ (f t : List ℤ) (s : Session) (a : callCode f t s ≡ 0) where
+module _ (f t : Table) (s : Session) (a : callCode f t s ≡ 0) where
   read-accepted : newBlockCode f t s ≡ 0 → said (readCall f t s .answer) .accepted ≡ true
   unfolding readCallBy
   read-accepted b = rw (eq-eqb (callCode f t s) 0 a, eq-eqb (newBlockCode f t s) 0 b) (go (settled f t s))
@@ -57,7 +56,7 @@ module _ (f t : List ℤ) (s : Session) (a : callCode f t s ≡ 0) where
       go false true = refl
       go false false = refl
 
-module _ (q : Query) (f t : List ℤ) (g : legal f ≡ true) (h : legal t ≡ true) (size : 1 ≤ q .block) where
+module _ (q : Query) (f t : Table) (g : legal f ≡ true) (h : legal t ≡ true) (size : 1 ≤ q .block) where
   call-unrefused : queryCode q ≡ 0 → {out : List Pair} {s : Session} → Reached q f t out s → Sound s → (c : Call)
       → said (promised c f t s .answer) .accepted ≡ true
   call-unrefused k {out} {s} a b c = go c
@@ -106,7 +105,7 @@ module _ (q : Query) (f t : List ℤ) (g : legal f ≡ true) (h : legal t ≡ tr
 
 -- Of the whole sequence
 
-module _ {q : Query} {f t : List ℤ} {opening : Step} {lines : List Line} (w : Sequence q f t opening lines) where
+module _ {q : Query} {f t : Table} {opening : Step} {lines : List Line} (w : Sequence q f t opening lines) where
   begun-sound : Sound (opening .session)
   begun-sound =
       subst (λ x. Sound (x .session)) (sym (opening-is w))
@@ -141,24 +140,25 @@ module _ {q : Query} {f t : List ℤ} {opening : Step} {lines : List Line} (w : 
         let d = said-not-yet f t given (l .call) (l .gave) y (happened-then w before after l e) in
         clash (settled-take f t given (reached-before w before after l e .keeping .stored) z (d .0)) (d .1)
 
-pub gets-there : (q : Query) (f t : List ℤ) (opening : Step) (lines : List Line) → Sequence q f t opening lines
+pub gets-there : (q : Query) (f t : Table) (opening : Step) (lines : List Line) → Sequence q f t opening lines
     → GetsThere q f t opening lines
 gets-there q f t opening lines w =
     record { unrefused = unrefused w; few-reads = few-reads w; never-waits = never-waits w }
 
--- There are such sequences: any calls whatever, over any two legal tables
+-- There are such sequences: any calls whatever, over any two legal tables on one card
 
-run-follows : (f t : List ℤ) (s : Session) (calls : List Call) → Follows f t s (runOf f t s calls)
+run-follows : (f t : Table) (s : Session) (calls : List Call) → Follows f t s (runOf f t s calls)
 unfolding runOf
 run-follows f t s [] = tt
 run-follows f t s (c ∷ calls) = (refl, λ e. (refl, refl), run-follows f t (promised c f t s .session) calls)
 
-pub run-sequence : (q : Query) (f t : List ℤ) → legal f ≡ true → legal t ≡ true → queryCode q ≡ 0 → (calls : List Call)
+pub run-sequence : (q : Query) (f t : Table) → f .coordinates ≡ t .coordinates → legal f ≡ true → legal t ≡ true
+    → queryCode q ≡ 0 → (calls : List Call)
     → Sequence q f t (openCall q f t) (runOf f t (openCall q f t .session) calls)
-run-sequence q f t g h k calls = record {
+run-sequence q f t cards g h k calls = record {
   field-legal = g;
   trim-legal = h;
   opening-promised = refl;
-  opening-accepted = ap (λ x. x .answer) (legal-opened q f t k g h);
+  opening-accepted = ap (λ x. x .answer) (legal-opened q f t k cards g h);
   calls = run-follows f t (openCall q f t .session) calls;
 }

@@ -4,14 +4,13 @@ use mathlib.Core.Bool.{Bool, true, false, cond}
 use mathlib.Core.List.{List, [], _∷_, _++_, map, append-assoc, append-nil}
 use Prim.Native.Nat.{ℕ, _+_, _-_, _≤_, max}
 use native.Mathlib.Omega.{arith}
-use lib.IntN.{ℤ}
 use Rattle.rules.specs.declared.FieldRows.{FieldRows}
 use Rattle.rules.specs.declared.TrimRows.{TrimRows}
 use Rattle.rules.specs.declared.Session.{Session}
 use Rattle.rules.specs.declared.Step.{Step}
 use Rattle.rules.specs.declared.Pair.{Pair}
 use Rattle.rules.specs.declared.Query.{Query}
-use Rattle.rules.specs.Tables.{rowCount, legal}
+use Rattle.rules.specs.Tables.{Table, rowCount, legal}
 use Rattle.rules.specs.Read.{fieldNext, readBlock}
 use Rattle.rules.specs.Take.{movedOut}
 use Rattle.rules.specs.Sure.{Sure}
@@ -24,7 +23,7 @@ use Rattle.rules.specs.Query.{given}
 use Rattle.demand.specs.Demand.{Line, Sequence, promised, isAccepted, Follows, outs, lastRecord}
 use Rattle.demand.specs.Demand.{byRules, over}
 use Rattle.demand.specs.Steps.{Happened, Changed, kept, deeper, fewer}
-use Rattle.demand.specs.Openings.{opening-query, opening-is}
+use Rattle.demand.specs.Openings.{opening-query, opening-cards, opening-is}
 use Rattle.demand.specs.Outcomes.{AlikeTo, happened, changed, reached-grows, same-call}
 
 -- neither depth is above n
@@ -33,7 +32,7 @@ DepthsUpTo n s = (s .depth .field .0 ≤ n) × (s .depth .trim .0 ≤ n)
 
 -- Transcripts in parts
 
-module _ (f t : List ℤ) where
+module _ (f t : Table) where
   pub follows-before : (before rest : List Line) (s : Session) → Follows f t s (before ++ rest)
       → Follows f t s before × Follows f t (lastRecord s before) rest
   follows-before [] rest s h = (tt, h)
@@ -48,7 +47,7 @@ module _ (f t : List ℤ) where
       let rest = follows-rules (l .gave .session) lines (h .2) in
       ap₂ (λ a b. a ∷ b) (h .0) (rest ∙ ap (λ g. byRules (g .session) lines) (h .0))
 
-module _ (q : Query) (f t : List ℤ) (g : legal f ≡ true) (h : legal t ≡ true) (size : 1 ≤ q .block) where
+module _ (q : Query) (f t : Table) (g : legal f ≡ true) (h : legal t ≡ true) (size : 1 ≤ q .block) where
   -- One call
 
   module _ {out : List Pair} {s : Session} (a : Reached q f t out s) where
@@ -133,7 +132,7 @@ module _ (q : Query) (f t : List ℤ) (g : legal f ≡ true) (h : legal t ≡ tr
     lines-up-to = lines-keep (DepthsUpTo limit) line-up-to
 
   -- the same answers
-  module _ (f′ t′ : List ℤ) (g′ : legal f′ ≡ true) (h′ : legal t′ ≡ true) (m : rowCount f′ ≡ rowCount f)
+  module _ (f′ t′ : Table) (g′ : legal f′ ≡ true) (h′ : legal t′ ≡ true) (m : rowCount f′ ≡ rowCount f)
       (n : rowCount t′ ≡ rowCount t) where
     same-line : {out : List Pair} {s : Session} → Reached q f t out s → (l : Line) (lines : List Line)
         → Follows f t s (l ∷ lines) → AlikeTo f t f′ t′ (l .gave .session)
@@ -167,9 +166,9 @@ module _ (q : Query) (f t : List ℤ) (g : legal f ≡ true) (h : legal t ≡ tr
 
 -- From the opening on
 
-module _ {q : Query} {f t : List ℤ} {opening : Step} {lines : List Line} (w : Sequence q f t opening lines) where
+module _ {q : Query} {f t : Table} {opening : Step} {lines : List Line} (w : Sequence q f t opening lines) where
   pub reached : Reached q f t [] (opening .session)
-  reached = subst (λ x. Reached q f t [] (x .session)) (sym (opening-is w)) (open-reached q f t (opening-query w))
+  reached = subst (λ x. Reached q f t [] (x .session)) (sym (opening-is w)) (open-reached q f t (opening-query w) (opening-cards w))
 
   pub some-block : 1 ≤ q .block
   some-block = query-out q (opening-query w) .block .0

@@ -12,12 +12,16 @@ use Rattle.rules.specs.declared.Query.{Query}
 use Rattle.rules.specs.declared.Session.{Session}
 use Rattle.rules.specs.Session.{weights}
 use Rattle.demand.specs.Demand.{Call, Line, promised, isAccepted, Follows, byRules}
+use Rattle.rules.specs.Tables.{Table, lentTable}
 
 -- ---- Small tables and queries
 
--- a row at a place of the a axis, and the rows after it
-abbrev pub rowThen : ℤ → ℤ → List ℤ → List ℤ
-rowThen score a rest = pos 1 ∷ score ∷ a ∷ pos 0 ∷ rest
+-- a table of no rows; a row at a place of the a axis, and the rows after it
+abbrev pub noRows : Table
+noRows = lentTable []
+
+abbrev pub rowThen : ℤ → ℤ → Table → Table
+rowThen score a rest = lentTable (pos 1 ∷ score ∷ a ∷ pos 0 ∷ rest .numbers)
 
 -- the best pair of rows at one place, by blocks of so many rows
 abbrev pub topOne : ℕ → Query
@@ -34,8 +38,8 @@ trimRows n = record { 0 = n }
 -- a call with the two slices lent to it
 pub record Lending : Type 0 where
   pub call : Call
-  pub field : List ℤ
-  pub trim : List ℤ
+  pub field : Table
+  pub trim : Table
 
 -- the line that the rules give of a call on record s
 abbrev pub lineOf : Session → Lending → Line
@@ -73,9 +77,9 @@ same-rules s lines others e =
 -- a call that is lent the two tables, or other slices
 pub data Asked : Type 0 where
   own : Call → Asked
-  astray : Call → List ℤ → List ℤ → Asked
+  astray : Call → Table → Table → Asked
 
-module _ (f t : List ℤ) where
+module _ (f t : Table) where
   abbrev pub lent : Asked → Lending
   lent (own c) = record { call = c; field = f; trim = t }
   lent (astray c f₁ t₁) = record { call = c; field = f₁; trim = t₁ }

@@ -11,7 +11,7 @@ use Rattle.rules.specs.declared.Query.{Query}
 use Rattle.rules.specs.declared.Session.{Session}
 use Rattle.rules.specs.declared.Answer.{Answer}
 use Rattle.rules.specs.Numbers.{said}
-use Rattle.rules.specs.Tables.{Table, lent, qualifies}
+use Rattle.rules.specs.Tables.{Table, lentTable, qualifies}
 use Rattle.rules.specs.Session.{places, ceiling}
 use Rattle.rules.specs.Calls.{openCall, readCall, takeCall}
 use Rattle.rules.specs.File.{lineFeed, columnFits, columnNumber}
@@ -140,7 +140,7 @@ tableAt s =
     ∷ entry (pos (ceiling fields trims s) ∷ []) (pos 140 ∷ [])
     ∷ entry (told (takeCall fields trims s .answer)) (pos 2 ∷ pos 140 ∷ pos 1 ∷ pos 2 ∷ [])
     ∷ entry (account (settledSession query fields trims)) (pos 4 ∷ pos 4 ∷ pos 10 ∷ [])
-    ∷ entry (told (takeCall (lent []) trims (openCall query (lent []) trims .session) .answer)) (pos 4 ∷ [])
+    ∷ entry (told (takeCall (lentTable []) trims (openCall query (lentTable []) trims .session) .answer)) (pos 4 ∷ [])
     ∷ []
 
 pub table : List Entry

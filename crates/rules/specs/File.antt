@@ -8,7 +8,7 @@ use lib.ListN.{length, getD, take, drop}
 use Rattle.lists.specs.Lists.{every, range, each}
 use Rattle.rules.specs.declared.Loaded.{Loaded}
 use Rattle.rules.specs.declared.Loaded.the-variants.{Rows, Unfit}
-use Rattle.rules.specs.Tables.{Table, lent, width, afterRows, mostRows, natOf}
+use Rattle.rules.specs.Tables.{Table, lentTable, width, afterRows, mostRows, natOf}
 use Rattle.rules.specs.Numbers.{tableSize, cutFile, badColumn, wrongKind, shortSlice, unless, first, saidOf}
 use Rattle.rules.specs.Numbers.{signed}
 use Rattle.rules.specs.Calls.{between, rowCode}
@@ -118,7 +118,7 @@ rowNumbers bytes i =
 
 -- the first n rows, as a table
 unfoldable pub fileTable : List ℕ → ℕ → Table
-fileTable bytes n = lent (each (rowNumbers bytes) (range 0 n))
+fileTable bytes n = lentTable (each (rowNumbers bytes) (range 0 n))
 
 -- "each row by 9, 6, 7": row i + 1, t being the file's table
 unfoldable pub fileRowCode : List ℕ → Table → ℕ → ℕ
@@ -163,7 +163,7 @@ andSlice room (Unfit code row) = Unfit code row
 
 -- the lent numbers after an answer: "the first 4 × count numbers are the rows, the rest untouched"
 unfoldable pub loadedInto : List ℕ → List ℤ → Loaded → List ℤ
-loadedInto bytes out (Rows n) = fileTable bytes n .numbers ++ afterRows n (lent out) .numbers
+loadedInto bytes out (Rows n) = fileTable bytes n .numbers ++ afterRows n (lentTable out) .numbers
 loadedInto bytes out (Unfit code row) = out
 
 -- Reading a file into a lent slice: the answer, and the slice after it

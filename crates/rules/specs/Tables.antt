@@ -20,8 +20,8 @@ abbrev pub table : ℕ → List ℤ → Table
 table n l = record { coordinates = n; numbers = l }
 
 -- a lent slice as a table
-abbrev pub lent : List ℤ → Table
-lent l = table 2 l
+abbrev pub lentTable : List ℤ → Table
+lentTable l = table 2 l
 
 -- how many numbers a row has: pattern number, score, and a shade of n coordinates
 abbrev pub width : ℕ → ℕ

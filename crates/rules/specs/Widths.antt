@@ -3,6 +3,7 @@ use mathlib.Core.Path.{_≡_, sym, ap, _∙_}
 use mathlib.Core.List.{List, [], _∷_}
 use Prim.Native.Nat.{ℕ, zero, suc, _+_, _*_, _-_, _/_, _%_, _≤_, _<_}
 use native.Mathlib.Nat.{mul-le-mul-left, mul-div-le, div-add-mod, mul-div-cancel-left, div-le-self}
+use native.Mathlib.Nat.{mul-comm, suc-mul, div-lt-iff-lt-mul}
 use native.Mathlib.Omega.{arith}
 use lib.IntN.{ℤ, pos}
 use lib.ListN.{length, getD, take, drop, length-take, length-drop}
@@ -72,6 +73,14 @@ module _ (t : Table) (a m : ℕ) where
   pub part-count : HasRows t (a + m) → rowCount (part t a m) ≡ m
   part-count h = rows-count (part t a m) m (part-length h)
 
+  -- and never more
+  pub part-most : rowCount (part t a m) ≤ m
+  part-most =
+      let few : length (part t a m .numbers) ≤ w * m = simp (length-take, length-drop) (omega arith) in
+      let more : length (part t a m .numbers) < suc m * w = omega (arith, mul-comm w m, suc-mul m w) in
+      let below = div-lt-iff-lt-mul {k = w} {x = length (part t a m .numbers)} {y = suc m} (omega arith) .1 more in
+      omega arith
+
   pub part-num : (i j : ℕ) → i < m → j < w → num (part t a m) i j ≡ num t (a + i) j
   part-num i j h k =
       let e : w * a + (w * i + j) ≡ w * (a + i) + j = omega arith in
@@ -85,13 +94,21 @@ module _ (t : Table) (a m : ℕ) where
       cut (w * i + 2) (t .coordinates) (w * a) (w * m) (t .numbers) (omega (arith, next-row w i m h))
       ∙ ap (λ (o : ℕ). take (t .coordinates) (drop o (t .numbers))) e
 
--- all rows are the table
+-- a part from the front, and all rows
+pub part-front : (t : Table) (m : ℕ) → part t 0 m ≡ firstRows m t
+part-front t m =
+    let z : width (t .coordinates) * 0 ≡ 0 = omega arith in
+    ap (λ (k : ℕ). table (t .coordinates) (take (width (t .coordinates) * m) (drop k (t .numbers)))) z
+
 pub part-all : (t : Table) (m : ℕ) → length (t .numbers) ≤ width (t .coordinates) * m → part t 0 m ≡ t
 part-all t m h =
+    part-front t m ∙ ap (table (t .coordinates)) (take-all (width (t .coordinates) * m) (t .numbers) h)
+
+-- no rows, wherever they were looked for
+pub part-none : (t : Table) (a : ℕ) → part t a 0 ≡ table (t .coordinates) []
+part-none t a =
     let z : width (t .coordinates) * 0 ≡ 0 = omega arith in
-    ap (table (t .coordinates))
-    (ap (λ (k : ℕ). take (width (t .coordinates) * m) (drop k (t .numbers))) z
-    ∙ take-all (width (t .coordinates) * m) (t .numbers) h)
+    ap (λ (k : ℕ). table (t .coordinates) (take k (drop (width (t .coordinates) * a) (t .numbers)))) z
 
 -- the first m rows
 module _ (t : Table) (m : ℕ) where
@@ -106,6 +123,17 @@ module _ (t : Table) (m : ℕ) where
 
   pub first-num : (i j : ℕ) → i < m → j < v → num (firstRows m t) i j ≡ num t i j
   first-num i j h k = getD-take (v * m) (t .numbers) (v * i + j) (pos 0) (omega (arith, next-row v i m h))
+
+  -- the first of the first, and a part of them
+  pub first-first : (k : ℕ) → k ≤ m → firstRows k (firstRows m t) ≡ firstRows k t
+  first-first k h = ap (table (t .coordinates)) (take-take (v * k) (v * m) (t .numbers) (mul-le-mul-left v h))
+
+  pub part-first : (a k : ℕ) → a + k ≤ m → part (firstRows m t) a k ≡ part t a k
+  part-first a k h =
+      let e : 0 + v * a ≡ v * a = omega arith in
+      ap (table (t .coordinates))
+      (cut (v * a) (v * k) 0 (v * m) (t .numbers) (omega (arith, mul-le-mul-left v h))
+      ∙ ap (λ (o : ℕ). take (v * k) (drop o (t .numbers))) e)
 
   pub first-shade : (i : ℕ) → i < m → shadeAt (firstRows m t) i ≡ shadeAt t i
   first-shade i h =
