@@ -4,6 +4,7 @@ use native.Mathlib.Omega.{arith}
 use lib.ListN.{length}
 use Prim.Native.Nat.{_≤_}
 use mathlib.Core.Bool.{Bool, cond}
+use Rattle.rules.specs.Session.{lentTable}
 use Rattle.rules.specs.Tables.{mostRows, HasRows}
 use Rattle.rules.specs.Read.{oldDepth, newDepth}
 use Rattle.rules.proofs.Places.{places-long}
@@ -19,7 +20,7 @@ known c =
     let s = c .before in
     let a = s .args in
     let long = places-long (a .s) _ (s .good .1 .1 .0) in
-    due (a .f .now) (a .t .now) (a .s) (s .pre .0 .lent) long (s .pre .1) (c .field-next .result)
+    due (lentTable (a .s) (a .f .now)) (lentTable (a .s) (a .t .now)) (a .s) (s .pre .0 .lent) long (s .pre .1) (c .field-next .result)
     (c .field-next .ensures)
 
 field-next-requires : tie.Need-field-next-requires
@@ -57,7 +58,7 @@ inside : (c : tie.After-next-depth)
     (c .next-depth .result)
 inside c =
     let a = chosen c .before .args in
-    let k = new-inside (a .f .now) (a .t .now) (a .s) (chosen c .field-next .result) (known (chosen c)) in
+    let k = new-inside (lentTable (a .s) (a .f .now)) (lentTable (a .s) (a .t .now)) (a .s) (chosen c .field-next .result) (known (chosen c)) in
     omega (arith, old (c .before), new c, k .0, k .1, k .2)
 
 cast-from : tie.Need-cast-from
@@ -74,8 +75,8 @@ rows-code-requires c κs =
     let next = chosen (c .before) in
     let a = next .before .args in
     let k = inside (c .before) in
-    let e : length (cond (next .field-next .result) (a .f .now) (a .t .now)) ≡ length (a .f .now) =
-    ap (λ (b : Bool). length (cond b (a .f .now) (a .t .now))) (c .if1 .taken) in
+    let e : length (cond (next .field-next .result) (lentTable (a .s) (a .f .now)) (lentTable (a .s) (a .t .now))) ≡ length (lentTable (a .s) (a .f .now)) =
+    ap (λ (b : Bool). length (cond b (lentTable (a .s) (a .f .now)) (lentTable (a .s) (a .t .now)))) (c .if1 .taken) in
     omega (arith, k .0, k .1, k .2, e)
 
 returns : tie.Need-returns
@@ -83,9 +84,9 @@ returns c =
     let depth = c .before .before in
     let a = chosen depth .before .args in
     let next = chosen depth .field-next in
-    let own = sym (ap (λ (b : Bool). cond b (a .f .now) (a .t .now)) (c .before .if1 .taken)) in
+    let own = sym (ap (λ (b : Bool). cond b (lentTable (a .s) (a .f .now)) (lentTable (a .s) (a .t .now))) (c .before .if1 .taken)) in
     c .rows-code .ensures
-    ∙ code-is (a .f .now) (a .t .now) (a .s) (next .result) (next .ensures) (a .f .now)
+    ∙ code-is (lentTable (a .s) (a .f .now)) (lentTable (a .s) (a .t .now)) (a .s) (next .result) (next .ensures) (lentTable (a .s) (a .f .now))
     (depth .before .pick2 .result) (depth .next-depth .result) own (old (depth .before)) (new depth)
 
 rows-code-requires-2 : tie.Need-rows-code-requires-2
@@ -93,8 +94,8 @@ rows-code-requires-2 c κs =
     let next = chosen (c .before) in
     let a = next .before .args in
     let k = inside (c .before) in
-    let e : length (cond (next .field-next .result) (a .f .now) (a .t .now)) ≡ length (a .t .now) =
-    ap (λ (b : Bool). length (cond b (a .f .now) (a .t .now))) (c .if1 .left) in
+    let e : length (cond (next .field-next .result) (lentTable (a .s) (a .f .now)) (lentTable (a .s) (a .t .now))) ≡ length (lentTable (a .s) (a .t .now)) =
+    ap (λ (b : Bool). length (cond b (lentTable (a .s) (a .f .now)) (lentTable (a .s) (a .t .now)))) (c .if1 .left) in
     omega (arith, k .0, k .1, k .2, e)
 
 returns-2 : tie.Need-returns-2
@@ -102,9 +103,9 @@ returns-2 c =
     let depth = c .before .before in
     let a = chosen depth .before .args in
     let next = chosen depth .field-next in
-    let own = sym (ap (λ (b : Bool). cond b (a .f .now) (a .t .now)) (c .before .if1 .left)) in
+    let own = sym (ap (λ (b : Bool). cond b (lentTable (a .s) (a .f .now)) (lentTable (a .s) (a .t .now))) (c .before .if1 .left)) in
     c .rows-code2 .ensures
-    ∙ code-is (a .f .now) (a .t .now) (a .s) (next .result) (next .ensures) (a .t .now)
+    ∙ code-is (lentTable (a .s) (a .f .now)) (lentTable (a .s) (a .t .now)) (a .s) (next .result) (next .ensures) (lentTable (a .s) (a .t .now))
     (depth .before .pick2 .result) (depth .next-depth .result) own (old (depth .before)) (new depth)
 
 pub new-block-code-spec : {M : Type 1} → statement M
