@@ -24,12 +24,13 @@ fn is_finished(f: &[i32], t: &[i32], s: Session) -> bool
     requires { ⌜ Accepted (lentTable s (now f)) (lentTable s (now t)) s ⌝ }
     ensures { λ r. ⌜ r ≡ finished (lentTable s (now (f .entry))) (lentTable s (now (t .entry))) s ⌝ }
 {
-    let rows = s.rows;
-    let n = rows.card;
+    let n = s.rows.card;
+    let l = s.rows.field.0;
+    let m = s.rows.trim.0;
     let d = s.depth.field.0;
     let e = s.depth.trim.0;
-    let empty = ceiling::is_empty(n, f, rows.field.0, d) | ceiling::is_empty(n, t, rows.trim.0, e);
-    let out = ceiling::read_out(n, f, rows.field.0, d) & ceiling::read_out(n, t, rows.trim.0, e);
+    let empty = ceiling::is_empty(n, f, l, d) | ceiling::is_empty(n, t, m, e);
+    let out = ceiling::read_out(n, f, l, d) & ceiling::read_out(n, t, m, e);
     (s.out == s.query.k) | (empty | (out & (s.held == 0)))
 }
 

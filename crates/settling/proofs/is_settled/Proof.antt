@@ -7,6 +7,7 @@ use lib.ListN.{length}
 use borrow.Author.Tests.{eq-eqb, ne-eqb}
 use Rattle.rules.specs.Session.{lentTable, placeCount, aTableIsEmpty, bothReadOut, settledBy}
 use Rattle.rules.proofs.Places.{places-long}
+use Rattle.ceiling.specs.BothRead.{RowsRead, accepted-rows}
 use Rattle.ceiling.specs.Last.{held-then-read, held-secured}
 use borrow.Author.Needs.{needs}
 use Rattle.settling.proofs.is_settled.Statement.{statement}
@@ -27,11 +28,19 @@ undecided c = c .before .before .before .before
 some : (c : tie.Else4) → 0 < start (undecided (c .before) .before) .args .s .held
 some c = omega (arith, c .if4 .left, c .before .before .before .if3 .left)
 
+-- the rows read are there, and were not refused
+rows : (s : tie.Start) → let a = s .args in
+    RowsRead (lentTable (a .s) (a .f .now)) (a .s .depth .field .0)
+    × RowsRead (lentTable (a .s) (a .t .now)) (a .s .depth .trim .0)
+rows s =
+    let a = s .args in
+    accepted-rows (lentTable (a .s) (a .f .now)) (lentTable (a .s) (a .t .now)) (a .s) (s .pre .0)
+
 is-empty-requires : tie.Need-is-empty-requires
-is-empty-requires c κs = search needs
+is-empty-requires c κs = rows c .0 .there
 
 is-empty-requires-2 : tie.Need-is-empty-requires-2
-is-empty-requires-2 c κs = search needs
+is-empty-requires-2 c κs = rows (c .before) .1 .there
 
 -- what was asked of both tables, by the rules' names
 empty : (c : tie.After-is-empty2) → let a = c .before .before .args in
@@ -47,10 +56,10 @@ unfolding settledBy
 returns c = simp (empty (c .before) ∙ c .if1 .taken) refl
 
 read-out-requires : tie.Need-read-out-requires
-read-out-requires c κs = search needs
+read-out-requires c κs = rows (c .before .before .before) .0
 
 read-out-requires-2 : tie.Need-read-out-requires-2
-read-out-requires-2 c κs = search needs
+read-out-requires-2 c κs = rows (c .before .before .before .before) .1
 
 returns-2 : tie.Need-returns-2
 unfolding settledBy
