@@ -2,7 +2,7 @@
 use native.Mathlib.Omega.{arith}
 use mathlib.Core.Path.{refl}
 use Prim.Native.Nat.{_+_, _≤_}
-use Rattle.rules.specs.Tables.{pairAt, pairSum}
+use Rattle.rules.specs.Tables.{table, pairAt, pairSum}
 use Rattle.rules.specs.Calls.{mostSum}
 use Rattle.session_laws.specs.Tables.{weighted-most}
 use borrow.Author.Needs.{needs}
@@ -15,8 +15,8 @@ low c =
     let s = c .before .before in
     let a = s .args in
     let fits = s .pre .0 in
-    let first = weighted-most (a .x .now) (a .i) (fits .1) (a .q .weights .field .0) (fits .0 .field-weight .1) in
-    let second = weighted-most (a .y .now) (a .j) (fits .2) (a .q .weights .trim .0) (fits .0 .trim-weight .1) in
+    let first = weighted-most (table (a .n) (a .x .now)) (a .i) (fits .1) (a .q .weights .field .0) (fits .0 .field-weight .1) in
+    let second = weighted-most (table (a .n) (a .y .now)) (a .j) (fits .2) (a .q .weights .trim .0) (fits .0 .trim-weight .1) in
     omega (arith, c .before .weighted .ensures .0, c .weighted2 .ensures .0)
 
 weighted-requires : tie.Need-weighted-requires

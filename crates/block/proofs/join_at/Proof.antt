@@ -1,4 +1,4 @@
--- `join` meets its contract: the pairs held are those of all pairs of rows passed so far, pair by pair is all at once,
+-- `join_at` meets its contract: the pairs held are those of all pairs of rows passed so far, pair by pair is all at once,
 -- and withdrawn rows qualify with none. Assumes nothing.
 use mathlib.Core.Path.{_≡_, refl, sym, ap, subst, _∙_}
 use mathlib.Core.Logic.{⊎-elim}
@@ -10,35 +10,36 @@ use lib.ListN.{length, getD}
 use borrow.Author.Needs.{needs}
 use borrow.Author.Tests.{not-false, eqb-true}
 use Rattle.lists.specs.Bools.{and-out}
-use Rattle.rules.specs.Tables.{terms, rowCount}
+use Rattle.rules.specs.Tables.{table, terms, rowCount}
+use Rattle.rules.specs.Widths.{has-row}
 use Rattle.block.specs.Block.{at}
 use Rattle.block.specs.Live.{none-beyond-first, none-beyond-second}
 use Rattle.block.specs.Small.{rows-small}
 use Rattle.block.proofs.Turns as Turns
-use Rattle.block.proofs.join.Statement.{statement}
-use Rattle.block.proofs.join.Tie as tie
+use Rattle.block.proofs.join_at.Statement.{statement}
+use Rattle.block.proofs.join_at.Tie as tie
 
 abbrev Inv-loop : tie.InvT-loop
-Inv-loop q room x a y c keys₀ held m n last g₀ i₀ j₀ keys g i j =
-    (i ≤ m) × (j ≤ n) × (m ≤ i → j ≡ 0) × (g ≤ room) × (length keys ≡ 64) × Turns.Met (terms q) room (at a x)
-    (at c y) held keys₀ i j g keys
+Inv-loop n q room x a y c keys₀ held l m last g₀ i₀ j₀ keys g i j =
+    (i ≤ l) × (j ≤ m) × (l ≤ i → j ≡ 0) × (g ≤ room) × (length keys ≡ 64)
+    × Turns.Met (terms q) room (at a (table n x)) (at c (table n y)) held keys₀ i j g keys
 
 -- the pairs of rows that are left, one more for the end of each row
 abbrev μ-loop : tie.MeasureT-loop
-μ-loop q room x a y c keys₀ held m n last g₀ i₀ j₀ keys g i j = (m - i) * (n + 1) + (n - j)
+μ-loop n q room x a y c keys₀ held l m last g₀ i₀ j₀ keys g i j = (l - i) * (m + 1) + (m - j)
 
-row-less : (m n i j : ℕ) → i < m → (m - (i + 1)) * (n + 1) + (n - 0) < (m - i) * (n + 1) + (n - j)
-row-less m n i j h =
-    let a = m - (i + 1) in
-    let e : (m - i) * (n + 1) ≡ a * (n + 1) + (n + 1) =
-    ap (λ (k : ℕ). k * (n + 1)) (omega (arith, h)) ∙ suc-mul a (n + 1) in
+row-less : (l m i j : ℕ) → i < l → (l - (i + 1)) * (m + 1) + (m - 0) < (l - i) * (m + 1) + (m - j)
+row-less l m i j h =
+    let a = l - (i + 1) in
+    let e : (l - i) * (m + 1) ≡ a * (m + 1) + (m + 1) =
+    ap (λ (k : ℕ). k * (m + 1)) (omega (arith, h)) ∙ suc-mul a (m + 1) in
     omega (arith, e)
 
 live-rows-requires : tie.Need-live-rows-requires Inv-loop μ-loop
-live-rows-requires c κs = c .pre .1 .1 .below
+live-rows-requires c κs = c .pre .1 .2 .below
 
 live-rows-requires-2 : tie.Need-live-rows-requires-2 Inv-loop μ-loop
-live-rows-requires-2 c κs = c .before .pre .1 .2 .below
+live-rows-requires-2 c κs = c .before .pre .1 .3 .below
 
 add-last : tie.Need-add-last Inv-loop μ-loop
 add-last c = omega arith
@@ -51,8 +52,8 @@ loop-holds c =
       λ _. refl,
       s .pre .0 .0,
       s .pre .0 .2,
-      Turns.start (terms (s .args .q)) (s .args .room) (at (s .args .a) (s .args .x .now))
-          (at (s .args .c) (s .args .y .now)) (s .args .held) (s .args .keys .now),
+      Turns.start (terms (s .args .q)) (s .args .room) (at (s .args .a) (table (s .args .n) (s .args .x .now)))
+          (at (s .args .c) (table (s .args .n) (s .args .y .now))) (s .args .held) (s .args .keys .now),
     )
 
 next-near-requires : tie.Need-next-near-requires Inv-loop μ-loop
@@ -61,28 +62,32 @@ next-near-requires c κs =
     let s = live .before .before in
     let a = s .args in
     let turn = c .loop-test .taken in
-    let x = live .before .live-rows .ensures in (
+    let x = table (a .n) (a .x .now) in
+    let y = table (a .n) (a .y .now) in
+    let first = live .before .live-rows .ensures in (
       (
-        omega (arith, x .upto, turn),
-        x .live _ (omega (arith, turn)),
+        has-row x _ (omega (arith, first .upto, turn)),
+        first .live _ (omega (arith, turn)),
         live .live-rows2 .ensures,
         c .before .loop .inv .1,
       ),
-      rows-small (a .q) (a .a) (a .c) (a .x .now) (a .y .now) (s .pre .1 .0) (s .pre .1 .1) (s .pre .1 .2),
+      rows-small (a .q) (a .a) (a .c) x y (s .pre .1 .1) (s .pre .1 .0) (s .pre .1 .2) (s .pre .1 .3),
     )
 
 pair-at-requires : tie.Need-pair-at-requires Inv-loop μ-loop
 pair-at-requires c κs =
     let live = c .before .before .before .before in
     let s = live .before .before in
-    let x = s .pre .1 .1 in
-    let y = s .pre .1 .2 in
-    let turn : c .before .before .before .loop .i < rowCount (s .args .x .now) =
+    let fields = table (s .args .n) (s .args .x .now) in
+    let trims = table (s .args .n) (s .args .y .now) in
+    let x = s .pre .1 .2 in
+    let y = s .pre .1 .3 in
+    let turn : c .before .before .before .loop .i < rowCount fields =
     omega (arith, c .before .before .loop-test .taken, live .before .live-rows .ensures .upto) in
-    let h : c .before .next-near .result < rowCount (s .args .y .now) =
+    let h : c .before .next-near .result < rowCount trims =
     omega (arith, c .if1 .taken, live .live-rows2 .ensures .upto) in (
       (s .pre .1 .0, x .range _ turn, y .range _ h),
-      omega (arith, h, turn, x .whole, x .few, y .whole, y .few),
+      (has-row fields _ turn, has-row trims _ h, omega (arith, turn, x .few), omega (arith, h, y .few)),
     )
 
 key-requires : tie.Need-key-requires Inv-loop μ-loop
@@ -115,8 +120,8 @@ loop-again c =
     let s = live .before .before in
     let v = c .before .before .before .before .before .before .before .loop in
     let near = found .next-near in
-    let x = at (s .args .a) (s .args .x .now) in
-    let y = at (s .args .c) (s .args .y .now) in
+    let x = at (s .args .a) (table (s .args .n) (s .args .x .now)) in
+    let y = at (s .args .c) (table (s .args .n) (s .args .y .now)) in
     let n = s .args .held in
     let a = s .args .keys .now in
     let p = c .before .before .before .pair-at in
@@ -163,8 +168,8 @@ loop-again-2 c =
     let s = live .before .before in
     let v = c .before .before .before .loop in
     let near = c .before .next-near in
-    let x = at (s .args .a) (s .args .x .now) in
-    let y = at (s .args .c) (s .args .y .now) in
+    let x = at (s .args .a) (table (s .args .n) (s .args .x .now)) in
+    let y = at (s .args .c) (table (s .args .n) (s .args .y .now)) in
     let n = s .args .held in
     let a = s .args .keys .now in
     let last = live .live-rows2 .ensures in
@@ -187,8 +192,8 @@ returns c =
     let live = c .before .before in
     let s = live .before .before in
     let v = c .before .loop in
-    let x = at (s .args .a) (s .args .x .now) in
-    let y = at (s .args .c) (s .args .y .now) in
+    let x = at (s .args .a) (table (s .args .n) (s .args .x .now)) in
+    let y = at (s .args .c) (table (s .args .n) (s .args .y .now)) in
     let n = s .args .held in
     let a = s .args .keys .now in
     let last = live .before .live-rows .ensures in
@@ -201,8 +206,8 @@ returns c =
     (omega (arith, v .inv .0, last .upto)) (λ i h k j _. none i j (omega (arith, h, passed)) k) met (s .pre .0 .0)
     (v .inv .3) (v .inv .4)
 
-pub join-spec : {M : Type 1} → statement M
-join-spec =
+pub join-at-spec : {M : Type 1} → statement M
+join-at-spec =
     tie.close
     (tie.spec
     Inv-loop
