@@ -16,7 +16,7 @@ use Rattle.rules.specs.declared.Session.{Session}
 use Rattle.rules.specs.declared.Step.{Step}
 use Rattle.rules.specs.declared.Answer.{Answer}
 use Rattle.rules.specs.declared.Answer.the-variants.{Refused, Opened, Read, Given, Finished}
-use Rattle.rules.specs.Tables.{Table, lentTable, natOf, Row, row, rowsQualify}
+use Rattle.rules.specs.Tables.{Table, oldTable, natOf, Row, row, rowsQualify}
 use Rattle.rules.specs.Session.{weights}
 use Rattle.rules.specs.Sure.{Sure, qualifyingSums}
 use Rattle.rules.specs.Calls.{openCall}
@@ -36,14 +36,14 @@ numbers n s a b rest = n ∷ s ∷ a ∷ b ∷ rest
 -- the rules' two tables, but for the fifth rows
 abbrev fieldsTo : List ℤ → Table
 fieldsTo rest =
-    lentTable
+    oldTable
     (numbers (pos 101) (pos 90) (pos 0) (pos 0)
     (numbers (pos 102) (pos 80) (pos 100) (pos 0)
     (numbers (pos 103) (pos 60) (pos 0) (pos 300) (numbers (pos 104) (pos 40) (pos 500) (pos 500) rest))))
 
 abbrev trimsTo : List ℤ → Table
 trimsTo rest =
-    lentTable
+    oldTable
     (numbers (pos 201) (pos 70) (pos 400) (pos 0)
     (numbers (pos 202) (pos 50) (pos 3) (pos 4)
     (numbers (pos 203) (pos 30) (pos 100) (pos 5) (numbers (pos 204) (pos 20) (pos 0) (pos 300) rest))))
@@ -73,7 +73,7 @@ takes = own taking
 
 -- lent no field table at all
 abbrev strays : Asked
-strays = astray taking (lentTable []) trims
+strays = astray taking [] (trims .numbers)
 
 abbrev pub calls : List Asked
 calls =

@@ -7,18 +7,20 @@ use lib.Dec.{leb, ltb, eqb}
 use lib.IntN.{ℤ}
 use lib.ListN.{drop}
 use Rattle.lists.specs.Lists.{every, all, ranked}
+use Rattle.rules.specs.declared.Card.the-variants.{Old, New}
 use Rattle.rules.specs.declared.Pair.{Pair}
 use Rattle.rules.specs.declared.Query.{Query}
 use Rattle.rules.specs.declared.Session.{Session}
 use Rattle.rules.specs.declared.Step.{Step}
 use Rattle.rules.specs.declared.Answer.{Answer}
 use Rattle.rules.specs.declared.Answer.the-variants.{Refused, Opened, Read, Settled, Given, NotYet, Finished}
-use Rattle.rules.specs.Tables.{Table, Terms, terms, width, mostRows, rowCount, rowInRange, rowInOrder, sizeFits, ahead}
-use Rattle.rules.specs.Session.{opened, zeros, heldPairs, settledBy}
+use Rattle.rules.specs.Tables.{Table, coordinates, Terms, terms, width, mostRows, rowCount, rowInRange, rowInOrder}
+use Rattle.rules.specs.Tables.{sizeFits, ahead}
+use Rattle.rules.specs.Session.{twoTables, opened, zeros, heldPairs, settledBy}
 use Rattle.rules.specs.Read.{blockCount, fieldNextBy, oldDepth, newDepth, readBlockBy}
 use Rattle.rules.specs.Take.{firstHeld, givesPairBy, movedOut, finished, lastBlock, shownRows}
 use Rattle.rules.specs.Numbers.{listLength, blockSize, radiusRange, weightRange, tableSize, badRecord, rowLimit}
-use Rattle.rules.specs.Numbers.{rowOrder, otherCard, unless, first}
+use Rattle.rules.specs.Numbers.{rowOrder, wrongKind, otherCard, unless, first}
 
 abbrev pub between : ℕ → ℕ → ℕ → Bool
 between low high n = leb low n && leb n high
@@ -77,6 +79,10 @@ markFits s =
 abbrev pub isZeros : Pair → Bool
 isZeros p = eqb (p .sum) 0 && (eqb (p .field) 0 && eqb (p .trim) 0)
 
+-- 5: "a card that is neither of the two", by the number of its coordinates
+abbrev pub isCard : ℕ → Bool
+isCard n = eqb n (coordinates Old) || eqb n (coordinates New)
+
 -- 5: its grounds, in the rules' order, as tests that must all pass
 abbrev pub recordGrounds : Session → List Bool
 recordGrounds s =
@@ -90,6 +96,7 @@ recordGrounds s =
     ∷ every isZeros (drop (s .held) (s .pairs))
     ∷ leb (s .joined)
     (blockCount (s .query .block) (s .depth .field .0) * blockCount (s .query .block) (s .depth .trim .0))
+    ∷ isCard (s .rows .card)
     ∷ []
 
 unfoldable pub recordFits : Session → Bool
@@ -120,18 +127,22 @@ newBlockCode = newBlockCodeBy terms
 abbrev pub step : Answer → Session → Step
 step a s = record { answer = a; session = s }
 
+-- 10: a kind that is not the table's has no card
+unfoldable pub kindCode : Table → ℕ
+kindCode t = unless (isCard (t .coordinates)) wrongKind
+
 -- 15, "the two tables opened .. are on different cards"
 unfoldable pub cardsCode : Table → Table → ℕ
 cardsCode f t = unless (eqb (f .coordinates) (t .coordinates)) otherCard
 
--- "Opening checks 1, 2, 3, 4 (field, then trim), 12 after 3", 15 "after the 4 of both"; "refused, its record is all
--- zeros."
+-- "Opening checks 1, 2, 3, 4 (field, then trim), 12 after 3", 10 "just before 4", of both tables, 15 "after the 4 of
+-- both"; "refused, its record is all zeros."
 unfoldable pub openCode : Query → Table → Table → ℕ
-openCode q f t = first (queryCode q ∷ sizeCode f ∷ sizeCode t ∷ cardsCode f t ∷ [])
+openCode q f t = first (queryCode q ∷ kindCode f ∷ kindCode t ∷ sizeCode f ∷ sizeCode t ∷ cardsCode f t ∷ [])
 
 unfoldable pub openCall : Query → Table → Table → Step
 openCall q f t =
-    cond (eqb (openCode q f t) 0) (step Opened (opened q (record { 0 = rowCount f }) (record { 0 = rowCount t })))
+    cond (eqb (openCode q f t) 0) (step Opened (opened q (twoTables f t)))
     (step (Refused (openCode q f t)) zeros)
 
 -- Read. "A refused read or take returns the record it was given." "In a settled session it answers "settled", reads

@@ -11,11 +11,11 @@ use Rattle.rules.specs.declared.Query.{Query}
 use Rattle.rules.specs.declared.Session.{Session}
 use Rattle.rules.specs.declared.Answer.{Answer}
 use Rattle.rules.specs.Numbers.{said}
-use Rattle.rules.specs.Tables.{Table, lentTable, qualifies}
+use Rattle.rules.specs.Tables.{Table, oldTable, qualifies}
 use Rattle.rules.specs.Session.{places, ceiling}
 use Rattle.rules.specs.Calls.{openCall, readCall, takeCall}
 use Rattle.rules.specs.File.{lineFeed, columnFits, columnNumber}
-use Rattle.rules.specs.Query.{wholeQuery, settledSession, tableOf, inputQuery}
+use Rattle.rules.specs.Query.{wholeQuery, settledSession, fieldFileTable, trimFileTable, inputQuery}
 use Rattle.rules.specs.Run.{run}
 
 abbrev pub bytesFrom : String → ℕ → ℕ → List ℕ
@@ -71,10 +71,10 @@ unfolding run
 worked = refl
 
 abbrev pub fields : Table
-fields = tableOf fieldFile
+fields = fieldFileTable fieldFile
 
 abbrev pub trims : Table
-trims = tableOf trimFile
+trims = trimFileTable trimFile
 
 abbrev pub query : Query
 query = inputQuery input
@@ -113,7 +113,7 @@ abbrev five : Session
 five =
     record {
       query = query;
-      rows = record { field = record { 0 = 5 }; trim = record { 0 = 5 } };
+      rows = record { field = record { 0 = 5 }; trim = record { 0 = 5 }; card = 2 };
       depth = record { field = record { 0 = 3 }; trim = record { 0 = 2 } };
       last = 1;
       out = 0;
@@ -140,7 +140,7 @@ tableAt s =
     ∷ entry (pos (ceiling fields trims s) ∷ []) (pos 140 ∷ [])
     ∷ entry (told (takeCall fields trims s .answer)) (pos 2 ∷ pos 140 ∷ pos 1 ∷ pos 2 ∷ [])
     ∷ entry (account (settledSession query fields trims)) (pos 4 ∷ pos 4 ∷ pos 10 ∷ [])
-    ∷ entry (told (takeCall (lentTable []) trims (openCall query (lentTable []) trims .session) .answer)) (pos 4 ∷ [])
+    ∷ entry (told (takeCall (oldTable []) trims (openCall query (oldTable []) trims .session) .answer)) (pos 4 ∷ [])
     ∷ []
 
 pub table : List Entry

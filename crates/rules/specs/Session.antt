@@ -3,15 +3,15 @@ use Prim.Native.Nat.{ℕ, zero, suc, _+_, _-_, max}
 use mathlib.Core.Bool.{Bool, true, false, cond, _&&_, _||_, not}
 use mathlib.Core.List.{List, [], _++_}
 use lib.Dec.{leb, ltb, eqb}
+use lib.IntN.{ℤ}
 use lib.ListN.{length, take, replicate}
 use Rattle.lists.specs.Lists.{every}
-use Rattle.rules.specs.declared.FieldRows.{FieldRows}
-use Rattle.rules.specs.declared.TrimRows.{TrimRows}
+use Rattle.rules.specs.declared.TwoTables.{TwoTables}
 use Rattle.rules.specs.declared.Pair.{Pair}
 use Rattle.rules.specs.declared.Weights.{Weights}
 use Rattle.rules.specs.declared.Query.{Query}
 use Rattle.rules.specs.declared.Session.{Session}
-use Rattle.rules.specs.Tables.{Table, Row, row, withdrawn, Terms, terms}
+use Rattle.rules.specs.Tables.{Table, table, rowCount, Row, row, withdrawn, Terms, terms}
 
 abbrev pub noPair : Pair
 noPair = record { sum = 0; field = 0; trim = 0 }
@@ -24,12 +24,21 @@ placeCount = 64
 unfoldable pub places : List Pair → List Pair
 places l = l ++ replicate (placeCount - length l) noPair
 
--- "Opening gives a record with nothing read": of a query and the tables' row counts
-unfoldable pub opened : Query → FieldRows → TrimRows → Session
-opened q m n =
+-- what opening fixes of two tables: their row counts, and "keeps the card in the record"
+abbrev pub twoTables : Table → Table → TwoTables
+twoTables f t =
+    record { field = record { 0 = rowCount f }; trim = record { 0 = rowCount t }; card = f .coordinates }
+
+-- lent numbers as a table, on a record's card
+abbrev pub lentTable : Session → List ℤ → Table
+lentTable s l = table (s .rows .card) l
+
+-- "Opening gives a record with nothing read": of a query and two tables
+unfoldable pub opened : Query → TwoTables → Session
+opened q tables =
     record {
       query = q;
-      rows = record { field = m; trim = n };
+      rows = tables;
       depth = record { field = record { 0 = 0 }; trim = record { 0 = 0 } };
       last = 0;
       out = 0;
@@ -44,7 +53,9 @@ weights v w = record { field = record { 0 = v }; trim = record { 0 = w } }
 
 -- "its record is all zeros"
 unfoldable pub zeros : Session
-zeros = opened (record { k = 0; block = 0; radius = 0; weights = weights 0 0 }) (record { 0 = 0 }) (record { 0 = 0 })
+zeros =
+    opened (record { k = 0; block = 0; radius = 0; weights = weights 0 0 })
+    (record { field = record { 0 = 0 }; trim = record { 0 = 0 }; card = 0 })
 
 -- "pairs held (at most k less those out, ranked ..)": those in the first places
 abbrev pub heldPairs : Session → List Pair

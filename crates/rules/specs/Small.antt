@@ -8,7 +8,7 @@ use lib.IntN.{ℤ, pos}
 use lib.ListN.{set, replicate}
 use Rattle.rules.specs.declared.Query.{Query}
 use Rattle.rules.specs.declared.Session.{Session}
-use Rattle.rules.specs.Tables.{Table, lentTable, part}
+use Rattle.rules.specs.Tables.{Table, oldTable, part}
 use Rattle.lists.specs.Lists.{each}
 use Rattle.rules.specs.Session.{weights, places, zeros, readOut, isEmpty, ceiling}
 use Rattle.rules.specs.Read.{fieldNext, skipped, rowsBetween}
@@ -49,7 +49,7 @@ show-nothing-read = refl
 
 -- a field table whose first score, which was read, is out of its range
 abbrev badFields : Table
-badFields = lentTable (set (fields .numbers) 1 (pos 10000))
+badFields = oldTable (set (fields .numbers) 1 (pos 10000))
 
 -- read and take refuse it; show, which checks 5 and 4 only, shows its rows
 pub bad-row-refused : callCode badFields trims (afterReads 1) ≡ 6
@@ -110,10 +110,10 @@ refusals =
     queryCode (asked 0 1 5)
     ∷ queryCode (asked 2 0 5)
     ∷ queryCode (asked 2 1 40001)
-    ∷ sizeCode (lentTable (pos 1 ∷ []))
+    ∷ sizeCode (oldTable (pos 1 ∷ []))
     ∷ recordCode zeros
     ∷ rowsCode badFields 0 1
-    ∷ rowsCode (lentTable (set (fields .numbers) 5 (pos 91))) 0 2
+    ∷ rowsCode (oldTable (set (fields .numbers) 5 (pos 91))) 0 2
     ∷ loaded "     1     1\n" 4
     ∷ loaded "    01     1\n" 4
     ∷ loaded "     0     2\n" 4
@@ -134,7 +134,7 @@ weightCodes =
     ∷ queryCode (weighing 1 0 (asked 2 1 5))
     ∷ queryCode (weighing 1 10 (asked 2 1 5))
     ∷ queryCode (weighing 0 0 (asked 2 1 40001))
-    ∷ openCode (weighing 0 0 (asked 2 1 5)) (lentTable (pos 1 ∷ [])) (lentTable [])
+    ∷ openCode (weighing 0 0 (asked 2 1 5)) (oldTable (pos 1 ∷ [])) (oldTable [])
     ∷ []
 
 pub weights-in-order : weightCodes ≡ 0 ∷ 12 ∷ 12 ∷ 12 ∷ 3 ∷ 12 ∷ []
@@ -156,7 +156,7 @@ sums-1-3 = refl
 -- Three rows each, no two of which qualify, a trim score counting twice. Two of each are read: the field table's score
 -- dropped by 10, the trim table's by 6, which is 12.
 abbrev apart : ℤ → List ℤ → Table
-apart a scores = lentTable (each (λ score. pos 1 ∷ score ∷ a ∷ pos 0 ∷ []) scores)
+apart a scores = oldTable (each (λ score. pos 1 ∷ score ∷ a ∷ pos 0 ∷ []) scores)
 
 abbrev tens : Table
 tens = apart (pos 0) (pos 20 ∷ pos 10 ∷ pos 0 ∷ [])
@@ -202,7 +202,7 @@ skipping-weighted = refl
 
 -- three rows at one place, by their scores
 abbrev together : List ℤ → Table
-together scores = lentTable (each (λ score. pos 1 ∷ score ∷ pos 0 ∷ pos 0 ∷ []) scores)
+together scores = oldTable (each (λ score. pos 1 ∷ score ∷ pos 0 ∷ pos 0 ∷ []) scores)
 
 abbrev oneLive : Table
 oneLive = together (pos 5 ∷ pos 0 ∷ pos 0 ∷ [])
@@ -240,12 +240,12 @@ depthsOf s = s .depth .field .0 ∷ s .depth .trim .0 ∷ []
 
 pub begins-withdrawn : depthsOf (settledSession (asked 1 1 0) noneLive allLive)
     ∷ depthsOf (settledSession (asked 1 1 0) allLive noneLive)
-    ∷ depthsOf (settledSession (asked 1 1 0) noneLive (lentTable []))
+    ∷ depthsOf (settledSession (asked 1 1 0) noneLive (oldTable []))
     ∷ [] ≡ (1 ∷ 0 ∷ []) ∷ (1 ∷ 1 ∷ []) ∷ (0 ∷ 0 ∷ []) ∷ []
 unfolding run
 begins-withdrawn = refl
 
--- ---- What a refused reading leaves in the lentTable numbers: a bad column in the second row, and too short a slice
+-- ---- What a refused reading leaves in the oldTable numbers: a bad column in the second row, and too short a slice
 
 abbrev twoRows : String
 twoRows = "     2     1\n     7     9      0      0\n     8     9      0     -0\n"
@@ -275,10 +275,10 @@ unfolding run
 remainders = refl
 
 abbrev one : Table
-one = lentTable (pos 7 ∷ pos 90 ∷ pos 0 ∷ pos 0 ∷ [])
+one = oldTable (pos 7 ∷ pos 90 ∷ pos 0 ∷ pos 0 ∷ [])
 
 abbrev near : Table
-near = lentTable (pos 8 ∷ pos 50 ∷ pos 1 ∷ pos 5 ∷ [])
+near = oldTable (pos 8 ∷ pos 50 ∷ pos 1 ∷ pos 5 ∷ [])
 
 -- "For 25 it prints 5 and 0" stands in the worked query; "for 26, 5 and 1"
 pub prints-26 :

@@ -7,6 +7,9 @@ use lib.IntN.{ℤ, pos, negsuc, natAbs, _-ℤ_}
 use lib.Signed.{leZ}
 use lib.ListN.{length, getD, take, drop}
 use Rattle.lists.specs.Lists.{keep, every, range, each}
+use Rattle.rules.specs.declared.Card.{Card}
+use Rattle.rules.specs.declared.Card.the-variants.{Old, New}
+use Rattle.rules.specs.declared.Kinds.{Kinds}
 use Rattle.rules.specs.declared.Pair.{Pair}
 use Rattle.rules.specs.declared.Query.{Query}
 
@@ -19,9 +22,33 @@ pub record Table : Type 0 where
 abbrev pub table : ℕ → List ℤ → Table
 table n l = record { coordinates = n; numbers = l }
 
--- a lent slice as a table
-abbrev pub lentTable : List ℤ → Table
-lentTable l = table 2 l
+-- The cards, and how many coordinates a shade has on each: "distance over L*, a* and b*" on the new one.
+abbrev pub coordinates : Card → ℕ
+coordinates Old = 2
+coordinates New = 3
+
+-- "Kinds 3 and 4 are field and trim on the new card"
+abbrev pub kindCard : ℕ → Card
+kindCard kind = cond (leb kind 2) Old New
+
+-- the coordinates of a kind's card; another kind has none
+unfoldable pub kindCoordinates : ℕ → ℕ
+kindCoordinates kind = cond (leb 1 kind && leb kind 4) (coordinates (kindCard kind)) 0
+
+-- "each table's kind, 1 or 3 for field and 2 or 4 for trim": lent numbers as a field table, and as a trim table
+abbrev pub fieldTable : Kinds → List ℤ → Table
+fieldTable kinds l =
+    let kind = kinds .field .0 in
+    table (cond (eqb kind 1 || eqb kind 3) (kindCoordinates kind) 0) l
+
+abbrev pub trimTable : Kinds → List ℤ → Table
+trimTable kinds l =
+    let kind = kinds .trim .0 in
+    table (cond (eqb kind 2 || eqb kind 4) (kindCoordinates kind) 0) l
+
+-- a table on the old card
+abbrev pub oldTable : List ℤ → Table
+oldTable l = table (coordinates Old) l
 
 -- how many numbers a row has: pattern number, score, and a shade of n coordinates
 abbrev pub width : ℕ → ℕ

@@ -8,7 +8,7 @@ use lib.Dec.{eqb}
 use lib.IntN.{ℤ, pos}
 use Rattle.lists.specs.Lists.{every, keep, each, best}
 use Rattle.rules.specs.declared.Query.{Query}
-use Rattle.rules.specs.Tables.{Table, lentTable, legal}
+use Rattle.rules.specs.Tables.{Table, oldTable, legal}
 use Rattle.rules.specs.Session.{weights}
 use Rattle.rules.specs.Sure.{qualifyingSums}
 use Rattle.rules.specs.Query.{list}
@@ -26,7 +26,7 @@ rows scores places = each (λ score. map (λ a. pos 1 ∷ pos score ∷ pos a �
 
 -- all legal tables of up to two of these rows
 pub tables : List (List ℤ) → List Table
-tables some = keep legal (map lentTable ([] ∷ (some ++ each (λ x. map (λ y. x ++ y) some) some)))
+tables some = keep legal (map oldTable ([] ∷ (some ++ each (λ x. map (λ y. x ++ y) some) some)))
 
 -- Places 0 and 1 against 0 and 2, at radius 1: nearer, just as far, and farther.
 abbrev pub fieldTables : List Table

@@ -28,6 +28,14 @@ Inv-loop n q room x a y c keys₀ held l m last g₀ i₀ j₀ keys g i j =
 abbrev μ-loop : tie.MeasureT-loop
 μ-loop n q room x a y c keys₀ held l m last g₀ i₀ j₀ keys g i j = (l - i) * (m + 1) + (m - j)
 
+-- where the rows in use of both blocks are counted, from the search for the next near row
+abbrev counted : tie.After-next-near Inv-loop μ-loop → tie.After-live-rows2 Inv-loop μ-loop
+counted c = c .before .before .before
+
+-- that search, from the key of the pair found
+abbrev sought : tie.After-key Inv-loop μ-loop → tie.After-next-near Inv-loop μ-loop
+sought c = c .before .before .before
+
 row-less : (l m i j : ℕ) → i < l → (l - (i + 1)) * (m + 1) + (m - 0) < (l - i) * (m + 1) + (m - j)
 row-less l m i j h =
     let a = l - (i + 1) in
@@ -76,7 +84,7 @@ next-near-requires c κs =
 
 pair-at-requires : tie.Need-pair-at-requires Inv-loop μ-loop
 pair-at-requires c κs =
-    let live = c .before .before .before .before in
+    let live = counted (c .before) in
     let s = live .before .before in
     let fields = table (s .args .n) (s .args .x .now) in
     let trims = table (s .args .n) (s .args .y .now) in
@@ -101,24 +109,25 @@ element-copy-out-if2 c = omega arith
 
 put-requires : tie.Need-put-requires Inv-loop μ-loop
 put-requires c κs =
-    let v = c .before .before .before .before .before .before .before .before in
-    let s = v .before .before .before in
-    (c .before .before .before .before .pair-at .ensures .1, v .loop .inv .3, s .pre .0 .1)
+    let key = c .before .before .before in
+    let found = sought key in
+    let s = counted found .before .before in
+    (key .before .pair-at .ensures .1, found .before .before .loop .inv .3, s .pre .0 .1)
 
 add-j : tie.Need-add-j Inv-loop μ-loop
 add-j c = omega arith
 
 loop-less : tie.Need-loop-less Inv-loop μ-loop
 loop-less c =
-    let near = c .before .before .before .before .before .next-near in
-    omega (arith, near .ensures .from, c .before .before .before .before .if1 .taken)
+    let key = c .before .before in
+    omega (arith, sought key .next-near .ensures .from, key .before .before .if1 .taken)
 
 loop-again : tie.Need-loop-again Inv-loop μ-loop
 loop-again c =
-    let found = c .before .before .before .before .before in
-    let live = c .before .before .before .before .before .before .before .before in
+    let found = sought (c .before .before) in
+    let live = counted found in
     let s = live .before .before in
-    let v = c .before .before .before .before .before .before .before .loop in
+    let v = found .before .before .loop in
     let near = found .next-near in
     let x = at (s .args .a) (table (s .args .n) (s .args .x .now)) in
     let y = at (s .args .c) (table (s .args .n) (s .args .y .now)) in
@@ -157,14 +166,14 @@ add-i c = omega arith
 
 loop-less-2 : tie.Need-loop-less-2 Inv-loop μ-loop
 loop-less-2 c =
-    let live = c .before .before .before .before in
+    let live = counted (c .before) in
     let v = c .before .before .before .loop in
     row-less (live .before .live-rows .result) (live .live-rows2 .result) (v .i) (v .j)
     (c .before .before .loop-test .taken)
 
 loop-again-2 : tie.Need-loop-again-2 Inv-loop μ-loop
 loop-again-2 c =
-    let live = c .before .before .before .before in
+    let live = counted (c .before) in
     let s = live .before .before in
     let v = c .before .before .before .loop in
     let near = c .before .next-near in

@@ -15,6 +15,10 @@ Inv-loop n q x i y m j k₀ k =
 abbrev μ-loop : tie.MeasureT-loop
 μ-loop n q x i y m j k₀ k = m - k
 
+-- where the turn began, from the test of its one row
+abbrev turn : tie.After-near-by Inv-loop μ-loop → tie.In-loop Inv-loop μ-loop
+turn c = c .before .before .before
+
 loop-holds : tie.Need-loop-holds Inv-loop μ-loop
 loop-holds c = (omega arith, omega (arith, c .pre .0 .3), λ b h k. absurd (omega (arith, h, k)))
 
@@ -49,11 +53,11 @@ near-by-requires c κs =
 
 returns : tie.Need-returns Inv-loop μ-loop
 returns c =
-    let v = c .before .before .before .before .before .loop in
-    let turn = c .before .before .before .before .loop-test .taken in
+    let at = turn (c .before) in
+    let v = at .before .loop in
     record {
       from = v .inv .0;
-      upto = omega (arith, turn);
+      upto = omega (arith, at .loop-test .taken);
       none-before = v .inv .2;
       found = λ _. sym (c .before .near-by .ensures) ∙ c .if2 .taken;
     }
@@ -66,12 +70,14 @@ loop-less-2 c = omega arith
 
 loop-again-2 : tie.Need-loop-again-2 Inv-loop μ-loop
 loop-again-2 c =
-    let v = c .before .before .before .before .before .loop in
-    let s = c .before .before .before .before .before .before .args in
+    let at = turn (c .before) in
+    let v = at .before .loop in
+    let s = at .before .before .args in
     let here = sym (c .before .near-by .ensures) ∙ c .if2 .left in (
       omega (arith, v .inv .0),
-      omega (arith, c .before .before .before .before .loop-test .taken),
-      none-more (terms (s .q)) (table (s .n) (s .x .now)) (s .i) (table (s .n) (s .y .now)) (s .j) (v .k) (v .inv .2) here,
+      omega (arith, at .loop-test .taken),
+      none-more (terms (s .q)) (table (s .n) (s .x .now)) (s .i) (table (s .n) (s .y .now)) (s .j) (v .k) (v .inv .2)
+          here,
     )
 
 returns-2 : tie.Need-returns-2 Inv-loop μ-loop

@@ -8,6 +8,10 @@ use borrow.Author.Needs.{needs}
 use Rattle.choosing.proofs.field_next.Statement.{statement}
 use Rattle.choosing.proofs.field_next.Tie as tie
 
+-- where rows of both tables are known to be read, from the test whether the second is read out
+abbrev begun : tie.After-read-out2 → tie.Else2
+begun c = c .before .before .before
+
 returns : tie.Need-returns
 unfolding fieldNextBy
 returns c = simp (eq-eqb _ _ (c .if1 .taken))
@@ -35,9 +39,10 @@ read-out-requires-2 c κs = search needs
 returns-4 : tie.Need-returns-4
 unfolding fieldNextBy
 returns-4 c =
+    let at = begun (c .before) in
     simp (
-      ne-eqb _ _ (c .before .before .before .before .before .if1 .left),
-      ne-eqb _ _ (c .before .before .before .before .if2 .left),
+      ne-eqb _ _ (at .before .if1 .left),
+      ne-eqb _ _ (at .if2 .left),
       sym (c .before .before .before .read-out .ensures) ∙ c .before .before .if3 .left,
       sym (c .before .read-out2 .ensures) ∙ c .if4 .taken,
     )
@@ -51,15 +56,16 @@ drop-of-requires-2 c κs = search needs
 
 -- rows of both tables were read, and neither is read out: the drops decide
 by-drops : (c : tie.After-drop-of2) → let x = c .before .drop-of .result in let y = c .drop-of2 .result in
-    let s = c .before .before .before .before .before .before .before .before .args in
+    let s = begun (c .before .before .before) .before .before .args in
     fieldNext (s .f .now) (s .t .now) (s .s)
     ≡ cond (ltb x y) true (cond (ltb y x) false (leb (s .s .depth .field .0) (s .s .depth .trim .0)))
 unfolding fieldNextBy
 by-drops c =
     let at = c .before .before in
+    let both = begun (at .before) in
     simp (
-      ne-eqb _ _ (at .before .before .before .before .before .if1 .left),
-      ne-eqb _ _ (at .before .before .before .before .if2 .left),
+      ne-eqb _ _ (both .before .if1 .left),
+      ne-eqb _ _ (both .if2 .left),
       sym (at .before .before .before .read-out .ensures) ∙ at .before .before .if3 .left,
       sym (at .before .read-out2 .ensures) ∙ at .if4 .left,
       c .before .drop-of .ensures,

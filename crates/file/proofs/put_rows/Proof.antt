@@ -22,14 +22,19 @@ Inv-loop bytes count out₀ i₀ out i =
 abbrev μ-loop : tie.MeasureT-loop
 μ-loop bytes count out₀ i₀ out i = count - i
 
+-- the start of the call, from where its loop stands
+abbrev start : tie.At-loop Inv-loop μ-loop → tie.Start Inv-loop μ-loop
+start c = c .before .before
+
 loop-holds : tie.Need-loop-holds Inv-loop μ-loop
 unfolding fileTable range each
 loop-holds c = (search needs, refl, refl)
 
 put-row-requires : tie.Need-put-row-requires Inv-loop μ-loop
 put-row-requires c κs =
-    let l = c .before .before .loop in
-    let s = c .before .before .before .before in
+    let at = c .before .before in
+    let l = at .loop in
+    let s = start at in
     let long : length (l .out) ≡ length (s .args .out .now) = l .inv .1 in
     let h : l .i < s .args .count = c .before .loop-test .taken in
     let row = rows-row (s .args .out .now) (l .i) (s .args .count) h (s .pre .0 .2) in
@@ -43,8 +48,9 @@ loop-less c = search needs
 
 loop-again : tie.Need-loop-again Inv-loop μ-loop
 loop-again c =
-    let l = c .before .before .before .before .loop in
-    let s = c .before .before .before .before .before .before .args in
+    let at = c .before .before .before .before in
+    let l = at .loop in
+    let s = start at .args in
     let h : l .i < s .count = c .before .before .before .loop-test .taken in
     let bytes = s .bytes .now in (
       omega (arith, h),
@@ -60,7 +66,7 @@ same-length c = search needs
 returns : tie.Need-returns Inv-loop μ-loop
 returns c =
     let l = c .before .loop in
-    let s = c .before .before .before .args in
+    let s = start (c .before) .args in
     let e : l .i ≡ s .count = omega arith in
     l .inv .2 ∙ ap (λ (k : ℕ). fileTable (s .bytes .now) k ++ afterRows k (s .out .now)) e
 

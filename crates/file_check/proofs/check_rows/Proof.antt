@@ -25,6 +25,24 @@ Inv-loop bytes count before₀ i₀ before i =
 abbrev μ-loop : tie.MeasureT-loop
 μ-loop bytes count before₀ i₀ before i = count - i
 
+-- the start of the call, from where its loop stands
+abbrev start : tie.At-loop Inv-loop μ-loop → tie.Start Inv-loop μ-loop
+start c = c .before .before
+
+-- where the loop stood at the head of the turn, from the row's code
+abbrev turn : tie.After-row-code Inv-loop μ-loop → tie.At-loop Inv-loop μ-loop
+turn c = c .before .before .before
+
+-- that code is the file's
+coded : (c : tie.After-row-code Inv-loop μ-loop) → let s = start (turn c) .args in
+    c .row-code .result ≡ fileRowCode (s .bytes .now) (fileTable (s .bytes .now) (s .count)) (turn c .loop .i)
+coded c =
+    let l = turn c .loop in
+    let s = start (turn c) .args in
+    c .row-code .ensures
+    ∙ ap (λ (r : Row). heldRowCode r (eqb (l .i) 0) (toZ w32 (l .before))) (c .before .read-row .ensures)
+    ∙ code-is (s .bytes .now) (s .count) (l .i) (toZ w32 (l .before)) (omega arith) (l .inv .2)
+
 loop-holds : tie.Need-loop-holds Inv-loop μ-loop
 unfolding rowsLoaded
 loop-holds c = (search needs, refl, λ z. absurd (z refl))
@@ -43,14 +61,12 @@ cast-t9 c = search needs
 
 returns : tie.Need-returns Inv-loop μ-loop
 returns c =
-    let l = c .before .before .before .before .loop in
-    let s = c .before .before .before .before .before .before .args in
+    let at = turn (c .before) in
+    let l = at .loop in
+    let s = start at .args in
     let bytes = s .bytes .now in
     let t = fileTable bytes (s .count) in
-    let code : c .before .row-code .result ≡ fileRowCode bytes t (l .i) =
-    c .before .row-code .ensures
-    ∙ ap (λ (r : Row). heldRowCode r (eqb (l .i) 0) (toZ w32 (l .before))) (c .before .before .read-row .ensures)
-    ∙ code-is bytes (s .count) (l .i) (toZ w32 (l .before)) (omega arith) (l .inv .2) in
+    let code = coded (c .before) in
     ap (λ (k : ℕ). Unfit k (l .i + 1)) code
     ∙ sym (refused bytes t (l .i) (l .inv .1) (s .count) (omega arith) (λ z. c .if1 .taken (code ∙ z)))
 
@@ -62,16 +78,13 @@ loop-less c = search needs
 
 loop-again : tie.Need-loop-again Inv-loop μ-loop
 loop-again c =
-    let l = c .before .before .before .before .before .loop in
-    let s = c .before .before .before .before .before .before .before .args in
+    let at = turn (c .before .before) in
+    let l = at .loop in
+    let s = start at .args in
     let bytes = s .bytes .now in
     let t = fileTable bytes (s .count) in
     let row = c .before .before .before .read-row in
-    let code : c .before .before .row-code .result ≡ fileRowCode bytes t (l .i) =
-    c .before .before .row-code .ensures
-    ∙ ap (λ (r : Row). heldRowCode r (eqb (l .i) 0) (toZ w32 (l .before))) (row .ensures)
-    ∙ code-is bytes (s .count) (l .i) (toZ w32 (l .before)) (omega arith) (l .inv .2) in
-    let accepted = sym code ∙ c .before .if1 .left in
+    let accepted = sym (coded (c .before .before)) ∙ c .before .if1 .left in
     let last : l .i + 1 - 1 ≡ l .i = omega arith in (
       search needs,
       one-more bytes t (l .i) (l .inv .1) accepted,
@@ -88,7 +101,7 @@ cast-t10 c = search needs
 returns-2 : tie.Need-returns-2 Inv-loop μ-loop
 returns-2 c =
     let l = c .before .loop in
-    let s = c .before .before .before .args in
+    let s = start (c .before) .args in
     let bytes = s .bytes .now in
     let e : l .i ≡ s .count = omega arith in
     ap Rows (sym e) ∙ sym (l .inv .1) ∙ ap (λ (k : ℕ). rowsLoaded bytes (fileTable bytes (s .count)) k) e

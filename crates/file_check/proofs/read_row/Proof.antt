@@ -1,11 +1,14 @@
+-- `read_row` meets its contract. Assumes nothing.
 use Rattle.file_check.proofs.Rows.{row-is}
 use mir.Syntax.{w32}
 use mir.Facts.{toZ-ofZ}
--- `read_row` meets its contract. Assumes nothing.
-
 use borrow.Author.Needs.{needs}
 use Rattle.file_check.proofs.read_row.Statement.{statement}
 use Rattle.file_check.proofs.read_row.Tie as tie
+
+-- where the four columns are read, from where it is known what they hold
+abbrev columns : tie.After-struct-known4 → tie.After-column-at4
+columns c = c .before .before .before .before .before
 
 mul-o : tie.Need-mul-o
 mul-o c = search needs
@@ -42,7 +45,7 @@ shared-slice-read-t10 c = search needs
 
 returns : tie.Need-returns
 returns c =
-    let at = c .before .before .before .before .before .before .before .before .before in
+    let at = columns (c .before .before .before .before) in
     let pattern = at .before .before .before .column-at in
     let score = at .before .before .column-at2 in
     let a = at .before .column-at3 in

@@ -6,6 +6,10 @@ use borrow.Author.Needs.{needs, sfits-of}
 use Rattle.file_check.proofs.row_code.Statement.{statement}
 use Rattle.file_check.proofs.row_code.Tie as tie
 
+-- where the columns are judged, from the test of the range
+abbrev judged : tie.After-in-range → tie.After-unless
+judged c = c .before .before .before .before .before
+
 unless-requires : tie.Need-unless-requires
 unless-requires c κs = search needs
 
@@ -29,13 +33,14 @@ unfolding heldRowCode
 returns c =
     let limit = c .before .before .before .before .before in
     let told = limit .before .before .before .before .before .struct-told .given in
-    let columns = limit .before .before .before .before .before .before in
+    let columns = judged (limit .before) in
     let s = columns .before in
     let row = s .args .row in
     let pattern = toZ-ofZ {w = w32} {z = row .pattern} (sfits-of (told .1 .0 .1)) in
     let score = toZ-ofZ {w = w32} {z = row .score} (sfits-of (told .1 .1 .0 .1)) in
-    let a = toZ-ofZ {w = w32} {z = row .a} (sfits-of (told .1 .1 .1 .0 .1)) in
-    let b = toZ-ofZ {w = w32} {z = row .b} (sfits-of (told .1 .1 .1 .1 .0 .1)) in
+    let shade = told .1 .1 .1 in
+    let a = toZ-ofZ {w = w32} {z = row .a} (sfits-of (shade .0 .1)) in
+    let b = toZ-ofZ {w = w32} {z = row .b} (sfits-of (shade .1 .0 .1)) in
     let before = toZ-ofZ (s .fits .before) in
     simp (
       c .before .first .ensures,

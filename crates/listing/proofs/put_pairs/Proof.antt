@@ -23,6 +23,14 @@ Inv-loop out₀ at f t run i₀ out i =
 abbrev μ-loop : tie.MeasureT-loop
 μ-loop out₀ at f t run i₀ out i = run .count - i
 
+-- the start of the call, from where its loop stands
+abbrev start : tie.At-loop Inv-loop μ-loop → tie.Start Inv-loop μ-loop
+start c = c .before .before
+
+-- where the turn began, from the line put
+abbrev turn : tie.After-put-line Inv-loop μ-loop → tie.In-loop Inv-loop μ-loop
+turn c = c .before .before .before .before
+
 loop-holds : tie.Need-loop-holds Inv-loop μ-loop
 loop-holds c =
     let s = c .before .args in
@@ -47,7 +55,7 @@ cast-line-of c = search needs
 
 line-of-requires : tie.Need-line-of-requires Inv-loop μ-loop
 line-of-requires c κs =
-    let s = c .before .before .before .before in
+    let s = start (c .before .before) in
     let i = c .before .before .loop .i in
     pair-at (s .args .f .now) (s .args .t .now) (s .args .t5) (s .pre .1) i (c .before .loop-test .taken) .shown
 
@@ -61,7 +69,7 @@ put-line-requires : tie.Need-put-line-requires Inv-loop μ-loop
 put-line-requires c κs =
     let at = c .before .before .before in
     let l = at .before .loop in
-    omega (arith, at .loop-test .taken, l .inv .0, l .inv .1 .kept, at .before .before .before .pre .0)
+    omega (arith, at .loop-test .taken, l .inv .0, l .inv .1 .kept, start (at .before) .pre .0)
 
 add-i : tie.Need-add-i Inv-loop μ-loop
 add-i c = search needs
@@ -73,9 +81,9 @@ loop-again : tie.Need-loop-again Inv-loop μ-loop
 loop-again c =
     let line = c .before .before .before .before .line-of in
     let put = c .before .before .put-line in
-    let at = c .before .before .before .before .before .before in
+    let at = turn (c .before .before) in
     let l = at .before .loop in
-    let s = at .before .before .before in
+    let s = start (at .before) in
     let f = s .args .f .now in
     let t = s .args .t .now in
     let run = s .args .t5 in
@@ -92,7 +100,7 @@ same-length c = c .before .loop .inv .1 .kept
 
 returns : tie.Need-returns Inv-loop μ-loop
 returns c =
-    let s = c .before .before .before in
+    let s = start (c .before) in
     let f = s .args .f .now in
     let t = s .args .t .now in
     let run = s .args .t5 in

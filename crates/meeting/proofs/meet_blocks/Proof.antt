@@ -32,6 +32,14 @@ Inv-loop field s f t new depth n keys₀ block room m₀ c₀ i₀ keys m c i =
 abbrev μ-loop : tie.MeasureT-loop
 μ-loop field s f t new depth n keys₀ block room m₀ c₀ i₀ keys m c i = n - i
 
+-- the start of the call, from where its loop stands
+abbrev start : tie.At-loop Inv-loop μ-loop → tie.Start Inv-loop μ-loop
+start c = c .before .before .before .before
+
+-- where the loop stood at the head of the turn, from the end of the turn's block
+abbrev turn : tie.After-lesser Inv-loop μ-loop → tie.At-loop Inv-loop μ-loop
+turn c = c .before .before
+
 -- the table that is read, and the other one
 abbrev own : tie.Start Inv-loop μ-loop → List ℤ
 own s = cond (s .args .field) (s .args .f .now) (s .args .t .now)
@@ -49,9 +57,9 @@ ready s i =
     (s .pre .0 .0)
 
 -- the turn's block begins above the depth
-begins : (c : tie.In-loop Inv-loop μ-loop) → c .before .loop .c < c .before .before .before .before .before .args .depth
+begins : (c : tie.In-loop Inv-loop μ-loop) → c .before .loop .c < start (c .before) .args .depth
 begins c =
-    let s = c .before .before .before .before .before in
+    let s = start (c .before) in
     let v = c .before .loop in
     let low =
     block-begins (s .args .n) (s .args .s .query .block) (s .args .depth) (v .i) (s .pre .1 .1 .2)
@@ -61,7 +69,7 @@ begins c =
 -- the joined count has room for what is left
 room : (c : tie.In-loop Inv-loop μ-loop) → c .before .loop .m .joined < 2 ^ 63
 room c =
-    let s = c .before .before .before .before .before in
+    let s = start (c .before) in
     let v = c .before .loop in
     let few =
     blocks-joined (s .args .field) (s .args .s) (spanBlock (own s) (s .args .new)) (other s) (s .args .depth) (v .i) in
@@ -73,10 +81,9 @@ old c = record { from = c .before .before .loop .c; to = c .lesser .result }
 
 -- it lies within its table, and so do the two blocks as field and trim
 old-inside : (c : tie.After-lesser Inv-loop μ-loop)
-    → let at = c .before .before .before .before .before in
-    SpanFits (old c) (other (at .before))
+    → SpanFits (old c) (other (start (turn c)))
 old-inside c =
-    let s = c .before .before .before .before .before .before in
+    let s = start (turn c) in
     let least = s .pre .0 .0 .query .block .0 in
     record {
       some = omega (arith, begins (c .before), c .lesser .ensures, least);
@@ -86,14 +93,12 @@ old-inside c =
     }
 
 inside : (c : tie.After-either2 Inv-loop μ-loop)
-    → let at = c .before .before .before .before .before in
-    SpanFits (c .before .either .result)
-    (at .before .before .before .args .f .now)
-    × SpanFits (c .either2 .result) (at .before .before .before .args .t .now)
+    → let a = start (turn (c .before .before)) .args in
+    SpanFits (c .before .either .result) (a .f .now) × SpanFits (c .either2 .result) (a .t .now)
 inside c =
-    let s = c .before .before .before .before .before .before .before .before in
-    let a = s .args in
-    let l = c .before .before in (
+    let l = c .before .before in
+    let s = start (turn l) in
+    let a = s .args in (
       rw (c .before .either .ensures)
           (inside-field (a .f .now) (a .t .now) (a .new) (old l) (a .field) (s .pre .1 .0 .0) (old-inside l)),
       rw (c .either2 .ensures)
@@ -126,7 +131,7 @@ loop-holds c =
 
 add-lesser : tie.Need-add-lesser Inv-loop μ-loop
 add-lesser c =
-    let s = c .before .before .before .before .before in
+    let s = start (c .before) in
     record { fits = omega (arith, begins c, s .pre .1 .1 .0, s .pre .0 .0 .query .block .1) }
 
 lesser-requires : tie.Need-lesser-requires Inv-loop μ-loop
@@ -141,8 +146,9 @@ either-requires-2 c κs = search needs
 meet-parts-requires : tie.Need-meet-parts-requires Inv-loop μ-loop
 meet-parts-requires c κs =
     let parts = inside (c .before) in
-    let s = c .before .before .before .before .before .before .before .before .before in
-    let v = c .before .before .before .before .before .loop in (
+    let at = turn (c .before .before .before) in
+    let s = start at in
+    let v = at .loop in (
       (
         v .inv .4,
         omega (arith, s .pre .0 .0 .query .k .1),
@@ -154,7 +160,7 @@ meet-parts-requires c κs =
 
 add-c : tie.Need-add-c Inv-loop μ-loop
 add-c c =
-    let s = c .before .before .before .before .before .before .before .before .before .before in
+    let s = start (turn (c .before .before .before .before)) in
     record {
       fits = omega (
         arith,
@@ -172,25 +178,25 @@ loop-less c = omega arith
 
 loop-again : tie.Need-loop-again Inv-loop μ-loop
 loop-again c =
-    let start = c .before .before .before .before .before .before .before .before .before .before in
-    let s = start .args in
-    let v = c .before .before .before .before .before .before .loop in
-    let l = c .before .before .before .before in
-    let x = c .before .before .before .either in
-    let y = c .before .before .either2 in
-    let new = spanBlock (own start) (s .new) in
-    let r = after start (v .i) in
-    let kept = blocks-keep (s .field) (s .s) new (other start) (s .depth) (v .i) in
+    let parts = c .before .before in
+    let l = parts .before .before in
+    let at = start (turn l) in
+    let s = at .args in
+    let v = turn l .loop in
+    let x = parts .before .either in
+    let y = parts .either2 in
+    let new = spanBlock (own at) (s .new) in
+    let r = after at (v .i) in
+    let kept = blocks-keep (s .field) (s .s) new (other at) (s .depth) (v .i) in
     let left : r .query .k - r .out ≡ s .s .query .k - s .s .out =
     ap₂ (λ (q : Query) (out : ℕ). q .k - out) (kept .query) (kept .out) in
     let met =
-    c .meet-parts .ensures .meets r (ready start (v .i)) (kept .query) left
+    c .meet-parts .ensures .meets r (ready at (v .i)) (kept .query) left
     (v .inv .5) in
-    let as-rule : meet r (spanBlock (s .f .now) (x .result)) (spanBlock (s .t .now) (y .result)) ≡ after start
-    (v .i + 1) =
+    let as-rule : meet r (spanBlock (s .f .now) (x .result)) (spanBlock (s .t .now) (y .result)) ≡ after at (v .i + 1) =
     ap₂ (λ (a b : Span). meet r (spanBlock (s .f .now) a) (spanBlock (s .t .now) b)) (x .ensures) (y .ensures)
     ∙ parts-meet (s .f .now) (s .t .now) (s .new) (old l) (s .field) r
-    ∙ blocks-next (s .field) (s .s) new (other start) (s .depth) (v .i) (v .c) (l .lesser .result)
+    ∙ blocks-next (s .field) (s .s) new (other at) (s .depth) (v .i) (v .c) (l .lesser .result)
     (s .s .query .block) r _ refl (v .inv .3) refl (l .lesser .ensures) refl in (
       omega arith,
       refl,
@@ -202,9 +208,8 @@ loop-again c =
 
 returns : tie.Need-returns Inv-loop μ-loop
 returns c =
-    let start = c .before .before .before .before .before in
     let v = c .before .loop in
-    let e : v .i ≡ start .args .n = omega arith in
+    let e : v .i ≡ start (c .before) .args .n = omega arith in
     rw (sym e) (v .inv .5)
 
 pub meet-blocks-spec : {M : Type 1} → statement M

@@ -1,14 +1,15 @@
 -- `pack` meets its contract: after i turns the first i pairs are laid down. Assumes nothing.
-use mathlib.Core.Path.{_≡_, refl, sym, ap, _∙_}
+use mathlib.Core.Path.{_≡_, refl, ap, _∙_}
 use mathlib.Core.List.{List, _++_}
 use Prim.Native.Nat.{ℕ, _+_, _*_, _-_, _≤_, _<_}
 use native.Mathlib.Omega.{arith}
-use lib.ListN.{length, length-map, getD, take, drop}
+use lib.ListN.{length, getD, take, drop}
 use lib.Seq.{take-all}
 use borrow.Author.Needs.{needs}
 use Rattle.lists.specs.Lists.{each}
 use Rattle.rules.specs.declared.Pair.{Pair}
 use Rattle.rules.specs.Session.{noPair, placeCount}
+use Rattle.rules.proofs.Places.{places-long}
 use Rattle.record_layout.specs.Flat.{pairsAt, pairSize, pairAt, fieldWeightAt, flatSize, flatPair}
 use Rattle.record_layout.specs.Flat.{flatHead, flatWeights, flatTail, flatten}
 use Rattle.record_layout.specs.RoundTrip.{flat-length}
@@ -35,8 +36,7 @@ loop-holds c =
     let s = c .before .before .before .before .before in
     let head = c .before .before .put-head in
     let a = s .args .t1 .pairs in
-    let array = s .good .0 .1 .1 .1 .1 .1 .1 .1 .1 .0 in
-    let long : length a ≡ placeCount = sym (length-map a _) ∙ array .1 .0 .1 in
+    let long = places-long (s .args .t1) _ (s .good .0) in
     (omega arith, long, refl, omega (arith, head .kept .0, s .pre), none-laid (head .last .0) a)
 
 mul-p : tie.Need-mul-p Inv-loop μ-loop

@@ -1,23 +1,30 @@
 -- `is_settled` meets its contract: of ranked pairs the last decides. Assumes nothing.
-use mathlib.Core.Path.{_≡_, refl, sym, _∙_}
+use mathlib.Core.Path.{_≡_, refl, _∙_}
 use mathlib.Core.Bool.{false, _&&_, _||_}
 use Prim.Native.Nat.{_<_, _≤_}
 use native.Mathlib.Omega.{arith}
-use lib.ListN.{length, length-map}
+use lib.ListN.{length}
 use borrow.Author.Tests.{eq-eqb, ne-eqb}
-use Rattle.rules.specs.Session.{aTableIsEmpty, bothReadOut, settledBy}
+use Rattle.rules.specs.Session.{placeCount, aTableIsEmpty, bothReadOut, settledBy}
+use Rattle.rules.proofs.Places.{places-long}
 use Rattle.ceiling.specs.Last.{held-then-read, held-secured}
 use borrow.Author.Needs.{needs}
 use Rattle.settling.proofs.is_settled.Statement.{statement}
 use Rattle.settling.proofs.is_settled.Tie as tie
 
--- a record has 64 pair places: that is its array's type
-long : (c : tie.Start) → length (c .args .s .pairs) ≡ 64
-long c = sym (length-map (c .args .s .pairs) _) ∙ c .good .1 .1 .0 .1 .1 .1 .1 .1 .1 .1 .1 .0 .1 .0 .1
+long : (c : tie.Start) → length (c .args .s .pairs) ≡ placeCount
+long c = places-long (c .args .s) _ (c .good .1 .1 .0)
+
+-- the start of the call, from the test whether the second table is read out
+abbrev start : tie.After-read-out2 → tie.Start
+start c = c .before .before .before .before .before
+
+-- where the tables alone do not settle it, from the count of the pairs held and out
+abbrev undecided : tie.After-struct-known3 → tie.Else2
+undecided c = c .before .before .before .before
 
 -- a pair is held where k are held or out, and not all are out
-some : (c : tie.Else4) → let at = c .before .before .before .before .before .before in
-    0 < at .before .before .before .before .before .args .s .held
+some : (c : tie.Else4) → 0 < start (undecided (c .before) .before) .args .s .held
 some c = omega (arith, c .if4 .left, c .before .before .before .if3 .left)
 
 is-empty-requires : tie.Need-is-empty-requires
@@ -31,7 +38,7 @@ empty : (c : tie.After-is-empty2) → let a = c .before .before .args in
     aTableIsEmpty (a .f .now) (a .t .now) (a .s) ≡ c .before .is-empty .result || c .is-empty2 .result
 empty c = simp (c .before .is-empty .ensures, c .is-empty2 .ensures) refl
 
-out : (c : tie.After-read-out2) → let a = c .before .before .before .before .before .args in
+out : (c : tie.After-read-out2) → let a = start c .args in
     bothReadOut (a .f .now) (a .t .now) (a .s) ≡ c .before .read-out .result && c .read-out2 .result
 out c = simp (c .before .read-out .ensures, c .read-out2 .ensures) refl
 
@@ -52,7 +59,7 @@ returns-2 c =
     simp (empty (at .before) ∙ at .if1 .left, out (c .before) ∙ c .if2 .taken) refl
 
 -- no table is empty, nor are both read out
-live : (c : tie.Else2) → let a = c .before .before .before .before .before .before .args in
+live : (c : tie.Else2) → let a = start (c .before) .args in
     (aTableIsEmpty (a .f .now) (a .t .now) (a .s) ≡ false) × (bothReadOut (a .f .now) (a .t .now) (a .s) ≡ false)
 live c =
     let at = c .before .before .before in
@@ -65,28 +72,26 @@ returns-3 c =
 
 add-if4 : tie.Need-add-if4
 add-if4 c =
-    let at = c .before .before .before .before .before .before in
-    let l = at .before .before .before .pre .0 .lent .fits in
+    let l = start (c .before .before .before .before) .pre .0 .lent .fits in
     record { fits = omega (arith, l .room, l .query .k .1) }
 
 returns-4 : tie.Need-returns-4
 unfolding settledBy
 returns-4 c =
-    let at = c .before .before .before .before .before in
+    let at = undecided (c .before) in
     let more = ne-eqb _ _ (c .before .before .before .if3 .left) in
     simp (live at .0, live at .1, more, ne-eqb _ _ (c .if4 .taken)) refl
 
 is-secured-requires : tie.Need-is-secured-requires
 is-secured-requires c κs =
-    let at = c .before .before .before .before .before .before in
-    let s = at .before .before .before .before .before in
+    let s = start (undecided (c .before) .before) in
     held-then-read (s .args .f .now) (s .args .t .now) (s .args .s) (s .pre .0) (omega (arith, long s)) (some c)
 
 returns-5 : tie.Need-returns-5
 unfolding settledBy
 returns-5 c =
-    let at = c .before .before .before .before .before .before in
-    let s = at .before .before .before .before .before .before in
+    let at = undecided (c .before .before) in
+    let s = start (at .before) in
     let l = s .pre .0 .lent .fits in
     let fit : s .args .s .held ≤ length (s .args .s .pairs) = omega (arith, long s, l .room, l .query .k .1) in
     let last = s .pre .1 (some (c .before)) in

@@ -14,6 +14,10 @@ use Rattle.whole_query.proofs.Ends.{Asking, outcome-is, code-refusal, h
 use Rattle.whole_query.proofs.listed.Statement.{statement}
 use Rattle.whole_query.proofs.listed.Tie as tie
 
+-- the start of the call, from the checks' code
+abbrev start : tie.After-asked-code → tie.Start
+start c = c .before .before .before .before .before
+
 query-in-requires : tie.Need-query-in-requires
 query-in-requires c κs = search needs
 
@@ -26,7 +30,7 @@ asked-code-requires c κs = search needs
 -- what is known where the code is
 asked : (c : tie.After-asked-code) →
     (let query = c .before .before in
-    let s = query .before .before .before .args in
+    let s = start c .args in
     Asking listingRoom (s .query .now) (s .f .now) (s .t .now) (length (s .out .now)) (query .query-in .result)
     (c .before .run .result) (c .asked-code .result))
 asked c =
@@ -40,7 +44,7 @@ returns : tie.Need-returns
 unfolding lentListingAnswer lentListingBytes
 returns c =
     let at = c .before .before in
-    let s = at .before .before .before .before .before .args in
+    let s = start at .args in
     let f = s .f .now in
     let t = s .t .now in
     let end =
@@ -64,7 +68,7 @@ unfolding lentListingAnswer lentListingBytes
 returns-2 c =
     let put = c .before .before .put-listing in
     let if = c .before .before .before .before in
-    let s = if .before .before .before .before .before .before .args in
+    let s = start (if .before) .args in
     let f = s .f .now in
     let t = s .t .now in
     let end =

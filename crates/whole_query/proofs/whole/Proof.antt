@@ -14,6 +14,14 @@ use Rattle.whole_query.proofs.Ends.{Asking, outcome-is, code-refusal, h
 use Rattle.whole_query.proofs.whole.Statement.{statement}
 use Rattle.whole_query.proofs.whole.Tie as tie
 
+-- the start of the call, from the checks' code
+abbrev start : tie.After-asked-code → tie.Start
+start c = c .before .before .before .before .before
+
+-- where the checks passed, from the numbers put
+abbrev passed : tie.After-put-numbers → tie.Else1
+passed c = c .before .before
+
 query-in-requires : tie.Need-query-in-requires
 query-in-requires c κs = search needs
 
@@ -26,7 +34,7 @@ asked-code-requires c κs = search needs
 -- what is known where the code is
 asked : (c : tie.After-asked-code) →
     (let query = c .before .before in
-    let s = query .before .before .before .args in
+    let s = start c .args in
     Asking queryRoom (s .query .now) (s .f .now) (s .t .now) (length (s .out .now)) (query .query-in .result)
     (c .before .run .result) (c .asked-code .result))
 asked c =
@@ -40,7 +48,7 @@ returns : tie.Need-returns
 unfolding lentQueryAnswer lentQueryNumbers
 returns c =
     let at = c .before .before in
-    let s = at .before .before .before .before .before .args in
+    let s = start at .args in
     let f = s .f .now in
     let t = s .t .now in
     let end =
@@ -54,8 +62,8 @@ put-numbers-requires c κs =
 
 cast-result : tie.Need-cast-result
 cast-result c =
-    let at = c .before .before .before .before .before .before in
-    let s = at .before .before .before .before .before .args in
+    let at = passed (c .before .before .before) .before in
+    let s = start at .args in
     let few = count-few (s .f .now) (s .t .now) (at .before .run .result) (outcome-is (asked at)) in
     record { sfits = omega arith }
 
@@ -66,8 +74,8 @@ returns-2 : tie.Need-returns-2
 unfolding lentQueryAnswer lentQueryNumbers
 returns-2 c =
     let put = c .before .before .before .put-numbers in
-    let if = c .before .before .before .before .before in
-    let s = if .before .before .before .before .before .before .args in
+    let if = passed (c .before .before .before) in
+    let s = start (if .before) .args in
     let f = s .f .now in
     let t = s .t .now in
     let run = if .before .before .run .result in
