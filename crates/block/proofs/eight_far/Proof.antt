@@ -1,5 +1,5 @@
 -- `eight_far` meets its contract: where no row was seen near, none of the rows passed is. Assumes nothing.
-use mathlib.Core.Path.{_≡_, refl, sym, _∙_}
+use mathlib.Core.Path.{_≡_, refl}
 use mathlib.Core.Bool.{false}
 use Prim.Native.Nat.{_+_, _-_, _%_, _≤_, _<_}
 use native.Mathlib.Omega.{arith}
@@ -7,7 +7,7 @@ use lib.Dec.{leb, eqb}
 use borrow.Author.Tests.{leb-true, not-true, not-false}
 use Rattle.lists.specs.Bools.{clash, and-out, or-none-out}
 use Rattle.rules.specs.Tables.{table, terms}
-use Rattle.rules.specs.Widths.{has-row}
+use Rattle.rules.specs.Widths.{has-row, count-most}
 use Rattle.block.specs.Near.{NoneNear, none-more}
 use Rattle.block.proofs.eight_far.Statement.{statement}
 use Rattle.block.proofs.eight_far.Tie as tie
@@ -20,7 +20,7 @@ abbrev μ-loop : tie.MeasureT-loop
 μ-loop n q x i y m k seen₀ b₀ seen b = 8 - b
 
 add-if1 : tie.Need-add-if1 Inv-loop μ-loop
-add-if1 c = omega (arith, c .pre .0 .2 .upto)
+add-if1 c = omega (arith, c .pre .0 .2 .upto, count-most (table (c .args .n) (c .args .y .now)))
 
 returns : tie.Need-returns Inv-loop μ-loop
 returns c = λ e. clash e refl
@@ -52,14 +52,16 @@ loop-less c = omega arith
 loop-again : tie.Need-loop-again Inv-loop μ-loop
 loop-again c =
     let s = c .before .before .before .before .args in
+    let x = table (s .n) (s .x .now) in
+    let y = table (s .n) (s .y .now) in
     let v = c .before .before .loop in (
       omega (arith, c .before .loop-test .taken),
       v .inv .1,
       λ e.
           let both = or-none-out (v .seen) (c .near-by .result) e in
-          let here = sym (c .near-by .ensures) ∙ both .1 in
           let next =
-          none-more (terms (s .q)) (table (s .n) (s .x .now)) (s .i) (table (s .n) (s .y .now)) (s .k) (s .k + v .b) (v .inv .2 (both .0)) here in
+          none-more (terms (s .q)) x (s .i) y (s .k) (s .k + v .b) (v .inv .2 (both .0))
+          (rw (← c .near-by .ensures) (both .1)) in
           λ b h k. next b h (omega (arith, k)),
     )
 

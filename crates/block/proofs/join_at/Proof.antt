@@ -1,5 +1,5 @@
--- `join_at` meets its contract: the pairs held are those of all pairs of rows passed so far, pair by pair is all at once,
--- and withdrawn rows qualify with none. Assumes nothing.
+-- `join_at` meets its contract: the pairs held are those of all pairs of rows passed so far, pair by pair is all at
+-- once, and withdrawn rows qualify with none. Assumes nothing.
 use mathlib.Core.Path.{_≡_, refl, sym, ap, subst, _∙_}
 use mathlib.Core.Logic.{⊎-elim}
 use Prim.Native.Nat.{ℕ, _+_, _*_, _-_, _%_, _≤_, _<_}
@@ -7,7 +7,6 @@ use native.Mathlib.Nat.{suc-mul}
 use native.Mathlib.Omega.{arith}
 use lib.Dec.{eqb, ltb}
 use lib.ListN.{length, getD}
-use borrow.Author.Needs.{needs}
 use borrow.Author.Tests.{not-false, eqb-true}
 use Rattle.lists.specs.Bools.{and-out}
 use Rattle.rules.specs.Tables.{table, terms, rowCount}

@@ -37,13 +37,15 @@ is-withdrawn-requires c κs =
 
 returns : tie.Need-returns Inv-loop μ-loop
 returns c =
-    let s = c .before .before .before .before .before in
-    let v = c .before .before .before .loop in
-    let some = c .before .before .loop-test .taken in
+    let at = c .before .before in
+    let s = at .before .before .before in
+    let v = at .before .loop in
+    let some = at .loop-test .taken in
+    let x = table (s .args .n) (s .args .x .now) in
     let last = sym (c .before .is-withdrawn .ensures) ∙ not-true _ (c .if1 .taken) in
     record {
       upto = v .inv .0;
-      live = λ i h. above-live (table (s .args .n) (s .args .x .now)) (s .pre) i (v .m - 1) (omega (arith, h)) (omega (arith, some)) last;
+      live = λ i h. above-live x (s .pre) i (v .m - 1) (omega (arith, h)) (omega (arith, some)) last;
       beyond = v .inv .1;
     }
 
@@ -55,8 +57,9 @@ loop-less c = omega arith
 
 loop-again : tie.Need-loop-again Inv-loop μ-loop
 loop-again c =
-    let s = c .before .before .before .before .before in
-    let v = c .before .before .before .loop in
+    let at = c .before .before in
+    let s = at .before .before .before in
+    let v = at .before .loop in
     let last = sym (c .before .is-withdrawn .ensures) ∙ not-false _ (c .if1 .left) in
     (omega arith, λ i h k. s .pre (v .m - 1) i h k last)
 

@@ -3,6 +3,7 @@ use mathlib.Core.Path.{_≡_, sym, ap₂, _∙_}
 use native.Mathlib.Omega.{arith}
 use borrow.Author.Needs.{needs}
 use Rattle.rules.specs.Tables.{table, row, qualifies, terms}
+use Rattle.rules.specs.Widths.{row-below}
 use Rattle.session_laws.specs.ReadOut.{rows-qualify-in}
 use Rattle.block.proofs.near_by.Statement.{statement}
 use Rattle.block.proofs.near_by.Tie as tie
@@ -30,12 +31,14 @@ asks c =
 near-small-requires : tie.Need-near-small-requires
 near-small-requires c κs =
     let s = c .before .before in
-    let k = s .pre .1 .1 in (
+    let k = s .pre .1 .1 in
+    let x = table (s .args .n) (s .args .x .now) in
+    let y = table (s .args .n) (s .args .y .now) in (
       (
-        rw (c .before .shade .ensures .0) (k .first (s .args .i) ?),
-        rw (c .shade2 .ensures .0) (k .second (s .args .j) ?),
+        rw (c .before .shade .ensures .0) (k .first (s .args .i) (row-below x (s .args .i) (s .pre .0 .0))),
+        rw (c .shade2 .ensures .0) (k .second (s .args .j) (row-below y (s .args .j) (s .pre .0 .1))),
       ),
-      (omega (arith, c .before .shade .ensures .1, c .shade2 .ensures .1), ?, k .within),
+      (search needs, omega (arith, k .few, c .before .shade .ensures .1), k .within),
     )
 
 returns : tie.Need-returns

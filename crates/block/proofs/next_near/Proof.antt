@@ -1,5 +1,5 @@
 -- `next_near` meets its contract: no row that was passed lies near. Assumes nothing.
-use mathlib.Core.Path.{_≡_, sym, _∙_}
+use mathlib.Core.Path.{_≡_}
 use Prim.Native.Nat.{_+_, _-_, _≤_}
 use native.Mathlib.Omega.{arith}
 use Rattle.rules.specs.Tables.{table, terms}
@@ -37,10 +37,12 @@ loop-again : tie.Need-loop-again Inv-loop μ-loop
 loop-again c =
     let v = c .before .before .before .loop in
     let s = c .before .before .before .before .args in
+    let x = table (s .n) (s .x .now) in
+    let y = table (s .n) (s .y .now) in
     let far = c .before .eight-far .ensures (c .if1 .taken) in (
       omega (arith, v .inv .0),
       far .0,
-      none-on (terms (s .q)) (table (s .n) (s .x .now)) (s .i) (table (s .n) (s .y .now)) (s .j) (v .k) (v .inv .2) (v .k + 8) (far .1),
+      none-on (terms (s .q)) x (s .i) y (s .j) (v .k) (v .inv .2) (v .k + 8) (far .1),
     )
 
 near-by-requires : tie.Need-near-by-requires Inv-loop μ-loop
@@ -59,7 +61,7 @@ returns c =
       from = v .inv .0;
       upto = omega (arith, at .loop-test .taken);
       none-before = v .inv .2;
-      found = λ _. sym (c .before .near-by .ensures) ∙ c .if2 .taken;
+      found = λ _. rw (← c .before .near-by .ensures) (c .if2 .taken);
     }
 
 add-k-2 : tie.Need-add-k-2 Inv-loop μ-loop
@@ -73,11 +75,12 @@ loop-again-2 c =
     let at = turn (c .before) in
     let v = at .before .loop in
     let s = at .before .before .args in
-    let here = sym (c .before .near-by .ensures) ∙ c .if2 .left in (
+    let x = table (s .n) (s .x .now) in
+    let y = table (s .n) (s .y .now) in (
       omega (arith, v .inv .0),
       omega (arith, at .loop-test .taken),
-      none-more (terms (s .q)) (table (s .n) (s .x .now)) (s .i) (table (s .n) (s .y .now)) (s .j) (v .k) (v .inv .2)
-          here,
+      none-more (terms (s .q)) x (s .i) y (s .j) (v .k) (v .inv .2)
+          (rw (← c .before .near-by .ensures) (c .if2 .left)),
     )
 
 returns-2 : tie.Need-returns-2 Inv-loop μ-loop
