@@ -33,7 +33,7 @@ sub-is-withdrawn c = omega arith
 is-withdrawn-requires : tie.Need-is-withdrawn-requires Inv-loop μ-loop
 is-withdrawn-requires c κs =
     let s = c .before .before .before .args in
-    has-row (table (s .n) (s .x .now)) (c .before .loop .m - 1) (omega arith)
+    has-row (table (s .n) (s .x .now)) _ (omega arith)
 
 returns : tie.Need-returns Inv-loop μ-loop
 returns c =
