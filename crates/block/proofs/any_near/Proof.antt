@@ -1,48 +1,33 @@
--- `any_near` meets its contract: after i turns the first i rows are looked at. Assumes nothing.
-use mathlib.Core.Path.{_≡_, refl, ap, _∙_}
-use Prim.Native.Nat.{_-_, _≤_}
-use native.Mathlib.Numerals.{add-one}
-use native.Mathlib.Omega.{arith}
+-- `any_near` meets its contract, whichever loops are chosen. Assumes nothing.
 use borrow.Author.Needs.{needs}
-use Rattle.rules.specs.Tables.{rowCount}
-use Rattle.block.specs.Near.{placed, anyNear}
 use Rattle.block.proofs.any_near.Statement.{statement}
 use Rattle.block.proofs.any_near.Tie as tie
 
-abbrev Inv-loop : tie.InvT-loop
-Inv-loop q x y m seen₀ i₀ seen i = (i ≤ m) × (m ≡ rowCount x) × (seen ≡ anyNear (placed q) x y i)
+any-near-at-requires : tie.Need-any-near-at-requires
+any-near-at-requires c κs = search needs
 
-abbrev μ-loop : tie.MeasureT-loop
-μ-loop q x y m seen₀ i₀ seen i = m - i
+returns : tie.Need-returns
+returns c = rw (c .before .if1 .taken) (c .any-near-at .ensures)
 
-row-count-requires : tie.Need-row-count-requires Inv-loop μ-loop
-row-count-requires c κs = search needs
+any-near-at-requires-2 : tie.Need-any-near-at-requires-2
+any-near-at-requires-2 c κs = search needs
 
-loop-holds : tie.Need-loop-holds Inv-loop μ-loop
-unfolding anyNear
-loop-holds c = (search needs, c .row-count .ensures, refl)
+returns-2 : tie.Need-returns-2
+returns-2 c = rw (c .before .if2 .taken) (c .any-near-at2 .ensures)
 
-row-near-requires : tie.Need-row-near-requires Inv-loop μ-loop
-row-near-requires c κs = omega arith
+any-near-at-requires-3 : tie.Need-any-near-at-requires-3
+any-near-at-requires-3 c κs = search needs
 
-add-i : tie.Need-add-i Inv-loop μ-loop
-add-i c = omega arith
-
-loop-less : tie.Need-loop-less Inv-loop μ-loop
-loop-less c = omega arith
-
-loop-again : tie.Need-loop-again Inv-loop μ-loop
-unfolding anyNear
-loop-again c = (search needs, c .before .before .before .row-count .ensures, rw add-one (cc))
-
-returns : tie.Need-returns Inv-loop μ-loop
-returns c =
-    let s = c .before .before .before in
-    let v = c .before .loop in
-    let e : v .i ≡ rowCount (s .args .x .now) = omega arith in
-    v .inv .2 ∙ ap (anyNear (placed (s .args .q)) (s .args .x .now) (s .args .y .now)) e
+returns-3 : tie.Need-returns-3
+returns-3 c = search needs
 
 pub any-near-spec : {M : Type 1} → statement M
 any-near-spec =
     tie.close
-    (tie.spec Inv-loop μ-loop row-count-requires loop-holds row-near-requires add-i loop-less loop-again returns)
+    (tie.spec
+    any-near-at-requires
+    returns
+    any-near-at-requires-2
+    returns-2
+    any-near-at-requires-3
+    returns-3)

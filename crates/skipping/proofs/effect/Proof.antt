@@ -1,6 +1,7 @@
 -- `effect` meets its contract. Assumes nothing.
 use mathlib.Core.Path.{_≡_, sym, _∙_}
 use mathlib.Core.Bool.{false}
+use Rattle.rules.specs.Tables.{table}
 use Rattle.skipping.specs.Effect.{skips, effect-skip, effect-quiet, effect-open}
 use borrow.Author.Needs.{needs}
 use Rattle.skipping.proofs.effect.Statement.{statement}
@@ -22,7 +23,7 @@ add-if1 c = search needs
 returns : tie.Need-returns
 returns c =
     let s = c .before .before .before .args in
-    effect-skip (s .full) (s .low) (s .q) (s .x .now) (s .y .now)
+    effect-skip (s .full) (s .low) (s .q) (table (s .n) (s .x .now)) (table (s .n) (s .y .now))
     (simp (c .before .before .weighted .ensures .0, c .before .weighted2 .ensures .0) at (c .if1 .taken))
 
 row-count-requires : tie.Need-row-count-requires
@@ -30,14 +31,14 @@ row-count-requires c κs = search needs
 
 -- their weights do not skip the blocks
 kept : (c : tie.Else1) → let s = c .before .before .before .args in
-    skips (s .full) (s .low) (s .q) (s .x .now) (s .y .now) ≡ false
+    skips (s .full) (s .low) (s .q) (table (s .n) (s .x .now)) (table (s .n) (s .y .now)) ≡ false
 kept c = simp (c .before .before .weighted .ensures .0, c .before .weighted2 .ensures .0) at (c .if1 .left)
 
 returns-2 : tie.Need-returns-2
 returns-2 c =
     let at = c .before .before in
     let s = at .before .before .before .args in
-    effect-open (s .full) (s .low) (s .q) (s .x .now) (s .y .now) (kept at)
+    effect-open (s .full) (s .low) (s .q) (table (s .n) (s .x .now)) (table (s .n) (s .y .now)) (kept at)
 
 any-near-requires : tie.Need-any-near-requires
 any-near-requires c κs = search needs
@@ -46,13 +47,13 @@ returns-3 : tie.Need-returns-3
 returns-3 c =
     let at = unskipped (c .before) in
     let s = at .before .before .before .args in
-    effect-open (s .full) (s .low) (s .q) (s .x .now) (s .y .now) (kept at)
+    effect-open (s .full) (s .low) (s .q) (table (s .n) (s .x .now)) (table (s .n) (s .y .now)) (kept at)
 
 returns-4 : tie.Need-returns-4
 returns-4 c =
     let at = unskipped (c .before) in
     let s = at .before .before .before .args in
-    effect-quiet (s .full) (s .low) (s .q) (s .x .now) (s .y .now) (kept at)
+    effect-quiet (s .full) (s .low) (s .q) (table (s .n) (s .x .now)) (table (s .n) (s .y .now)) (kept at)
     (sym (c .before .any-near .ensures) ∙ c .if3 .left)
 
 pub effect-spec : {M : Type 1} → statement M
