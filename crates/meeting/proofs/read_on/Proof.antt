@@ -97,7 +97,8 @@ keys c =
     after-new .1 .1 .0
 
 -- the numbers and keys stand for it
-stands : (c : tie.After-meet-blocks) → Stands (met (start (c .before .before .before))) (c .meet-blocks .result) (keys c)
+stands : (c : tie.After-meet-blocks)
+    → Stands (met (start (c .before .before .before))) (c .meet-blocks .result) (keys c)
 stands c =
     let at = c .before .before .before in
     simp (

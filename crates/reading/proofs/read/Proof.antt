@@ -138,7 +138,8 @@ enum-told : tie.Need-enum-told Inv-loop μ-loop Inv-loop2 μ-loop2
 enum-told c = search needs
 
 -- the checks' code, from an answer that a block is to be read
-abbrev called : tie.After-enum-told Inv-loop μ-loop Inv-loop2 μ-loop2 → tie.After-call-code Inv-loop μ-loop Inv-loop2 μ-loop2
+abbrev called : tie.After-enum-told Inv-loop μ-loop Inv-loop2 μ-loop2
+    → tie.After-call-code Inv-loop μ-loop Inv-loop2 μ-loop2
 called c = c .before .before .before .before
 
 -- a block is to be read: the checks passed, those of the new block too, and the session is not settled

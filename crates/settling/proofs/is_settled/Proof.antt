@@ -13,6 +13,7 @@ use borrow.Author.Needs.{needs}
 use Rattle.settling.proofs.is_settled.Statement.{statement}
 use Rattle.settling.proofs.is_settled.Tie as tie
 
+-- the record handed in has all its pair places
 long : (c : tie.Start) → length (c .args .s .pairs) ≡ placeCount
 long c = places-long (c .args .s) _ (c .good .1 .1 .0)
 
