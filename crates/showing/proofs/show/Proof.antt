@@ -3,6 +3,7 @@ use mathlib.Core.Path.{_≡_, sym, ap, _∙_}
 use mathlib.Core.Bool.{Bool}
 use native.Mathlib.Omega.{arith}
 use borrow.Author.Tests.{eq-eqb, ne-eqb}
+use Rattle.rules.specs.Session.{lentTable}
 use Rattle.rules.specs.Take.{shownRows}
 use Rattle.rules.specs.Calls.{lentCode, showCall, showPlace}
 use Rattle.session_laws.specs.Calls.{Lent, lent-out}
@@ -14,18 +15,19 @@ use Rattle.showing.proofs.show.Tie as tie
 -- what the checks answer is the rule's
 code-is : (c : tie.After-lent-code)
     → c .lent-code .result
-    ≡ lentCode (c .before .before .args .f .now) (c .before .before .args .t .now) (c .before .before .args .s)
+    ≡ (let s = c .before .before .args in
+    lentCode (lentTable (s .s) (lentTable (s .s) (s .f .now))) (lentTable (s .s) (lentTable (s .s) (s .t .now))) (s .s))
 code-is c =
     let s = c .before .before .args in
     c .lent-code .ensures
     ∙ ap (λ (b : Bool). lentOf b (s .s .rows) (s .f .now) (s .t .now)) (c .before .fits2 .ensures)
     ∙ lent-is (s .f .now) (s .t .now) (s .s)
 
-passed : (c : tie.Else1) → let s = c .before .before .before .args in lentCode (s .f .now) (s .t .now) (s .s) ≡ 0
+passed : (c : tie.Else1) → let s = c .before .before .before .args in lentCode (lentTable (s .s) (s .f .now)) (lentTable (s .s) (s .t .now)) (s .s) ≡ 0
 passed c = sym (code-is (c .before)) ∙ c .if1 .left
 
-known : (c : tie.Else1) → let s = c .before .before .before .args in Lent (s .f .now) (s .t .now) (s .s)
-known c = let s = c .before .before .before .args in lent-out (s .f .now) (s .t .now) (s .s) (passed c)
+known : (c : tie.Else1) → let s = c .before .before .before .args in Lent (lentTable (s .s) (s .f .now)) (lentTable (s .s) (s .t .now)) (s .s)
+known c = let s = c .before .before .before .args in lent-out (lentTable (s .s) (s .f .now)) (lentTable (s .s) (s .t .now)) (s .s) (passed c)
 
 fits-requires : tie.Need-fits-requires
 fits-requires c κs = search needs
