@@ -7,5 +7,6 @@ pub mod Take
 pub mod Until
 pub mod Zeros
 pub mod Cards
+pub mod Shades
 pub mod Sound
 pub mod Alike
