@@ -19,7 +19,7 @@ use Rattle.rules.specs.Query.{wasRead, wasGiven, takeUntilFinished, settledSess
 use Rattle.run_query.specs.declared.ReadOut.{ReadOut}
 use Rattle.run_query.specs.declared.TakenOut.{TakenOut}
 use Rattle.run_query.specs.declared.Outcome.{Outcome}
-use Rattle.run_query.specs.Until.{readOn, read-ends, take-ends, settled-on}
+use Rattle.run_query.specs.Until.{readOn, read-ends, take-ends, settled-on, list-taken}
 use Rattle.session_laws.specs.Zeros.{zeros-read, zeros-take, refused-zeros}
 use Rattle.session_laws.specs.Cards.{lent-again, settled-again}
 
@@ -110,6 +110,14 @@ module _ (q : Query) (f t : Table) where
   abbrev done : Session
   done = settledSession q f t
 
+  done-zeros : eqb (openCode q f t) 0 ≡ false → done ≡ zeros
+  done-zeros e = sym (settled-on q f t) ∙ ap (readOn f t) (refused-zeros q f t e) ∙ zeros-on f t
+
+  -- a refused opening lists nothing
+  pub refused-none : eqb (openCode q f t) 0 ≡ false → list q f t ≡ []
+  refused-none e =
+      sym (list-taken q f t) ∙ ap (takeUntilFinished placeCount f t) (done-zeros e) ∙ zeros-none f t
+
   pub take-done : takenOut (lentTable done (f .numbers)) (lentTable done (t .numbers)) done ≡ takenOut f t done
   unfolding takenOut
   take-done = go (eqb (openCode q f t) 0) refl
@@ -120,8 +128,7 @@ module _ (q : Query) (f t : Table) where
           let same = settled-again q f t (eqb-true (openCode q f t) 0 e) in
           ap₂ (λ x y. takenOut x y done) (same .0) (same .1)
       go false e =
-          let z : done ≡ zeros =
-          sym (settled-on q f t) ∙ ap (readOn f t) (refused-zeros q f t e) ∙ zeros-on f t in
+          let z = done-zeros e in
           let ends : (x y : Table) → takenOut x y zeros ≡ record { pairs = places []; count = 0 } =
           λ x y. ap (λ (l : List Pair). record { pairs = places l; count = length l }) (zeros-none x y) in
           ap (λ (s : Session). takenOut (lentTable s (f .numbers)) (lentTable s (t .numbers)) s) z

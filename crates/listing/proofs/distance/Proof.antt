@@ -2,7 +2,7 @@
 use mathlib.Core.Path.{_≡_}
 use Prim.Native.Nat.{_-_, _<_, _^_, min}
 use native.Mathlib.Omega.{arith}
-use Rattle.rules.specs.Tables.{row, squaredDistance}
+use Rattle.rules.specs.Tables.{table, row, squaredDistance}
 use Rattle.listing.specs.Shown.{lineOf}
 use borrow.Author.Needs.{needs}
 use Rattle.listing.proofs.distance.Statement.{statement}
@@ -33,8 +33,8 @@ returns : tie.Need-returns
 unfolding lineOf
 returns c =
     let s = c .before .before .before .before .before in
-    let x = row (s .args .f .now) (s .args .p .field - 1) .shade in
-    let y = row (s .args .t .now) (s .args .p .trim - 1) .shade in
+    let x = row (table (s .args .n) (s .args .f .now)) (s .args .p .field - 1) .shade in
+    let y = row (table (s .args .n) (s .args .t .now)) (s .args .p .trim - 1) .shade in
     let small : squaredDistance x y < 2 ^ 64 = s .pre .small in
     let e : c .squared-distance .result ≡ min (squaredDistance x y) (2 ^ 64 - 1) =
     simp (c .before .before .before .shade .ensures, c .before .shade2 .ensures) at (c .squared-distance .ensures) in

@@ -1,6 +1,7 @@
 -- `put_listing` meets its contract. Assumes nothing.
 use native.Mathlib.Omega.{arith}
 use borrow.Author.Needs.{needs}
+use Rattle.rules.specs.Tables.{table}
 use Rattle.listing.specs.ListShown.{count-few}
 use Rattle.listing.proofs.Lines.{listing-put}
 use Rattle.listing.proofs.put_listing.Statement.{statement}
@@ -21,13 +22,13 @@ pairs-put c = c .before .before .before .before
 mul-end : tie.Need-mul-end
 mul-end c =
     let s = c .before .before .before in
-    let few = count-few (s .args .f .now) (s .args .t .now) (s .args .run) (s .pre .1) in
+    let few = count-few (table (s .args .n) (s .args .f .now)) (table (s .args .n) (s .args .t .now)) (s .args .run) (s .pre .1) in
     record { fits = omega arith }
 
 add-end : tie.Need-add-end
 add-end c =
     let s = c .before .before .before in
-    let few = count-few (s .args .f .now) (s .args .t .now) (s .args .run) (s .pre .1) in
+    let few = count-few (table (s .args .n) (s .args .f .now)) (table (s .args .n) (s .args .t .now)) (s .args .run) (s .pre .1) in
     record { fits = omega arith }
 
 put-query-requires : tie.Need-put-query-requires
@@ -41,13 +42,13 @@ put-last-requires c κs =
     let pairs = c .before .before .before in
     let query = query-put pairs in
     let s = start query in
-    let few = count-few (s .args .f .now) (s .args .t .now) (s .args .run) (s .pre .1) in
+    let few = count-few (table (s .args .n) (s .args .f .now)) (table (s .args .n) (s .args .t .now)) (s .args .run) (s .pre .1) in
     omega (arith, pairs .put-pairs .kept .0, query .put-query .kept .0, s .pre .0)
 
 add-result : tie.Need-add-result
 add-result c =
     let s = start (query-put (pairs-put (c .before .before))) in
-    let few = count-few (s .args .f .now) (s .args .t .now) (s .args .run) (s .pre .1) in
+    let few = count-few (table (s .args .n) (s .args .f .now)) (table (s .args .n) (s .args .t .now)) (s .args .run) (s .pre .1) in
     record { fits = omega arith }
 
 same-length : tie.Need-same-length
@@ -59,8 +60,8 @@ returns c =
     let pairs = pairs-put (c .before .before) in
     let query = query-put pairs in
     let s = start query in
-    let f = s .args .f .now in
-    let t = s .args .t .now in
+    let f = table (s .args .n) (s .args .f .now) in
+    let t = table (s .args .n) (s .args .t .now) in
     let few = count-few f t (s .args .run) (s .pre .1) in
     let end =
     listing-put f t (s .args .run) (s .args .out .now) (query .put-query .last .0) (pairs .put-pairs .last .0)

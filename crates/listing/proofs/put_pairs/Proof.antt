@@ -5,6 +5,7 @@ use Prim.Native.Nat.{ℕ, _+_, _*_, _-_, _≤_}
 use native.Mathlib.Omega.{arith}
 use lib.ListN.{length, getD}
 use borrow.Author.Needs.{needs}
+use Rattle.rules.specs.Tables.{table}
 use Rattle.rules.specs.Session.{noPair, placeCount}
 use Rattle.rules.specs.Query.{list}
 use Rattle.printing.specs.Put.{putAt}
@@ -17,11 +18,12 @@ use Rattle.listing.proofs.put_pairs.Statement.{statement}
 use Rattle.listing.proofs.put_pairs.Tie as tie
 
 abbrev Inv-loop : tie.InvT-loop
-Inv-loop out₀ at f t run i₀ out i =
-    (run .count ≤ placeCount) × Writing (lineAt f t) lineLength at (list (run .query) f t) out₀ i out
+Inv-loop out₀ at n f t run i₀ out i =
+    (run .count ≤ placeCount)
+    × Writing (lineAt (table n f) (table n t)) lineLength at (list (run .query) (table n f) (table n t)) out₀ i out
 
 abbrev μ-loop : tie.MeasureT-loop
-μ-loop out₀ at f t run i₀ out i = run .count - i
+μ-loop out₀ at n f t run i₀ out i = run .count - i
 
 -- the start of the call, from where its loop stands
 abbrev start : tie.At-loop Inv-loop μ-loop → tie.Start Inv-loop μ-loop
@@ -34,8 +36,8 @@ turn c = c .before .before .before .before
 loop-holds : tie.Need-loop-holds Inv-loop μ-loop
 loop-holds c =
     let s = c .before .args in
-    let f = s .f .now in
-    let t = s .t .now in
+    let f = table (s .n) (s .f .now) in
+    let t = table (s .n) (s .t .now) in
     let l = list (s .t5 .query) f t in (
       count-few f t (s .t5) (c .before .pre .1),
       writing-starts (lineAt f t) lineLength (s .at) l (s .out .now),
@@ -57,7 +59,7 @@ line-of-requires : tie.Need-line-of-requires Inv-loop μ-loop
 line-of-requires c κs =
     let s = start (c .before .before) in
     let i = c .before .before .loop .i in
-    pair-at (s .args .f .now) (s .args .t .now) (s .args .t5) (s .pre .1) i (c .before .loop-test .taken) .shown
+    pair-at (table (s .args .n) (s .args .f .now)) (table (s .args .n) (s .args .t .now)) (s .args .t5) (s .pre .1) i (c .before .loop-test .taken) .shown
 
 mul-put-line : tie.Need-mul-put-line Inv-loop μ-loop
 mul-put-line c = search needs
@@ -84,8 +86,8 @@ loop-again c =
     let at = turn (c .before .before) in
     let l = at .before .loop in
     let s = start (at .before) in
-    let f = s .args .f .now in
-    let t = s .args .t .now in
+    let f = table (s .args .n) (s .args .f .now) in
+    let t = table (s .args .n) (s .args .t .now) in
     let run = s .args .t5 in
     let p = pair-at f t run (s .pre .1) (l .i) (at .loop-test .taken) in
     let bytes : lineBytes (line .result) ≡ lineAt f t (l .i) (getD (list (run .query) f t) (l .i) noPair) =
@@ -101,8 +103,8 @@ same-length c = c .before .loop .inv .1 .kept
 returns : tie.Need-returns Inv-loop μ-loop
 returns c =
     let s = start (c .before) in
-    let f = s .args .f .now in
-    let t = s .args .t .now in
+    let f = table (s .args .n) (s .args .f .now) in
+    let t = table (s .args .n) (s .args .t .now) in
     let run = s .args .t5 in
     let l = c .before .loop in
     let all = list (run .query) f t in
