@@ -45,7 +45,8 @@ stepped : (c : tie.After-read) → c .read .result ≡ called c
 stepped c =
     let s = start c .args in
     c .read .ensures
-    ∙ ap (λ (r : Session). readCall (lentTable r (s .f .now)) (lentTable r (s .t .now)) r) (c .before .unpack .ensures .0)
+    ∙ ap (λ (r : Session). readCall (lentTable r (s .f .now)) (lentTable r (s .t .now)) r)
+    (c .before .unpack .ensures .0)
 
 -- what stands in the lent slice: the record of a read block, or what stood there
 written : (c : tie.At-match-came) → c .match .lent ≡ leftIn (start (c .before) .args .lent .now) (called (c .before))
