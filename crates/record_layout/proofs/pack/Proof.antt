@@ -11,7 +11,7 @@ use Rattle.rules.specs.declared.Pair.{Pair}
 use Rattle.rules.specs.Session.{noPair, placeCount}
 use Rattle.rules.proofs.Places.{places-long}
 use Rattle.record_layout.specs.Flat.{pairsAt, pairSize, pairAt, fieldWeightAt, flatSize, flatPair}
-use Rattle.record_layout.specs.Flat.{flatHead, flatWeights, flatTail, flatten}
+use Rattle.record_layout.specs.Flat.{flatHead, flatTail, flatten}
 use Rattle.record_layout.specs.RoundTrip.{flat-length}
 use Rattle.record_layout.proofs.Places.{onto, laid, none-laid, one-out}
 use Rattle.record_layout.proofs.pack.Statement.{statement}
@@ -85,16 +85,16 @@ loop-again c =
           ∙ one-out l (s .pairs) (omega (arith, v .inv .3)) (v .i) (omega (arith, h, v .inv .1)),
     )
 
-put-weights-requires : tie.Need-put-weights-requires Inv-loop μ-loop
-put-weights-requires c κs = let v = c .before .before .before .loop in omega (arith, v .inv .2, v .inv .3)
+put-tail-requires : tie.Need-put-tail-requires Inv-loop μ-loop
+put-tail-requires c κs = let v = c .before .before .loop in omega (arith, v .inv .2, v .inv .3)
 
 same-length : tie.Need-same-length Inv-loop μ-loop
 same-length c = search needs
 
 returns : tie.Need-returns Inv-loop μ-loop
-unfolding flatten flatHead flatTail flatWeights
+unfolding flatten flatHead flatTail
 returns c =
-    let at = c .before .before .before .before .before in
+    let at = c .before .before .before .before in
     let v = at .before .loop in
     let start = headed (at .before) .before .before .before in
     let s = start .args .t1 in
@@ -104,7 +104,7 @@ returns c =
     let pairs = each flatPair (s .pairs) in
     let e : v .i ≡ placeCount = omega (arith, v .inv .0, at .loop-test .left) in
     let long : length (flatHead s ++ pairs) ≡ fieldWeightAt = omega (arith, flat-length (s .pairs), v .inv .1) in
-    c .before .before .put-weights .ensures
+    c .before .before .put-tail .ensures
     ∙ ap (λ (r : List ℕ). take fieldWeightAt r ++ flatTail s ++ drop flatSize r)
     (v .inv .4
     ∙ ap (laid last (s .pairs)) e
@@ -112,7 +112,7 @@ returns c =
     (take-all placeCount (s .pairs) (omega (arith, v .inv .1)))
     ∙ ap (λ (r : List ℕ). take pairsAt r ++ pairs ++ drop fieldWeightAt r) (head .ensures)
     ∙ onto (flatHead s) pairs l pairsAt (pairSize * placeCount) refl)
-    ∙ onto (flatHead s ++ pairs) (flatTail s) l fieldWeightAt 2 long
+    ∙ onto (flatHead s ++ pairs) (flatTail s) l fieldWeightAt 3 long
 
 pub pack-spec : {M : Type 1} → statement M
 pack-spec =
@@ -130,6 +130,6 @@ pack-spec =
     add-i
     loop-less
     loop-again
-    put-weights-requires
+    put-tail-requires
     same-length
     returns)
