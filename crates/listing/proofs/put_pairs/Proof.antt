@@ -38,8 +38,8 @@ loop-holds c =
     let s = c .before .args in
     let f = table (s .n) (s .f .now) in
     let t = table (s .n) (s .t .now) in
-    let l = list (s .t5 .query) f t in (
-      count-few f t (s .t5) (c .before .pre .1),
+    let l = list (s .t6 .query) f t in (
+      count-few f t (s .t6) (c .before .pre .1),
       writing-starts (lineAt f t) lineLength (s .at) l (s .out .now),
     )
 
@@ -59,7 +59,7 @@ line-of-requires : tie.Need-line-of-requires Inv-loop μ-loop
 line-of-requires c κs =
     let s = start (c .before .before) in
     let i = c .before .before .loop .i in
-    pair-at (table (s .args .n) (s .args .f .now)) (table (s .args .n) (s .args .t .now)) (s .args .t5) (s .pre .1) i (c .before .loop-test .taken) .shown
+    pair-at (table (s .args .n) (s .args .f .now)) (table (s .args .n) (s .args .t .now)) (s .args .t6) (s .pre .1) i (c .before .loop-test .taken) .shown
 
 mul-put-line : tie.Need-mul-put-line Inv-loop μ-loop
 mul-put-line c = search needs
@@ -88,7 +88,7 @@ loop-again c =
     let s = start (at .before) in
     let f = table (s .args .n) (s .args .f .now) in
     let t = table (s .args .n) (s .args .t .now) in
-    let run = s .args .t5 in
+    let run = s .args .t6 in
     let p = pair-at f t run (s .pre .1) (l .i) (at .loop-test .taken) in
     let bytes : lineBytes (line .result) ≡ lineAt f t (l .i) (getD (list (run .query) f t) (l .i) noPair) =
     ap lineBytes (line .ensures)
@@ -105,7 +105,7 @@ returns c =
     let s = start (c .before) in
     let f = table (s .args .n) (s .args .f .now) in
     let t = table (s .args .n) (s .args .t .now) in
-    let run = s .args .t5 in
+    let run = s .args .t6 in
     let l = c .before .loop in
     let all = list (run .query) f t in
     let done : length all ≤ l .i = omega (arith, c .loop-test .left, counted f t run (s .pre .1)) in
