@@ -2,6 +2,7 @@
 use lib.ListN.{length}
 use borrow.Author.Needs.{needs}
 use borrow.Author.Tests.{leb-true}
+use Rattle.rules.specs.Tables.{table}
 use Rattle.query_numbers.specs.Answers.{rootsRoom}
 use Rattle.query_numbers.proofs.Steps.{answered-roots, answered-numbers}
 use Rattle.query_numbers.proofs.put_numbers.Statement.{statement}
@@ -44,7 +45,7 @@ returns c =
     let pairs = if .before .before .before in
     let three = first pairs in
     let s = start (three .before) in
-    answered-roots (s .args .f .now) (s .args .t .now) (s .args .run) (s .args .out .now) (three .put-three .last .0)
+    answered-roots (table (s .args .n) (s .args .f .now)) (table (s .args .n) (s .args .t .now)) (s .args .run) (s .args .out .now) (three .put-three .last .0)
     (pairs .put-parts .last .1 .1 .0) (s .pre .1) (three .put-three .ensures) (pairs .put-parts .ensures)
     (roots .last .1 .1 .0) (if .if1 .taken) (roots .ensures)
 
@@ -56,7 +57,7 @@ returns-2 c =
     let pairs = c .before .before .before in
     let three = first pairs in
     let s = start (three .before) in
-    answered-numbers (s .args .f .now) (s .args .t .now) (s .args .run) (s .args .out .now) (three .put-three .last .0)
+    answered-numbers (table (s .args .n) (s .args .f .now)) (table (s .args .n) (s .args .t .now)) (s .args .run) (s .args .out .now) (three .put-three .last .0)
     (pairs .put-parts .last .1 .1 .0) (s .pre .1) (three .put-three .ensures) (pairs .put-parts .ensures)
     (c .if1 .left)
 

@@ -1,4 +1,5 @@
 -- `put_root` meets its contract. Assumes nothing.
+use Rattle.rules.specs.Tables.{table}
 use Rattle.query_numbers.proofs.Steps.{roots-put}
 use borrow.Author.Needs.{needs}
 use Rattle.query_numbers.proofs.put_root.Statement.{statement}
@@ -29,7 +30,7 @@ returns c =
     let one = first (c .before .before) in
     let line = one .before .before in
     let s = line .before .before .args in
-    roots-put (s .f .now) (s .t .now) (s .p) (line .line-of .result) (s .at) (s .out .now) (one .put-one .last .0)
+    roots-put (table (s .n) (s .f .now)) (table (s .n) (s .t .now)) (s .p) (line .line-of .result) (s .at) (s .out .now) (one .put-one .last .0)
     (more .last .0) (line .line-of .ensures) (one .put-one .ensures) (more .ensures)
 
 pub put-root-spec : {M : Type 1} → statement M
