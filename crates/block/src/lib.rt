@@ -24,7 +24,7 @@ fn near_at(n: u32, q: Query, x: &[i32], i: usize, y: &[i32], j: usize) -> bool
 }
 
 // Whether row i + 1 of x and row j + 1 of y lie within the radius, withdrawn or not. The code is chosen by n, so that
-// the compiler knows a row's width; it makes the choice once for all pairs.
+// the compiler knows how many numbers a row has; it makes the choice outside the loops.
 fn near(n: u32, q: Query, x: &[i32], i: usize, y: &[i32], j: usize) -> bool
     requires { ⌜ HasRow (table n (now x)) i × HasRow (table n (now y)) j ⌝ }
     ensures { λ r. ⌜ r ≡ placed q .near (row (table n (now (x .entry))) i) (row (table n (now (y .entry))) j) ⌝ }

@@ -220,7 +220,8 @@ fn row_passes_at(n: u32, t: &[i32], i: usize) -> bool
     inside & ordered
 }
 
-// Whether row i + 1 of a table is refused by neither. The code is chosen by n, so that the compiler knows a row's width.
+// Whether row i + 1 of a table is refused by neither. The code is chosen by n, so that the compiler knows how many
+// numbers a row has.
 fn row_passes(n: u32, t: &[i32], i: usize) -> bool
     requires { ⌜ (i < mostRows) × HasRow (table n (now t)) i ⌝ }
     ensures { λ r. ⌜ r ≡ eqb (rowCode (table n (now (t .entry))) i) 0 ⌝ }
