@@ -2,13 +2,14 @@
 -- Assumes nothing.
 use mathlib.Core.Path.{_≡_, refl, sym, ap, ap₂, _∙_}
 use mathlib.Core.Bool.{cond}
-use mathlib.Core.List.{List}
 use Prim.Native.Nat.{ℕ, _+_, _*_, _-_, _≤_, _<_, _^_}
-use lib.IntN.{ℤ}
 use native.Mathlib.Omega.{arith}
 use borrow.Author.Needs.{needs}
 use Rattle.rules.specs.declared.Query.{Query}
 use Rattle.rules.specs.declared.Session.{Session}
+use Rattle.rules.specs.Tables.{Table}
+use Rattle.rules.specs.Widths.{rows-less}
+use Rattle.rules.specs.Session.{lentTable}
 use Rattle.rules.specs.Read.{meet, meetBlocksBy, meetBlocks}
 use Rattle.session_laws.specs.Read.{blocks-keep, blocks-joined}
 use Rattle.meeting.specs.declared.Span.{Span}
@@ -27,7 +28,10 @@ Inv-loop field s f t new depth n keys₀ block room m₀ c₀ i₀ keys m c i =
     × (room ≡ s .query .k - s .out)
     × (c ≡ i * block)
     × (m .held ≤ room)
-    × Stands (meetBlocks field s (spanBlock (cond field f t) new) (cond field t f) depth i) m keys
+    × Stands
+    (meetBlocks field s (spanBlock (cond field (lentTable s f) (lentTable s t)) new)
+    (cond field (lentTable s t) (lentTable s f)) depth i)
+    m keys
 
 abbrev μ-loop : tie.MeasureT-loop
 μ-loop field s f t new depth n keys₀ block room m₀ c₀ i₀ keys m c i = n - i
@@ -40,12 +44,18 @@ start c = c .before .before .before .before
 abbrev turn : tie.After-lesser Inv-loop μ-loop → tie.At-loop Inv-loop μ-loop
 turn c = c .before .before
 
--- the table that is read, and the other one
-abbrev own : tie.Start Inv-loop μ-loop → List ℤ
-own s = cond (s .args .field) (s .args .f .now) (s .args .t .now)
+-- the two tables: the one that is read, and the other one
+abbrev fields : tie.Start Inv-loop μ-loop → Table
+fields s = lentTable (s .args .s) (s .args .f .now)
 
-abbrev other : tie.Start Inv-loop μ-loop → List ℤ
-other s = cond (s .args .field) (s .args .t .now) (s .args .f .now)
+abbrev trims : tie.Start Inv-loop μ-loop → Table
+trims s = lentTable (s .args .s) (s .args .t .now)
+
+abbrev own : tie.Start Inv-loop μ-loop → Table
+own s = cond (s .args .field) (fields s) (trims s)
+
+abbrev other : tie.Start Inv-loop μ-loop → Table
+other s = cond (s .args .field) (trims s) (fields s)
 
 -- the record after i blocks
 abbrev after : tie.Start Inv-loop μ-loop → ℕ → Session
@@ -88,21 +98,22 @@ old-inside c =
     record {
       some = omega (arith, begins (c .before), c .lesser .ensures, least);
       few = omega (arith, c .lesser .ensures, s .pre .1 .1 .0);
-      within = omega (arith, c .lesser .ensures, s .pre .1 .1 .1);
+      within =
+          rows-less (other s) (c .lesser .result) (s .args .depth) (omega (arith, c .lesser .ensures)) (s .pre .1 .1 .1);
       fit = λ i h. s .pre .1 .0 .1 i (omega (arith, h, c .lesser .ensures));
     }
 
 inside : (c : tie.After-either2 Inv-loop μ-loop)
-    → let a = start (turn (c .before .before)) .args in
-    SpanFits (c .before .either .result) (a .f .now) × SpanFits (c .either2 .result) (a .t .now)
+    → let s = start (turn (c .before .before)) in
+    SpanFits (c .before .either .result) (fields s) × SpanFits (c .either2 .result) (trims s)
 inside c =
     let l = c .before .before in
     let s = start (turn l) in
     let a = s .args in (
       rw (c .before .either .ensures)
-          (inside-field (a .f .now) (a .t .now) (a .new) (old l) (a .field) (s .pre .1 .0 .0) (old-inside l)),
+          (inside-field (fields s) (trims s) (a .new) (old l) (a .field) (s .pre .1 .0 .0) (old-inside l)),
       rw (c .either2 .ensures)
-          (inside-trim (a .f .now) (a .t .now) (a .new) (old l) (a .field) (s .pre .1 .0 .0) (old-inside l)),
+          (inside-trim (fields s) (trims s) (a .new) (old l) (a .field) (s .pre .1 .0 .0) (old-inside l)),
     )
 
 cast-block : tie.Need-cast-block Inv-loop μ-loop
@@ -155,7 +166,7 @@ meet-parts-requires c κs =
         room (c .before .before .before .before),
         v .inv .5 .pairs .long,
       ),
-      (s .pre .0 .0 .query, parts .0, parts .1),
+      (s .pre .0 .0 .query, s .pre .0 .0 .card, parts .0, parts .1),
     )
 
 add-c : tie.Need-add-c Inv-loop μ-loop
@@ -193,9 +204,9 @@ loop-again c =
     let met =
     c .meet-parts .ensures .meets r (ready at (v .i)) (kept .query) left
     (v .inv .5) in
-    let as-rule : meet r (spanBlock (s .f .now) (x .result)) (spanBlock (s .t .now) (y .result)) ≡ after at (v .i + 1) =
-    ap₂ (λ (a b : Span). meet r (spanBlock (s .f .now) a) (spanBlock (s .t .now) b)) (x .ensures) (y .ensures)
-    ∙ parts-meet (s .f .now) (s .t .now) (s .new) (old l) (s .field) r
+    let as-rule : meet r (spanBlock (fields at) (x .result)) (spanBlock (trims at) (y .result)) ≡ after at (v .i + 1) =
+    ap₂ (λ (a b : Span). meet r (spanBlock (fields at) a) (spanBlock (trims at) b)) (x .ensures) (y .ensures)
+    ∙ parts-meet (fields at) (trims at) (s .new) (old l) (s .field) r
     ∙ blocks-next (s .field) (s .s) new (other at) (s .depth) (v .i) (v .c) (l .lesser .result)
     (s .s .query .block) r _ refl (v .inv .3) refl (l .lesser .ensures) refl in (
       omega arith,

@@ -5,6 +5,9 @@ use Prim.Native.Nat.{ℕ, _+_, _*_, _-_, _<_, _≤_}
 use native.Mathlib.Nat.{div-mul-le-self}
 use native.Mathlib.Omega.{arith}
 use Rattle.rules.specs.declared.Session.{Session}
+use Rattle.rules.specs.Tables.{Table}
+use Rattle.rules.specs.Widths.{rows-less}
+use Rattle.rules.specs.Session.{lentTable}
 use Rattle.rules.specs.Read.{meetBlocks, rowsBetween, oldDepth, newDepth, blockCount, readTableBy}
 use Rattle.session_laws.specs.Read.{blocks-keep}
 use Rattle.choosing.specs.Ready.{Ready}
@@ -18,6 +21,13 @@ use Rattle.meeting.proofs.read_on.Tie as tie
 -- the start of the call, from the new depth
 abbrev start : tie.After-next-depth → tie.Start
 start c = c .before .before .before .before
+
+-- the table that is read, and the other one
+abbrev own : tie.Start → Table
+own s = let a = s .args in cond (a .field) (lentTable (a .s) (a .f .now)) (lentTable (a .s) (a .t .now))
+
+abbrev other : tie.Start → Table
+other s = let a = s .args in cond (a .field) (lentTable (a .s) (a .t .now)) (lentTable (a .s) (a .f .now))
 
 pick-requires : tie.Need-pick-requires
 pick-requires c κs = search needs
@@ -63,12 +73,12 @@ meet-blocks-requires c κs =
           record {
             some = omega (arith, due .left, due .ready .query .block .0);
             few = omega (arith, due .few);
-            within = omega (arith, due .rows);
+            within = rows-less (own s) _ _ (omega (arith, due .left)) (due .rows);
             fit = λ i h. s .pre .1 .new i (omega (arith, h));
           },
           λ i h. s .pre .1 .other i (omega (arith, h)),
         ),
-        (omega (arith, due .other-few), omega (arith, due .other-rows), blocks),
+        (omega (arith, due .other-few), rows-less (other s) _ _ (omega arith) (due .other-rows), blocks),
       ),
     )
 
@@ -84,8 +94,7 @@ met s =
     let a = s .args in
     let depth = otherDepth (a .field) (a .s) in
     meetBlocks (a .field) (a .s)
-    (rowsBetween (cond (a .field) (a .f .now) (a .t .now)) (oldDepth (a .field) (a .s)) (newDepth (a .field) (a .s)))
-    (cond (a .field) (a .t .now) (a .f .now)) depth (blockCount (a .s .query .block) depth)
+    (rowsBetween (own s) (oldDepth (a .field) (a .s)) (newDepth (a .field) (a .s))) (other s) depth (blockCount (a .s .query .block) depth)
 
 ready : (s : tie.Start) → Ready (met s)
 ready s = blocks-ready (s .args .field) (s .args .s) _ _ _ _ (s .pre .0 .ready)
@@ -97,7 +106,8 @@ keys c =
     after-new .1 .1 .0
 
 -- the numbers and keys stand for it
-stands : (c : tie.After-meet-blocks) → Stands (met (start (c .before .before .before))) (c .meet-blocks .result) (keys c)
+stands : (c : tie.After-meet-blocks)
+    → Stands (met (start (c .before .before .before))) (c .meet-blocks .result) (keys c)
 stands c =
     let at = c .before .before .before in
     simp (

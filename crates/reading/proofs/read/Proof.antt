@@ -6,7 +6,7 @@ use Prim.Native.Nat.{_-_, _≤_}
 use native.Mathlib.Omega.{arith}
 use borrow.Author.Tests.{eq-eqb}
 use Rattle.lists.specs.Bools.{clash}
-use Rattle.rules.specs.Session.{settled}
+use Rattle.rules.specs.Session.{lentTable, settled}
 use Rattle.rules.specs.declared.Step.{Step}
 use Rattle.rules.specs.Query.{wasRead}
 use Rattle.session_laws.specs.Calls.{call-record}
@@ -119,7 +119,7 @@ call-code-requires : tie.Need-call-code-requires Inv-loop μ-loop Inv-loop2 μ-l
 call-code-requires c κs h = depths-fit (given (c .before .before) .args .s) (sym (looked (c .before .before)) ∙ h)
 
 passed : (c : tie.After-call-code Inv-loop μ-loop Inv-loop2 μ-loop2)
-    → let a = given (looking c) .args in Checked (a .f .now) (a .t .now) (a .s) (c .call-code .result)
+    → let a = given (looking c) .args in Checked (lentTable (a .s) (a .f .now)) (lentTable (a .s) (a .t .now)) (a .s) (c .call-code .result)
 passed c =
     let a = given (looking c) .args in
     checked (a .f .now) (a .t .now) (a .s) (looking c .loop-test .fits) (c .call-code .result) (looked (looking c))
@@ -138,18 +138,19 @@ enum-told : tie.Need-enum-told Inv-loop μ-loop Inv-loop2 μ-loop2
 enum-told c = search needs
 
 -- the checks' code, from an answer that a block is to be read
-abbrev called : tie.After-enum-told Inv-loop μ-loop Inv-loop2 μ-loop2 → tie.After-call-code Inv-loop μ-loop Inv-loop2 μ-loop2
+abbrev called : tie.After-enum-told Inv-loop μ-loop Inv-loop2 μ-loop2
+    → tie.After-call-code Inv-loop μ-loop Inv-loop2 μ-loop2
 called c = c .before .before .before .before
 
 -- a block is to be read: the checks passed, those of the new block too, and the session is not settled
 asked : (c : tie.After-enum-told Inv-loop μ-loop Inv-loop2 μ-loop2)
     → let call = called c in let a = given (looking call) .args in
-    (call .call-code .result ≡ 0) × (settled (a .f .now) (a .t .now) (a .s) ≡ false)
-    × (newBlockCode (a .f .now) (a .t .now) (a .s) ≡ 0)
+    (call .call-code .result ≡ 0) × (settled (lentTable (a .s) (a .f .now)) (lentTable (a .s) (a .t .now)) (a .s) ≡ false)
+    × (newBlockCode (lentTable (a .s) (a .f .now)) (lentTable (a .s) (a .t .now)) (a .s) ≡ 0)
 asked c =
     let call = called c in
     let a = given (looking call) .args in
-    read-asked (call .call-code .result) (a .f .now) (a .t .now) (a .s)
+    read-asked (call .call-code .result) (lentTable (a .s) (a .f .now)) (lentTable (a .s) (a .t .now)) (a .s)
     (sym (c .before .before .read-answer .ensures) ∙ c .enum-told .given .1)
 
 -- all fits: the keys are those of the pairs held
@@ -170,7 +171,7 @@ read-block-requires c κs =
     let a = given at .args in
     let k = asked (c .before) in
     let none = sym (passed call .code-is) ∙ k .0 in
-    let fits = looked at ∙ call-record (a .f .now) (a .t .now) (a .s) none in
+    let fits = looked at ∙ call-record (lentTable (a .s) (a .f .now)) (lentTable (a .s) (a .t .now)) (a .s) none in
     let accepted = passed call .known (k .0) in
     let record-fits = accepted .lent .fits in
     (accepted, k .1, k .2, keyed at fits (omega (arith, record-fits .room, record-fits .query .k .1)))
@@ -208,12 +209,12 @@ loop2-again c =
 -- the answer is the rule's, and so is the record that goes with it
 ended : (c : tie.After-read-answer Inv-loop μ-loop Inv-loop2 μ-loop2)
     → let a = given (looking (c .before .before)) .args in
-    step (c .read-answer .result) (afterRead (a .f .now) (a .t .now) (a .s) (c .read-answer .result)) ≡ readCall
-    (a .f .now) (a .t .now) (a .s)
+    step (c .read-answer .result) (afterRead (lentTable (a .s) (a .f .now)) (lentTable (a .s) (a .t .now)) (a .s) (c .read-answer .result)) ≡ readCall
+    (lentTable (a .s) (a .f .now)) (lentTable (a .s) (a .t .now)) (a .s)
 ended c =
     let call = c .before .before in
     let a = given (looking call) .args in
-    read-ends (a .f .now) (a .t .now) (a .s) (call .call-code .result) (c .read-answer .result) (passed call .code-is)
+    read-ends (lentTable (a .s) (a .f .now)) (lentTable (a .s) (a .t .now)) (a .s) (call .call-code .result) (c .read-answer .result) (passed call .code-is)
     (c .read-answer .ensures)
 
 returns : tie.Need-returns Inv-loop μ-loop Inv-loop2 μ-loop2
@@ -233,7 +234,7 @@ returns-2 : tie.Need-returns-2 Inv-loop μ-loop Inv-loop2 μ-loop2
 returns-2 c =
     let a = given (looking (c .before .before .before)) .args in
     let is = ap (λ (r : Step). r .answer) (ended (c .before)) in
-    simp (not-read (a .f .now) (a .t .now) (a .s) (c .before .read-answer .result) is (c .match .keys2)) at
+    simp (not-read (lentTable (a .s) (a .f .now)) (lentTable (a .s) (a .t .now)) (a .s) (c .before .read-answer .result) is (c .match .keys2)) at
     (ended (c .before))
 
 pub read-spec : {M : Type 1} → statement M

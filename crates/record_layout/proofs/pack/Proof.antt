@@ -28,6 +28,10 @@ Inv-loop out₀ s i₀ out i =
 abbrev μ-loop : tie.MeasureT-loop
 μ-loop out₀ s i₀ out i = placeCount - i
 
+-- where the head is put, from where the loop stands
+abbrev headed : tie.At-loop Inv-loop μ-loop → tie.After-put-head Inv-loop μ-loop
+headed c = c .before .before .before
+
 put-head-requires : tie.Need-put-head-requires Inv-loop μ-loop
 put-head-requires c κs = search needs
 
@@ -67,9 +71,9 @@ unfolding flatPair
 loop-again c =
     let turn = c .before .before .before .before .before in
     let v = turn .before .loop in
-    let start = turn .before .before .before .before in
-    let s = start .before .before .before .args .t1 in
-    let l = start .put-head .last .0 in
+    let head = headed (turn .before) in
+    let s = head .before .before .before .args .t1 in
+    let l = head .put-head .last .0 in
     let p = getD (s .pairs) (v .i) noPair in
     let h : v .i < placeCount = turn .loop-test .taken in (
       omega (arith, h),
@@ -92,10 +96,10 @@ unfolding flatten flatHead flatTail flatWeights
 returns c =
     let at = c .before .before .before .before .before in
     let v = at .before .loop in
-    let start = at .before .before .before .before in
-    let s = start .before .before .before .args .t1 in
-    let l = start .before .before .before .args .out .now in
-    let head = start .put-head in
+    let start = headed (at .before) .before .before .before in
+    let s = start .args .t1 in
+    let l = start .args .out .now in
+    let head = headed (at .before) .put-head in
     let last = head .last .0 in
     let pairs = each flatPair (s .pairs) in
     let e : v .i ≡ placeCount = omega (arith, v .inv .0, at .loop-test .left) in

@@ -5,13 +5,15 @@ use Prim.Native.Nat.{_<_, _≤_}
 use native.Mathlib.Omega.{arith}
 use lib.ListN.{length}
 use borrow.Author.Tests.{eq-eqb, ne-eqb}
-use Rattle.rules.specs.Session.{placeCount, aTableIsEmpty, bothReadOut, settledBy}
+use Rattle.rules.specs.Session.{lentTable, placeCount, aTableIsEmpty, bothReadOut, settledBy}
 use Rattle.rules.proofs.Places.{places-long}
+use Rattle.ceiling.specs.BothRead.{RowsRead, accepted-rows}
 use Rattle.ceiling.specs.Last.{held-then-read, held-secured}
 use borrow.Author.Needs.{needs}
 use Rattle.settling.proofs.is_settled.Statement.{statement}
 use Rattle.settling.proofs.is_settled.Tie as tie
 
+-- the record handed in has all its pair places
 long : (c : tie.Start) → length (c .args .s .pairs) ≡ placeCount
 long c = places-long (c .args .s) _ (c .good .1 .1 .0)
 
@@ -27,19 +29,27 @@ undecided c = c .before .before .before .before
 some : (c : tie.Else4) → 0 < start (undecided (c .before) .before) .args .s .held
 some c = omega (arith, c .if4 .left, c .before .before .before .if3 .left)
 
+-- the rows read are there, and were not refused
+rows : (s : tie.Start) → let a = s .args in
+    RowsRead (lentTable (a .s) (a .f .now)) (a .s .depth .field .0)
+    × RowsRead (lentTable (a .s) (a .t .now)) (a .s .depth .trim .0)
+rows s =
+    let a = s .args in
+    accepted-rows (lentTable (a .s) (a .f .now)) (lentTable (a .s) (a .t .now)) (a .s) (s .pre .0)
+
 is-empty-requires : tie.Need-is-empty-requires
-is-empty-requires c κs = search needs
+is-empty-requires c κs = rows c .0 .there
 
 is-empty-requires-2 : tie.Need-is-empty-requires-2
-is-empty-requires-2 c κs = search needs
+is-empty-requires-2 c κs = rows (c .before) .1 .there
 
 -- what was asked of both tables, by the rules' names
 empty : (c : tie.After-is-empty2) → let a = c .before .before .args in
-    aTableIsEmpty (a .f .now) (a .t .now) (a .s) ≡ c .before .is-empty .result || c .is-empty2 .result
+    aTableIsEmpty (lentTable (a .s) (a .f .now)) (lentTable (a .s) (a .t .now)) (a .s) ≡ c .before .is-empty .result || c .is-empty2 .result
 empty c = simp (c .before .is-empty .ensures, c .is-empty2 .ensures) refl
 
 out : (c : tie.After-read-out2) → let a = start c .args in
-    bothReadOut (a .f .now) (a .t .now) (a .s) ≡ c .before .read-out .result && c .read-out2 .result
+    bothReadOut (lentTable (a .s) (a .f .now)) (lentTable (a .s) (a .t .now)) (a .s) ≡ c .before .read-out .result && c .read-out2 .result
 out c = simp (c .before .read-out .ensures, c .read-out2 .ensures) refl
 
 returns : tie.Need-returns
@@ -47,10 +57,10 @@ unfolding settledBy
 returns c = simp (empty (c .before) ∙ c .if1 .taken) refl
 
 read-out-requires : tie.Need-read-out-requires
-read-out-requires c κs = search needs
+read-out-requires c κs = rows (c .before .before .before) .0
 
 read-out-requires-2 : tie.Need-read-out-requires-2
-read-out-requires-2 c κs = search needs
+read-out-requires-2 c κs = rows (c .before .before .before .before) .1
 
 returns-2 : tie.Need-returns-2
 unfolding settledBy
@@ -60,7 +70,7 @@ returns-2 c =
 
 -- no table is empty, nor are both read out
 live : (c : tie.Else2) → let a = start (c .before) .args in
-    (aTableIsEmpty (a .f .now) (a .t .now) (a .s) ≡ false) × (bothReadOut (a .f .now) (a .t .now) (a .s) ≡ false)
+    (aTableIsEmpty (lentTable (a .s) (a .f .now)) (lentTable (a .s) (a .t .now)) (a .s) ≡ false) × (bothReadOut (lentTable (a .s) (a .f .now)) (lentTable (a .s) (a .t .now)) (a .s) ≡ false)
 live c =
     let at = c .before .before .before in
     (empty (at .before) ∙ at .if1 .left, out (c .before) ∙ c .if2 .left)
@@ -85,7 +95,7 @@ returns-4 c =
 is-secured-requires : tie.Need-is-secured-requires
 is-secured-requires c κs =
     let s = start (undecided (c .before) .before) in
-    held-then-read (s .args .f .now) (s .args .t .now) (s .args .s) (s .pre .0) (omega (arith, long s)) (some c)
+    held-then-read (lentTable (s .args .s) (s .args .f .now)) (lentTable (s .args .s) (s .args .t .now)) (s .args .s) (s .pre .0) (omega (arith, long s)) (some c)
 
 returns-5 : tie.Need-returns-5
 unfolding settledBy
@@ -100,7 +110,7 @@ returns-5 c =
       live at .1,
       ne-eqb _ _ (c .before .before .before .before .if3 .left),
       eq-eqb _ _ (c .before .if4 .left),
-      held-secured (s .args .f .now) (s .args .t .now) (s .args .s) l fit (some (c .before)),
+      held-secured (lentTable (s .args .s) (s .args .f .now)) (lentTable (s .args .s) (s .args .t .now)) (s .args .s) l fit (some (c .before)),
       ← last,
     )
     (c .is-secured .ensures)

@@ -3,6 +3,7 @@ use mathlib.Core.Path.{refl}
 use Prim.Native.Nat.{_<_}
 use native.Mathlib.Omega.{arith}
 use borrow.Author.Tests.{lt-ltb}
+use Rattle.rules.specs.Session.{lentTable}
 use Rattle.rules.specs.Take.{givesPairBy}
 use Rattle.rules.proofs.Places.{places-long}
 use Rattle.ceiling.specs.Last.{held-then-read}
@@ -21,7 +22,8 @@ is-secured-requires : tie.Need-is-secured-requires
 is-secured-requires c κs =
     let s = c .before .before in
     let long = places-long (s .args .t3) _ (s .good .1 .1 .0) in
-    held-then-read (s .args .f .now) (s .args .t .now) (s .args .t3) (s .pre) (omega (arith, long))
+    let a = s .args in
+    held-then-read (lentTable (a .t3) (a .f .now)) (lentTable (a .t3) (a .t .now)) (a .t3) (s .pre) (omega (arith, long))
     (omega (arith, c .before .if1 .left))
 
 returns-2 : tie.Need-returns-2
