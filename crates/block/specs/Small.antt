@@ -1,17 +1,7 @@
 -- Rows that passed 6 have small shades. Assumes nothing.
-use mathlib.Core.Path.{_≡_, refl}
-use mathlib.Core.Bool.{Bool, true, false, cond}
-use mathlib.Core.List.{List}
 use Prim.Native.Nat.{ℕ, _≤_, _<_}
-use native.Mathlib.Omega.{arith}
-use lib.Dec.{ltb}
-use lib.IntN.{ℤ, pos, negsuc}
-use lib.ListN.{length, getD, List·getD-eq-default}
-use lib.Signed.{leZ, mag}
-use borrow.Author.Tests.{leb-true, ltb-true, ltb-false}
-use Rattle.lists.specs.Bools.{clash, and-out}
 use Rattle.rules.specs.declared.Query.{Query}
-use Rattle.rules.specs.Tables.{Table, within, coordinateFits, shadeFits, rowInRange, row, rowCount}
+use Rattle.rules.specs.Tables.{Table, row, rowCount}
 use Rattle.session_laws.specs.Shades.{row-small}
 use Rattle.session_laws.specs.Record.{QueryFits}
 use Rattle.distance.specs.Small.{Small}

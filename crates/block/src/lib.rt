@@ -14,14 +14,28 @@ ghost use Rattle.block.specs.Live.{Live};
 ghost use Rattle.block.specs.Small.{SmallPairs};
 ghost use Rattle.block.specs.Near.{placed, rowNear, anyNear, NoneNear, NextNear};
 
-// Whether row i + 1 of x and row j + 1 of y lie within the radius, withdrawn or not.
-fn near(n: u32, q: Query, x: &[i32], i: usize, y: &[i32], j: usize) -> bool
+fn near_at(n: u32, q: Query, x: &[i32], i: usize, y: &[i32], j: usize) -> bool
     requires { ⌜ HasRow (table n (now x)) i × HasRow (table n (now y)) j ⌝ }
     ensures { λ r. ⌜ r ≡ placed q .near (row (table n (now (x .entry))) i) (row (table n (now (y .entry))) j) ⌝ }
 {
     let first = tables::shade(n, x, i);
     let second = tables::shade(n, y, j);
     distance::qualifies(q.radius, first, second)
+}
+
+// Whether row i + 1 of x and row j + 1 of y lie within the radius, withdrawn or not. The code is chosen by n, so that
+// the compiler knows how many numbers a row has; it makes the choice outside the loops.
+fn near(n: u32, q: Query, x: &[i32], i: usize, y: &[i32], j: usize) -> bool
+    requires { ⌜ HasRow (table n (now x)) i × HasRow (table n (now y)) j ⌝ }
+    ensures { λ r. ⌜ r ≡ placed q .near (row (table n (now (x .entry))) i) (row (table n (now (y .entry))) j) ⌝ }
+{
+    if n == 2 {
+        return near_at(2, q, x, i, y, j);
+    }
+    if n == 3 {
+        return near_at(3, q, x, i, y, j);
+    }
+    near_at(n, q, x, i, y, j)
 }
 
 // Whether row i + 1 of x lies near any row of y. It looks at all of them: no branch stands in the loop.
@@ -41,7 +55,8 @@ fn row_near(n: u32, q: Query, x: &[i32], i: usize, y: &[i32]) -> bool
     seen
 }
 
-fn any_near_at(n: u32, q: Query, x: &[i32], y: &[i32]) -> bool
+// Whether any row of x lies near any row of y.
+pub fn any_near(n: u32, q: Query, x: &[i32], y: &[i32]) -> bool
     ensures { λ r. ⌜ r ≡ anyNear (placed q) (table n (now (x .entry))) (table n (now (y .entry)))
         (rowCount (table n (now (x .entry)))) ⌝ }
 {
@@ -54,20 +69,6 @@ fn any_near_at(n: u32, q: Query, x: &[i32], y: &[i32]) -> bool
         i += 1;
     }
     seen
-}
-
-// Whether any row of x lies near any row of y. The loops are chosen once: each number of coordinates has its own.
-pub fn any_near(n: u32, q: Query, x: &[i32], y: &[i32]) -> bool
-    ensures { λ r. ⌜ r ≡ anyNear (placed q) (table n (now (x .entry))) (table n (now (y .entry)))
-        (rowCount (table n (now (x .entry)))) ⌝ }
-{
-    if n == 2 {
-        return any_near_at(2, q, x, y);
-    }
-    if n == 3 {
-        return any_near_at(3, q, x, y);
-    }
-    any_near_at(n, q, x, y)
 }
 
 // The pair of row i + 1 of x and row j + 1 of y, each score by its table's weight; a and c rows stand before x and y in
@@ -103,9 +104,7 @@ fn live_rows(n: u32, x: &[i32]) -> usize
     m
 }
 
-// Whether row i + 1 of x and row j + 1 of y, neither of them withdrawn, lie within the radius: at 32 bits, as rows that
-// passed 6 allow.
-fn near_by(n: u32, q: Query, x: &[i32], i: usize, y: &[i32], j: usize) -> bool
+fn near_by_at(n: u32, q: Query, x: &[i32], i: usize, y: &[i32], j: usize) -> bool
     requires { ⌜ HasRow (table n (now x)) i × HasRow (table n (now y)) j ⌝ }
     requires { ⌜ (withdrawn (row (table n (now x)) i) ≡ false) × (withdrawn (row (table n (now y)) j) ≡ false) ⌝ }
     requires { ⌜ SmallPairs (q .radius) (table n (now x)) (table n (now y)) ⌝ }
@@ -114,6 +113,23 @@ fn near_by(n: u32, q: Query, x: &[i32], i: usize, y: &[i32], j: usize) -> bool
     let first = tables::shade(n, x, i);
     let second = tables::shade(n, y, j);
     distance::near_small(q.radius, first, second)
+}
+
+// Whether row i + 1 of x and row j + 1 of y, neither of them withdrawn, lie within the radius: at 32 bits, as rows that
+// passed 6 allow. The code is chosen by n.
+fn near_by(n: u32, q: Query, x: &[i32], i: usize, y: &[i32], j: usize) -> bool
+    requires { ⌜ HasRow (table n (now x)) i × HasRow (table n (now y)) j ⌝ }
+    requires { ⌜ (withdrawn (row (table n (now x)) i) ≡ false) × (withdrawn (row (table n (now y)) j) ≡ false) ⌝ }
+    requires { ⌜ SmallPairs (q .radius) (table n (now x)) (table n (now y)) ⌝ }
+    ensures { λ r. ⌜ r ≡ terms q .near (row (table n (now (x .entry))) i) (row (table n (now (y .entry))) j) ⌝ }
+{
+    if n == 2 {
+        return near_by_at(2, q, x, i, y, j);
+    }
+    if n == 3 {
+        return near_by_at(3, q, x, i, y, j);
+    }
+    near_by_at(n, q, x, i, y, j)
 }
 
 // Whether none of the eight rows of y from row k + 1 on lies near row i + 1 of x, live rows all; no, too, where k is
@@ -163,7 +179,7 @@ fn next_near(n: u32, q: Query, x: &[i32], i: usize, y: &[i32], m: usize, j: usiz
 // The block join: of the pairs held and the qualifying pairs of x and y the best-ranked, at most room: how many are
 // held then. It goes from one near pair of live rows to the next; where the room is used up, a pair that would fall off
 // is not put.
-fn join_at(
+pub fn join(
     n: u32,
     q: Query,
     room: usize,
@@ -200,30 +216,4 @@ fn join_at(
         }
     }
     g
-}
-
-// The block join. Its loops are chosen once: each number of coordinates has its own.
-pub fn join(
-    n: u32,
-    q: Query,
-    room: usize,
-    x: &[i32],
-    a: usize,
-    y: &[i32],
-    c: usize,
-    keys: &mut [u64; 64],
-    held: usize,
-) -> usize
-    requires { ⌜ (held ≤ room) × (room ≤ 64) × (length (now keys) ≡ 64) ⌝ }
-    requires { ⌜ QueryFits q × (n ≤ 3) × Rows a (table n (now x)) × Rows c (table n (now y)) ⌝ }
-    ensures { λ r. ⌜ Joined (terms q) room (at a (table n (now (x .entry)))) (at c (table n (now (y .entry)))) held
-        (now (keys .entry)) r (now (keys .exit)) ⌝ }
-{
-    if n == 2 {
-        return join_at(2, q, room, x, a, y, c, keys, held);
-    }
-    if n == 3 {
-        return join_at(3, q, room, x, a, y, c, keys, held);
-    }
-    join_at(n, q, room, x, a, y, c, keys, held)
 }

@@ -1,33 +1,56 @@
--- `any_near` meets its contract, whichever loops are chosen. Assumes nothing.
+-- `any_near` meets its contract: after i turns the first i rows are looked at. Assumes nothing.
+use mathlib.Core.Path.{_≡_, refl, ap, _∙_}
+use Prim.Native.Nat.{_-_, _≤_}
+use native.Mathlib.Numerals.{add-one}
+use native.Mathlib.Omega.{arith}
 use borrow.Author.Needs.{needs}
+use Rattle.rules.specs.Tables.{table, rowCount}
+use Rattle.rules.specs.Widths.{has-row, count-most}
+use Rattle.block.specs.Near.{placed, anyNear}
 use Rattle.block.proofs.any_near.Statement.{statement}
 use Rattle.block.proofs.any_near.Tie as tie
 
-any-near-at-requires : tie.Need-any-near-at-requires
-any-near-at-requires c κs = search needs
+abbrev Inv-loop : tie.InvT-loop
+Inv-loop n q x y m seen₀ i₀ seen i =
+    (i ≤ m) × (m ≡ rowCount (table n x)) × (seen ≡ anyNear (placed q) (table n x) (table n y) i)
 
-returns : tie.Need-returns
-returns c = rw (c .before .if1 .taken) (c .any-near-at .ensures)
+abbrev μ-loop : tie.MeasureT-loop
+μ-loop n q x y m seen₀ i₀ seen i = m - i
 
-any-near-at-requires-2 : tie.Need-any-near-at-requires-2
-any-near-at-requires-2 c κs = search needs
+row-count-requires : tie.Need-row-count-requires Inv-loop μ-loop
+row-count-requires c κs = search needs
 
-returns-2 : tie.Need-returns-2
-returns-2 c = rw (c .before .if2 .taken) (c .any-near-at2 .ensures)
+loop-holds : tie.Need-loop-holds Inv-loop μ-loop
+unfolding anyNear
+loop-holds c = (search needs, c .row-count .ensures, refl)
 
-any-near-at-requires-3 : tie.Need-any-near-at-requires-3
-any-near-at-requires-3 c κs = search needs
+row-near-requires : tie.Need-row-near-requires Inv-loop μ-loop
+row-near-requires c κs =
+    let s = c .before .before .before .args in
+    has-row (table (s .n) (s .x .now)) (c .before .loop .i) (omega arith)
 
-returns-3 : tie.Need-returns-3
-returns-3 c = search needs
+add-i : tie.Need-add-i Inv-loop μ-loop
+add-i c =
+    let s = c .before .before .before .before .args in
+    omega (arith, count-most (table (s .n) (s .x .now)))
+
+loop-less : tie.Need-loop-less Inv-loop μ-loop
+loop-less c = omega arith
+
+loop-again : tie.Need-loop-again Inv-loop μ-loop
+unfolding anyNear
+loop-again c = (search needs, c .before .before .before .row-count .ensures, rw add-one (cc))
+
+returns : tie.Need-returns Inv-loop μ-loop
+returns c =
+    let s = c .before .before .before .args in
+    let v = c .before .loop in
+    let x = table (s .n) (s .x .now) in
+    let y = table (s .n) (s .y .now) in
+    let e : v .i ≡ rowCount x = omega arith in
+    v .inv .2 ∙ ap (anyNear (placed (s .q)) x y) e
 
 pub any-near-spec : {M : Type 1} → statement M
 any-near-spec =
     tie.close
-    (tie.spec
-    any-near-at-requires
-    returns
-    any-near-at-requires-2
-    returns-2
-    any-near-at-requires-3
-    returns-3)
+    (tie.spec Inv-loop μ-loop row-count-requires loop-holds row-near-requires add-i loop-less loop-again returns)

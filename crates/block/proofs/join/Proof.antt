@@ -1,48 +1,239 @@
--- `join` meets its contract, whichever loops are chosen. Assumes nothing.
-use mathlib.Core.Path.{subst}
-use Prim.Native.Nat.{ℕ, _≤_}
-use Rattle.rules.specs.Tables.{table}
-use Rattle.session_laws.specs.Record.{QueryFits}
-use Rattle.block.specs.Block.{Rows}
-use borrow.Author.Needs.{needs}
+-- `join` meets its contract: the pairs held are those of all pairs of rows passed so far, pair by pair is all at
+-- once, and withdrawn rows qualify with none. Assumes nothing.
+use mathlib.Core.Path.{_≡_, refl, sym, ap, subst, _∙_}
+use mathlib.Core.Logic.{⊎-elim}
+use Prim.Native.Nat.{ℕ, _+_, _*_, _-_, _%_, _≤_, _<_}
+use native.Mathlib.Nat.{suc-mul}
+use native.Mathlib.Omega.{arith}
+use lib.Dec.{eqb, ltb}
+use lib.ListN.{length, getD}
+use borrow.Author.Tests.{not-false, eqb-true}
+use Rattle.lists.specs.Bools.{and-out}
+use Rattle.rules.specs.Tables.{table, terms, rowCount}
+use Rattle.rules.specs.Widths.{has-row}
+use Rattle.block.specs.Block.{at}
+use Rattle.block.specs.Live.{none-beyond-first, none-beyond-second}
+use Rattle.block.specs.Small.{rows-small}
+use Rattle.block.proofs.Turns as Turns
 use Rattle.block.proofs.join.Statement.{statement}
 use Rattle.block.proofs.join.Tie as tie
 
--- what the loops for n ask
-abbrev Fit : tie.Start → ℕ → Type 0
-Fit s n =
-    QueryFits (s .args .q) × (n ≤ 3) × Rows (s .args .a) (table n (s .args .x .now)) × Rows (s .args .c)
-    (table n (s .args .y .now))
+abbrev Inv-loop : tie.InvT-loop
+Inv-loop n q room x a y c keys₀ held l m last g₀ i₀ j₀ keys g i j =
+    (i ≤ l) × (j ≤ m) × (l ≤ i → j ≡ 0) × (g ≤ room) × (length keys ≡ 64)
+    × Turns.Met (terms q) room (at a (table n x)) (at c (table n y)) held keys₀ i j g keys
 
-join-at-requires : tie.Need-join-at-requires
-join-at-requires c κs =
-    let s = c .before .before in
-    (s .pre .0, subst (Fit s) (c .before .if1 .taken) (s .pre .1))
+-- the pairs of rows that are left, one more for the end of each row
+abbrev μ-loop : tie.MeasureT-loop
+μ-loop n q room x a y c keys₀ held l m last g₀ i₀ j₀ keys g i j = (l - i) * (m + 1) + (m - j)
 
-returns : tie.Need-returns
-returns c = rw (c .before .before .if1 .taken) (c .join-at .ensures)
+-- where the rows in use of both blocks are counted, from the search for the next near row
+abbrev counted : tie.After-next-near Inv-loop μ-loop → tie.After-live-rows2 Inv-loop μ-loop
+counted c = c .before .before .before
 
-join-at-requires-2 : tie.Need-join-at-requires-2
-join-at-requires-2 c κs =
-    let s = c .before .before .before in
-    (s .pre .0, subst (Fit s) (c .before .if2 .taken) (s .pre .1))
+-- that search, from the key of the pair found
+abbrev sought : tie.After-key Inv-loop μ-loop → tie.After-next-near Inv-loop μ-loop
+sought c = c .before .before .before
 
-returns-2 : tie.Need-returns-2
-returns-2 c = rw (c .before .before .if2 .taken) (c .join-at2 .ensures)
+row-less : (l m i j : ℕ) → i < l → (l - (i + 1)) * (m + 1) + (m - 0) < (l - i) * (m + 1) + (m - j)
+row-less l m i j h =
+    let a = l - (i + 1) in
+    let e : (l - i) * (m + 1) ≡ a * (m + 1) + (m + 1) =
+    ap (λ (k : ℕ). k * (m + 1)) (omega (arith, h)) ∙ suc-mul a (m + 1) in
+    omega (arith, e)
 
-join-at-requires-3 : tie.Need-join-at-requires-3
-join-at-requires-3 c κs = search needs
+live-rows-requires : tie.Need-live-rows-requires Inv-loop μ-loop
+live-rows-requires c κs = c .pre .1 .2 .below
 
-returns-3 : tie.Need-returns-3
-returns-3 c = search needs
+live-rows-requires-2 : tie.Need-live-rows-requires-2 Inv-loop μ-loop
+live-rows-requires-2 c κs = c .before .pre .1 .3 .below
+
+add-last : tie.Need-add-last Inv-loop μ-loop
+add-last c = omega arith
+
+loop-holds : tie.Need-loop-holds Inv-loop μ-loop
+loop-holds c =
+    let s = c .before .before in (
+      omega arith,
+      omega arith,
+      λ _. refl,
+      s .pre .0 .0,
+      s .pre .0 .2,
+      Turns.start (terms (s .args .q)) (s .args .room) (at (s .args .a) (table (s .args .n) (s .args .x .now)))
+          (at (s .args .c) (table (s .args .n) (s .args .y .now))) (s .args .held) (s .args .keys .now),
+    )
+
+next-near-requires : tie.Need-next-near-requires Inv-loop μ-loop
+next-near-requires c κs =
+    let live = c .before .before in
+    let s = live .before .before in
+    let a = s .args in
+    let turn = c .loop-test .taken in
+    let x = table (a .n) (a .x .now) in
+    let y = table (a .n) (a .y .now) in
+    let first = live .before .live-rows .ensures in (
+      (
+        has-row x _ (omega (arith, first .upto, turn)),
+        first .live _ (omega (arith, turn)),
+        live .live-rows2 .ensures,
+        c .before .loop .inv .1,
+      ),
+      rows-small (a .q) (a .a) (a .c) x y (s .pre .1 .1) (s .pre .1 .0) (s .pre .1 .2) (s .pre .1 .3),
+    )
+
+pair-at-requires : tie.Need-pair-at-requires Inv-loop μ-loop
+pair-at-requires c κs =
+    let live = counted (c .before) in
+    let s = live .before .before in
+    let fields = table (s .args .n) (s .args .x .now) in
+    let trims = table (s .args .n) (s .args .y .now) in
+    let x = s .pre .1 .2 in
+    let y = s .pre .1 .3 in
+    let turn : c .before .before .before .loop .i < rowCount fields =
+    omega (arith, c .before .before .loop-test .taken, live .before .live-rows .ensures .upto) in
+    let h : c .before .next-near .result < rowCount trims =
+    omega (arith, c .if1 .taken, live .live-rows2 .ensures .upto) in (
+      (s .pre .1 .0, x .range _ turn, y .range _ h),
+      (has-row fields _ turn, has-row trims _ h, omega (arith, turn, x .few), omega (arith, h, y .few)),
+    )
+
+key-requires : tie.Need-key-requires Inv-loop μ-loop
+key-requires c κs = c .pair-at .ensures .1
+
+mul-if2 : tie.Need-mul-if2 Inv-loop μ-loop
+mul-if2 c = record { fits = omega arith }
+
+element-copy-out-if2 : tie.Need-element-copy-out-if2 Inv-loop μ-loop
+element-copy-out-if2 c = omega arith
+
+put-requires : tie.Need-put-requires Inv-loop μ-loop
+put-requires c κs =
+    let key = c .before .before .before in
+    let found = sought key in
+    let s = counted found .before .before in
+    (key .before .pair-at .ensures .1, found .before .before .loop .inv .3, s .pre .0 .1)
+
+add-j : tie.Need-add-j Inv-loop μ-loop
+add-j c = omega arith
+
+loop-less : tie.Need-loop-less Inv-loop μ-loop
+loop-less c =
+    let key = c .before .before in
+    omega (arith, sought key .next-near .ensures .from, key .before .before .if1 .taken)
+
+loop-again : tie.Need-loop-again Inv-loop μ-loop
+loop-again c =
+    let found = sought (c .before .before) in
+    let live = counted found in
+    let s = live .before .before in
+    let v = found .before .before .loop in
+    let near = found .next-near in
+    let x = at (s .args .a) (table (s .args .n) (s .args .x .now)) in
+    let y = at (s .args .c) (table (s .args .n) (s .args .y .now)) in
+    let n = s .args .held in
+    let a = s .args .keys .now in
+    let p = c .before .before .before .pair-at in
+    let key = c .before .before .key in
+    let h : near .result < live .live-rows2 .result = c .before .before .before .before .if1 .taken in
+    let turn : v .i < live .before .live-rows .result = found .before .loop-test .taken in
+    let here =
+    Turns.skipped (terms (s .args .q)) (s .args .room) x y n a (v .i) (v .g) (v .keys) _ (v .j) (near .result)
+    (near .ensures) (v .inv .5) in
+    let Met = Turns.Met (terms (s .args .q)) (s .args .room) x y n a (v .i) (near .result + 1) in
+    let after : (c .if2 .g ≤ s .args .room) × (length (c .if2 .keys) ≡ 64) × Met (c .if2 .g) (c .if2 .keys) =
+    ⊎-elim
+    (λ w.
+    let next : Met (w .2 .result) (w .2 .last .0) =
+    Turns.joined (terms (s .args .q)) (s .args .room) x y n a (v .i) (v .g) (v .keys) (near .result) (w .2 .result)
+    (w .2 .last .0) (p .result)
+    here (near .ensures .found h) (p .ensures .0) (w .2 .ensures) in
+    rw (w .3, w .4) (w .2 .ensures .few, w .2 .ensures .long, next))
+    (λ w.
+    let last = getD (v .keys) ((s .args .room + 63) % 64) 0 in
+    let both = and-out (eqb (v .g) (s .args .room)) (ltb last (key .result)) (not-false _ (w .0 .left)) in
+    let behind = ap (ltb last) (sym (key .ensures)) ∙ both .1 in
+    let next : Met (v .g) (v .keys) =
+    Turns.fallen (terms (s .args .q)) (s .args .room) x y n a (v .i) (v .g) (v .keys) (near .result) (p .result)
+    here (near .ensures .found h) (p .ensures .0) (p .ensures .1) (v .inv .4) (s .pre .0 .1)
+    (eqb-true (v .g) (s .args .room) (both .0)) behind in
+    rw (w .1, w .2) (v .inv .3, v .inv .4, next))
+    (c .if2 .came) in
+    (omega (arith, turn), omega (arith, h), λ z. absurd (omega (arith, z, turn)), after .0, after .1, after .2)
+
+add-i : tie.Need-add-i Inv-loop μ-loop
+add-i c = omega arith
+
+loop-less-2 : tie.Need-loop-less-2 Inv-loop μ-loop
+loop-less-2 c =
+    let live = counted (c .before) in
+    let v = c .before .before .before .loop in
+    row-less (live .before .live-rows .result) (live .live-rows2 .result) (v .i) (v .j)
+    (c .before .before .loop-test .taken)
+
+loop-again-2 : tie.Need-loop-again-2 Inv-loop μ-loop
+loop-again-2 c =
+    let live = counted (c .before) in
+    let s = live .before .before in
+    let v = c .before .before .before .loop in
+    let near = c .before .next-near in
+    let x = at (s .args .a) (table (s .args .n) (s .args .x .now)) in
+    let y = at (s .args .c) (table (s .args .n) (s .args .y .now)) in
+    let n = s .args .held in
+    let a = s .args .keys .now in
+    let last = live .live-rows2 .ensures in
+    let passed : live .live-rows2 .result ≤ near .result = omega (arith, c .if1 .left) in
+    let none = none-beyond-second (s .args .q .radius) (x .rows) (y .rows) (live .live-rows2 .result) last (v .i) in
+    let here =
+    Turns.skipped (terms (s .args .q)) (s .args .room) x y n a (v .i) (v .g) (v .keys) _ (v .j) (near .result)
+    (near .ensures) (v .inv .5) in (
+      omega (arith, c .before .before .loop-test .taken),
+      omega arith,
+      λ _. refl,
+      v .inv .3,
+      v .inv .4,
+      Turns.next (terms (s .args .q)) (s .args .room) x y n a (v .i) (v .g) (v .keys) (near .result)
+          (omega (arith, near .ensures .upto, last .upto)) (λ j h k. none j (omega (arith, h, passed)) k) here,
+    )
+
+returns : tie.Need-returns Inv-loop μ-loop
+returns c =
+    let live = c .before .before in
+    let s = live .before .before in
+    let v = c .before .loop in
+    let x = at (s .args .a) (table (s .args .n) (s .args .x .now)) in
+    let y = at (s .args .c) (table (s .args .n) (s .args .y .now)) in
+    let n = s .args .held in
+    let a = s .args .keys .now in
+    let last = live .before .live-rows .ensures in
+    let passed : live .before .live-rows .result ≤ v .i = omega (arith, c .loop-test .left) in
+    let none = none-beyond-first (s .args .q .radius) (x .rows) (y .rows) (live .before .live-rows .result) last in
+    let z : v .j ≡ 0 = v .inv .2 (omega (arith, c .loop-test .left)) in
+    let met =
+    subst (λ (j : ℕ). Turns.Met (terms (s .args .q)) (s .args .room) x y n a (v .i) j (v .g) (v .keys)) z (v .inv .5) in
+    Turns.all-met (terms (s .args .q)) (s .args .room) x y n a (v .i) (v .g) (v .keys)
+    (omega (arith, v .inv .0, last .upto)) (λ i h k j _. none i j (omega (arith, h, passed)) k) met (s .pre .0 .0)
+    (v .inv .3) (v .inv .4)
 
 pub join-spec : {M : Type 1} → statement M
 join-spec =
     tie.close
     (tie.spec
-    join-at-requires
-    returns
-    join-at-requires-2
-    returns-2
-    join-at-requires-3
-    returns-3)
+    Inv-loop
+    μ-loop
+    live-rows-requires
+    live-rows-requires-2
+    add-last
+    loop-holds
+    next-near-requires
+    pair-at-requires
+    key-requires
+    mul-if2
+    element-copy-out-if2
+    put-requires
+    add-j
+    loop-less
+    loop-again
+    add-i
+    loop-less-2
+    loop-again-2
+    returns)
