@@ -1,5 +1,6 @@
 pub mod Tables
 pub mod Widths
+pub mod Squares
 pub mod Session
 pub mod Read
 pub mod Take
