@@ -1,5 +1,5 @@
 -- A row's columns stand one behind the other: where each begins, and how many bytes a row has. Assumes nothing.
-use mathlib.Core.Path.{_≡_, refl}
+use mathlib.Core.Path.{_≡_, refl, ap}
 use mathlib.Core.Bool.{Bool, true, false, cond}
 use Prim.Native.Nat.{ℕ, zero, suc, _+_, _*_, _≤_, _<_}
 use native.Mathlib.Decide.{le-ind}
@@ -46,8 +46,12 @@ pub start-signed : columnStart 3 ≡ 19
 unfolding columnStart
 start-signed = refl
 
-size-back : (j : ℕ) → 4 ≤ j → columnBytes j ≡ 6
-size-back j h = rw (lt-leb j 3 h, and-false (leb 2 j))
+-- the columns behind b have no minus
+pub signed-back : (j : ℕ) → 4 ≤ j → isSigned j ≡ false
+signed-back j h = rw (lt-leb j 3 h) (and-false (leb 2 j))
+
+pub size-back : (j : ℕ) → 4 ≤ j → columnBytes j ≡ 6
+size-back j h = ap (λ (b : Bool). cond b 7 6) (signed-back j h)
 
 pub start-back : (j : ℕ) → 4 ≤ j → columnStart j ≡ 6 * j + 2
 unfolding columnStart
