@@ -165,3 +165,15 @@ pub fn row_bytes(n: u32) -> usize
     }
     end + 1
 }
+
+// The number of column j of a row, which fits, its first byte at `at`.
+pub fn row_number(bytes: &[u8], at: usize, j: usize) -> i32
+    requires { ⌜ at + columnBytes j ≤ length (now bytes) ⌝ }
+    requires { ⌜ columnFits (isSigned j) (columns (now bytes) at (columnBytes j)) ≡ true ⌝ }
+    ensures { λ r. ⌜ r ≡ columnNumber (isSigned j) (columns (now (bytes .entry)) at (columnBytes j)) ⌝ }
+{
+    if is_signed(j) {
+        return number_at(bytes, at, 7, true);
+    }
+    number_at(bytes, at, 6, false)
+}

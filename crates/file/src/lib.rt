@@ -8,8 +8,8 @@ ghost use Rattle.rules.specs.File.{rowBytes, rowStart, fileTable, andSlice, loa
 ghost use Rattle.file_laws.specs.Parts.{RowFits};
 ghost use Rattle.file.specs.Put.{rowPut, RowsFit};
 use column::column_bytes;
-use column::is_signed;
-use column::number_at;
+use column::row_bytes;
+use column::row_number;
 use file_check::check;
 use rules::Loaded;
 
@@ -37,9 +37,8 @@ fn put_row(n: u32, bytes: &[u8], o: usize, out: &mut [i32], p: usize)
     let mut at = o;
     let mut j: usize = 0;
     while j < width {
-        let size = column_bytes(j);
-        out[p + j] = number_at(bytes, at, size, is_signed(j));
-        at += size;
+        out[p + j] = row_number(bytes, at, j);
+        at += column_bytes(j);
         j += 1;
     }
 }
@@ -51,7 +50,7 @@ fn put_rows(n: u32, bytes: &[u8], count: usize, out: &mut [i32])
     ensures { λ _. ⌜ now (out .exit)
         ≡ fileTable n (now (bytes .entry)) count .numbers ++ afterRows count (table n (now (out .entry))) .numbers ⌝ }
 {
-    let size = column::row_bytes(n);
+    let size = row_bytes(n);
     let width = tables::width(n);
     let mut i: usize = 0;
     while i < count {
