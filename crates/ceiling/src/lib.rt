@@ -5,8 +5,8 @@ use rules::Session;
 ghost use mathlib.Core.Path.{_≡_};
 ghost use mathlib.Core.Bool.{cond};
 ghost use Prim.Native.Nat.{_+_, _<_, max};
-ghost use Rattle.rules.specs.Session.{readOut, isEmpty, ceiling, secured};
-ghost use Rattle.rules.specs.Tables.{HasRows};
+ghost use Rattle.rules.specs.Session.{lentTable, readOut, isEmpty, ceiling, secured};
+ghost use Rattle.rules.specs.Tables.{table, HasRows};
 ghost use Rattle.ceiling.specs.BothRead.{RowsRead, BothRead};
 
 fn pick(t: bool, a: u64, b: u64) -> u64
@@ -22,9 +22,9 @@ fn higher(a: u64, b: u64) -> u64
 }
 
 // Whether a table is read out: all its rows are read, or a withdrawn one is. Scores fall, so the last row read tells.
-pub fn read_out(t: &[i32], rows: u32, depth: u32) -> bool
-    requires { ⌜ RowsRead (now t) depth ⌝ }
-    ensures { λ r. ⌜ r ≡ readOut (now (t .entry)) rows depth ⌝ }
+pub fn read_out(n: u32, t: &[i32], rows: u32, depth: u32) -> bool
+    requires { ⌜ RowsRead (table n (now t)) depth ⌝ }
+    ensures { λ r. ⌜ r ≡ readOut (table n (now (t .entry))) rows depth ⌝ }
 {
     if depth == rows {
         return true;
@@ -32,19 +32,19 @@ pub fn read_out(t: &[i32], rows: u32, depth: u32) -> bool
     if depth == 0 {
         return false;
     }
-    tables::is_withdrawn(t, depth as usize - 1)
+    tables::is_withdrawn(n, t, depth as usize - 1)
 }
 
 // Whether a table is empty: it has no rows, or its first row was read and is withdrawn.
-pub fn is_empty(t: &[i32], rows: u32, depth: u32) -> bool
-    requires { ⌜ HasRows (now t) depth ⌝ }
-    ensures { λ r. ⌜ r ≡ isEmpty (now (t .entry)) rows depth ⌝ }
+pub fn is_empty(n: u32, t: &[i32], rows: u32, depth: u32) -> bool
+    requires { ⌜ HasRows (table n (now t)) depth ⌝ }
+    ensures { λ r. ⌜ r ≡ isEmpty (table n (now (t .entry))) rows depth ⌝ }
 {
     if rows == 0 {
         return true;
     }
     if 0 < depth {
-        return tables::is_withdrawn(t, 0);
+        return tables::is_withdrawn(n, t, 0);
     }
     false
 }
@@ -52,21 +52,20 @@ pub fn is_empty(t: &[i32], rows: u32, depth: u32) -> bool
 // The ceiling: the higher of HF + LT, unless trim is read out, and LF + HT, unless field is. Each score counts
 // by its table's weight.
 pub fn threshold(f: &[i32], t: &[i32], s: Session) -> u64
-    requires { ⌜ BothRead (now f) (now t) s ⌝ }
-    ensures { λ r. ⌜ r ≡ ceiling (now (f .entry)) (now (t .entry)) s ⌝ }
+    requires { ⌜ BothRead (lentTable s (now f)) (lentTable s (now t)) s ⌝ }
+    ensures { λ r. ⌜ r ≡ ceiling (lentTable s (now (f .entry))) (lentTable s (now (t .entry))) s ⌝ }
 {
-    let m = s.rows.field.0;
-    let n = s.rows.trim.0;
+    let n = s.rows.card;
     let d = s.depth.field.0;
     let e = s.depth.trim.0;
     let v = s.query.weights.field.0;
     let w = s.query.weights.trim.0;
-    let hf = tables::weighted(v, f, 0);
-    let lt = tables::weighted(w, t, e as usize - 1);
-    let lf = tables::weighted(v, f, d as usize - 1);
-    let ht = tables::weighted(w, t, 0);
-    let trim_out = read_out(t, n, e);
-    let field_out = read_out(f, m, d);
+    let hf = tables::weighted(v, n, f, 0);
+    let lt = tables::weighted(w, n, t, e as usize - 1);
+    let lf = tables::weighted(v, n, f, d as usize - 1);
+    let ht = tables::weighted(w, n, t, 0);
+    let trim_out = read_out(n, t, s.rows.trim.0, e);
+    let field_out = read_out(n, f, s.rows.field.0, d);
     let a = pick(trim_out, 0, hf + lt);
     let b = pick(field_out, 0, lf + ht);
     higher(a, b)
@@ -74,11 +73,11 @@ pub fn threshold(f: &[i32], t: &[i32], s: Session) -> u64
 
 // Whether a held pair is secured.
 pub fn is_secured(f: &[i32], t: &[i32], s: Session, p: Pair) -> bool
-    requires { ⌜ BothRead (now f) (now t) s ⌝ }
-    ensures { λ r. ⌜ r ≡ secured (now (f .entry)) (now (t .entry)) s p ⌝ }
+    requires { ⌜ BothRead (lentTable s (now f)) (lentTable s (now t)) s ⌝ }
+    ensures { λ r. ⌜ r ≡ secured (lentTable s (now (f .entry))) (lentTable s (now (t .entry))) s p ⌝ }
 {
-    let field_out = read_out(f, s.rows.field.0, s.depth.field.0);
-    let trim_out = read_out(t, s.rows.trim.0, s.depth.trim.0);
+    let field_out = read_out(s.rows.card, f, s.rows.field.0, s.depth.field.0);
+    let trim_out = read_out(s.rows.card, t, s.rows.trim.0, s.depth.trim.0);
     if field_out & trim_out {
         return true;
     }

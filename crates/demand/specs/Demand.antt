@@ -5,6 +5,7 @@ use mathlib.Core.Path.{_≡_}
 use mathlib.Core.Bool.{Bool, true, cond}
 use mathlib.Core.List.{List, [], _∷_, _++_, map}
 use mathlib.Core.Logic.{_⊎_}
+use lib.IntN.{ℤ}
 use lib.ListN.{length}
 use Rattle.rules.specs.declared.FieldRows.{FieldRows}
 use Rattle.rules.specs.declared.TrimRows.{TrimRows}
@@ -15,6 +16,7 @@ use Rattle.rules.specs.declared.Step.{Step}
 use Rattle.rules.specs.declared.Answer.{Answer}
 use Rattle.rules.specs.declared.Answer.the-variants.{Opened, Given, Finished}
 use Rattle.rules.specs.Tables.{Table, rowCount, legal, row, terms, pairSum, firstRows}
+use Rattle.rules.specs.Session.{lentTable}
 use Rattle.rules.specs.Sure.{Sure}
 use Rattle.rules.specs.Numbers.{said}
 use Rattle.rules.specs.Calls.{openCall, readCall, takeCall}
@@ -29,14 +31,19 @@ pub data Call : Type 0 where
 -- one line of a transcript: the call, the two slices lent to it, and what it gave back, its answer and the record
 pub record Line : Type 0 where
   pub call : Call
-  pub field : Table
-  pub trim : Table
+  pub field : List ℤ
+  pub trim : List ℤ
   pub gave : Step
 
--- what the promise of the call, the `ensures` of its code, says that it gives, of the record that it was given
-abbrev pub promised : Call → Table → Table → Session → Step
-promised reading f t s = readCall f t s
-promised taking f t s = takeCall f t s
+-- what the rules give of a call over two tables
+abbrev pub ruled : Call → Table → Table → Session → Step
+ruled reading f t s = readCall f t s
+ruled taking f t s = takeCall f t s
+
+-- what the promise of the call, the `ensures` of its code, says that it gives, of the record that it was given: the
+-- lent slices are tables on the record's card
+abbrev pub promised : Call → List ℤ → List ℤ → Session → Step
+promised c f t s = ruled c (lentTable s f) (lentTable s t) s
 
 abbrev pub isAccepted : Line → Bool
 isAccepted l = said (l .gave .answer) .accepted
@@ -47,7 +54,7 @@ abbrev pub Follows : Table → Table → Session → List Line → Type 0
 Follows f t s [] = Unit {0}
 Follows f t s (l ∷ lines) =
     (l .gave ≡ promised (l .call) (l .field) (l .trim) s)
-    × (isAccepted l ≡ true → (l .field ≡ f) × (l .trim ≡ t))
+    × (isAccepted l ≡ true → (l .field ≡ f .numbers) × (l .trim ≡ t .numbers))
     × Follows f t (l .gave .session) lines
 
 -- what demand 3 is about: calls "that follow an opening which document 01 accepts, over two legal tables which stay the
@@ -102,8 +109,8 @@ abbrev pub over : Table → Table → Line → Line
 over f t l =
     record {
       call = l .call;
-      field = cond (isAccepted l) f (l .field);
-      trim = cond (isAccepted l) t (l .trim);
+      field = cond (isAccepted l) (f .numbers) (l .field);
+      trim = cond (isAccepted l) (t .numbers) (l .trim);
       gave = l .gave;
     }
 

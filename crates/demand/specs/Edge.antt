@@ -12,6 +12,7 @@ use Rattle.rules.specs.Sure.{Sure, qualifyingSums}
 use Rattle.rules.specs.Calls.{queryCode, openCall}
 use Rattle.rules.specs.Run.{run}
 use Rattle.tables_join.specs.Sure.{isSure, readOutBy, emptyBy, ceilingAt, sure-is-test}
+use Rattle.session_laws.specs.Calls.{OneCard}
 use Rattle.demand.specs.Demand.{Call, reading, Line, Demand3, lastRecord}
 use Rattle.demand.specs.Sequences.{DepthsUpTo}
 use Rattle.demand.specs.Proved.{demand3}
@@ -29,7 +30,7 @@ fourReads q f t = runOf f t (openCall q f t .session) four
 abbrev lastOf : Query → Table → Table → Session
 lastOf q f t = lastRecord (openCall q f t .session) (fourReads q f t)
 
-keeps : (q : Query) (f t : Table) → f .coordinates ≡ t .coordinates → legal f ≡ true → legal t ≡ true
+keeps : (q : Query) (f t : Table) → OneCard f t → legal f ≡ true → legal t ≡ true
     → queryCode q ≡ 0 → Demand3 q f t (openCall q f t) (fourReads q f t)
 keeps q f t cards g h k = demand3 q f t (openCall q f t) (fourReads q f t) (run-sequence q f t cards g h k four)
 
@@ -47,7 +48,7 @@ sure-uneven = sure-is-test (topOne 1) refl fields trims refl refl (fieldRows 1) 
 
 pub limit-uneven : DepthsUpTo 2 (lastOf (topOne 1) fields trims)
 unfolding run
-limit-uneven = keeps (topOne 1) fields trims refl refl refl refl .row-limit (fieldRows 1) (trimRows 2) sure-uneven
+limit-uneven = keeps (topOne 1) fields trims (record { known = refl; same = refl }) refl refl refl .row-limit (fieldRows 1) (trimRows 2) sure-uneven
 
 pub at-uneven : (lastOf (topOne 1) fields trims .depth .field .0 ≡ 2)
     × (lastOf (topOne 1) fields trims .depth .trim .0 ≡ 2)
@@ -65,7 +66,7 @@ sure-one = sure-is-test (topOne 2) refl table table refl refl (fieldRows 1) (tri
 
 pub limit-two : DepthsUpTo 2 (lastOf (topOne 2) table table)
 unfolding run
-limit-two = keeps (topOne 2) table table refl refl refl refl .row-limit (fieldRows 1) (trimRows 1) sure-one
+limit-two = keeps (topOne 2) table table (record { known = refl; same = refl }) refl refl refl .row-limit (fieldRows 1) (trimRows 1) sure-one
 
 pub at-two : (lastOf (topOne 2) table table .depth .field .0 ≡ 2)
     × (lastOf (topOne 2) table table .depth .trim .0 ≡ 2)

@@ -16,7 +16,8 @@ use Rattle.demand.specs.Steps.{readsOf}
 
 pub record GetsThere (q : Query) (f t : Table) (opening : Step) (lines : List Line) : Type 0 where
   -- a call that is lent the two tables is not refused
-  pub unrefused : (before after : List Line) (l : Line) → lines ≡ before ++ l ∷ after → l .field ≡ f → l .trim ≡ t
+  pub unrefused : (before after : List Line) (l : Line) → lines ≡ before ++ l ∷ after → l .field ≡ f .numbers
+      → l .trim ≡ t .numbers
       → isAccepted l ≡ true
   -- no more blocks are read than there are rows
   pub few-reads : total (λ l. readsOf (l .gave .answer)) lines ≤ rowCount f + rowCount t
@@ -28,4 +29,5 @@ pub record GetsThere (q : Query) (f t : Table) (opening : Step) (lines : List Li
 unfoldable pub runOf : Table → Table → Session → List Call → List Line
 runOf f t s [] = []
 runOf f t s (c ∷ calls) =
-    record { call = c; field = f; trim = t; gave = promised c f t s } ∷ runOf f t (promised c f t s .session) calls
+    let gave = promised c (f .numbers) (t .numbers) s in
+    record { call = c; field = f .numbers; trim = t .numbers; gave = gave } ∷ runOf f t (gave .session) calls

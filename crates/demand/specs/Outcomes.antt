@@ -27,7 +27,7 @@ use Rattle.session_laws.specs.Read.{read-field, read-trim, read-grows}
 use Rattle.session_laws.specs.Alike.{SameRows, same-less, same-secured, same-settled, same-finished, same-next}
 use Rattle.session_laws.specs.Alike.{same-read}
 use Rattle.tables_join.specs.Reached.{Reached, first-inside, empty-none}
-use Rattle.demand.specs.Demand.{Call, reading, taking, promised}
+use Rattle.demand.specs.Demand.{Call, reading, taking, ruled}
 use Rattle.demand.specs.Steps.{Happened, refused, settling, going, giving, finishing, waiting}
 use Rattle.demand.specs.Steps.{readsOf, Changed, kept, deeper, fewer}
 
@@ -69,7 +69,7 @@ module _ (f t : Table) (s : Session) where
       go true false false a b c = waiting refl (eqb-true (callCode f t s) 0 a) b c refl
       go false y z a b c = refused (callCode f t s) refl
 
-  outcome : (c : Call) → Happened f t s c (promised c f t s)
+  outcome : (c : Call) → Happened f t s c (ruled c f t s)
   outcome reading = read-outcome
   outcome taking = take-outcome
 
@@ -89,7 +89,7 @@ module _ (f t f₁ t₁ : Table) (s : Session) (c : Call) (g : Step)
   happened-here (finishing a b d h e) = accepted-here Finished s e refl (finishing a b d h e)
   happened-here (waiting a b d h e) = accepted-here NotYet s e refl (waiting a b d h e)
 
-pub happened : (f t f₁ t₁ : Table) (s : Session) (c : Call) (g : Step) → g ≡ promised c f₁ t₁ s
+pub happened : (f t f₁ t₁ : Table) (s : Session) (c : Call) (g : Step) → g ≡ ruled c f₁ t₁ s
     → (said (g .answer) .accepted ≡ true → (f₁ ≡ f) × (t₁ ≡ t)) → Happened f t s c g
 happened f t f₁ t₁ s c g e same =
     happened-here f t f₁ t₁ s c g same (subst (Happened f₁ t₁ s c) (sym e) (outcome f₁ t₁ s c))
@@ -205,7 +205,7 @@ module _ {q : Query} {f t : Table} {out : List Pair} {s : Session} (a : Reached 
 
   -- an accepted call gives what it gave
   pub same-call : (c : Call) (x : Step) → said (x .answer) .accepted ≡ true → AlikeTo f t f′ t′ (x .session)
-      → Happened f t s c x → promised c f′ t′ s ≡ x
+      → Happened f t s c x → ruled c f′ t′ s ≡ x
   unfolding movedOut
   same-call c x w v o = go o
     where
@@ -215,13 +215,13 @@ module _ {q : Query} {f t : Table} {out : List Pair} {s : Session} (a : Reached 
       at : (y : Step) → x ≡ y → AlikeTo f t f′ t′ (y .session)
       at y e = subst (λ y. AlikeTo f t f′ t′ (y .session)) e v
 
-      gave : (d : Call) (y : Step) → c ≡ d → x ≡ y → promised d f′ t′ s ≡ y → promised c f′ t′ s ≡ x
-      gave d y i e r = ap (λ c. promised c f′ t′ s) i ∙ r ∙ sym e
+      gave : (d : Call) (y : Step) → c ≡ d → x ≡ y → ruled d f′ t′ s ≡ y → ruled c f′ t′ s ≡ x
+      gave d y i e r = ap (λ c. ruled c f′ t′ s) i ∙ r ∙ sym e
 
       gives : AlikeTo f t f′ t′ s → (b : Bool) → givesPair f t s ≡ b → givesPair f′ t′ s ≡ b
       gives u b d = same-gives u ∙ d
 
-      go : Happened f t s c x → promised c f′ t′ s ≡ x
+      go : Happened f t s c x → ruled c f′ t′ s ≡ x
       go (refused n e) = clash w (ap (λ x. said (x .answer) .accepted) e)
       go (settling i b d e) =
           let u = at (step Settled s) e in

@@ -4,13 +4,15 @@ use mathlib.Core.Bool.{Bool, true, false, cond}
 use mathlib.Core.List.{List, [], _∷_, _++_, map, append-assoc, append-nil}
 use Prim.Native.Nat.{ℕ, _+_, _-_, _≤_, max}
 use native.Mathlib.Omega.{arith}
+use lib.IntN.{ℤ}
 use Rattle.rules.specs.declared.FieldRows.{FieldRows}
 use Rattle.rules.specs.declared.TrimRows.{TrimRows}
 use Rattle.rules.specs.declared.Session.{Session}
 use Rattle.rules.specs.declared.Step.{Step}
 use Rattle.rules.specs.declared.Pair.{Pair}
 use Rattle.rules.specs.declared.Query.{Query}
-use Rattle.rules.specs.Tables.{Table, rowCount, legal}
+use Rattle.rules.specs.Tables.{Table, table, rowCount, legal}
+use Rattle.rules.specs.Session.{lentTable}
 use Rattle.rules.specs.Read.{fieldNext, readBlock}
 use Rattle.rules.specs.Take.{movedOut}
 use Rattle.rules.specs.Sure.{Sure}
@@ -20,7 +22,7 @@ use Rattle.session_laws.specs.Alike.{same-less}
 use Rattle.tables_join.specs.Reached.{Reached, open-reached, read-reached, take-reached}
 use Rattle.tables_join.specs.Choice.{read-limit}
 use Rattle.rules.specs.Query.{given}
-use Rattle.demand.specs.Demand.{Line, Sequence, promised, isAccepted, Follows, outs, lastRecord}
+use Rattle.demand.specs.Demand.{Line, Sequence, ruled, promised, isAccepted, Follows, outs, lastRecord}
 use Rattle.demand.specs.Demand.{byRules, over}
 use Rattle.demand.specs.Steps.{Happened, Changed, kept, deeper, fewer}
 use Rattle.demand.specs.Openings.{opening-query, opening-cards, opening-is}
@@ -62,9 +64,15 @@ module _ (q : Query) (f t : Table) (g : legal f ≡ true) (h : legal t ≡ true)
         subst (λ x. Reached q f t (out ++ given (x .answer)) (x .session)) (sym e)
         (take-reached a (gives-some f t s d))
 
+    -- the numbers of the two tables, lent to it, are the tables
+    pub lent-own : {x y : List ℤ} → (x ≡ f .numbers) × (y ≡ t .numbers) → (lentTable s x ≡ f) × (lentTable s y ≡ t)
+    lent-own k = (ap₂ table (a .card) (k .0), ap₂ table (a .card ∙ a .cards .same) (k .1))
+
     module _ (l : Line) (lines : List Line) (w : Follows f t s (l ∷ lines)) where
       line-happened : Happened f t s (l .call) (l .gave)
-      line-happened = happened f t (l .field) (l .trim) s (l .call) (l .gave) (w .0) (w .1)
+      line-happened =
+          happened f t (lentTable s (l .field)) (lentTable s (l .trim)) s (l .call) (l .gave) (w .0)
+          (λ z. lent-own (w .1 z))
 
       pub line-changed : Changed f t s (l .gave)
       line-changed = changed f t s (l .call) (l .gave) line-happened
@@ -139,9 +147,19 @@ module _ (q : Query) (f t : Table) (g : legal f ≡ true) (h : legal t ≡ true)
         → promised (l .call) (over f′ t′ l .field) (over f′ t′ l .trim) s ≡ l .gave
     same-line {s = s} a l lines w alike = go (isAccepted l) refl
       where
+        -- their numbers, lent to it, are the tables
+        field : lentTable s (f′ .numbers) ≡ f′
+        field = ap (λ c. table c (f′ .numbers)) (a .card ∙ sym (ap (λ x. x .coordinates) (alike .0)))
+
+        trim : lentTable s (t′ .numbers) ≡ t′
+        trim =
+            ap (λ c. table c (t′ .numbers)) (a .card ∙ a .cards .same ∙ sym (ap (λ x. x .coordinates) (alike .1)))
+
         go : (b : Bool) → isAccepted l ≡ b
-            → promised (l .call) (cond b f′ (l .field)) (cond b t′ (l .trim)) s ≡ l .gave
-        go true z = same-call a g h f′ t′ g′ h′ m n (l .call) (l .gave) z alike (line-happened a l lines w)
+            → promised (l .call) (cond b (f′ .numbers) (l .field)) (cond b (t′ .numbers) (l .trim)) s ≡ l .gave
+        go true z =
+            ap₂ (λ x y. ruled (l .call) x y s) field trim
+            ∙ same-call a g h f′ t′ g′ h′ m n (l .call) (l .gave) z alike (line-happened a l lines w)
         go false z = sym (w .0)
 
     -- alike in the rows read at last, so in those read first
@@ -168,7 +186,9 @@ module _ (q : Query) (f t : Table) (g : legal f ≡ true) (h : legal t ≡ true)
 
 module _ {q : Query} {f t : Table} {opening : Step} {lines : List Line} (w : Sequence q f t opening lines) where
   pub reached : Reached q f t [] (opening .session)
-  reached = subst (λ x. Reached q f t [] (x .session)) (sym (opening-is w)) (open-reached q f t (opening-query w) (opening-cards w))
+  reached =
+      subst (λ x. Reached q f t [] (x .session)) (sym (opening-is w))
+      (open-reached q f t (opening-query w) (opening-cards w))
 
   pub some-block : 1 ≤ q .block
   some-block = query-out q (opening-query w) .block .0
@@ -187,4 +207,4 @@ module _ {q : Query} {f t : Table} {opening : Step} {lines : List Line} (w : Seq
 
     pub happened-then : Happened f t handed (l .call) (l .gave)
     happened-then =
-        let c = calls-before .1 in happened f t (l .field) (l .trim) handed (l .call) (l .gave) (c .0) (c .1)
+        line-happened q f t (w .field-legal) (w .trim-legal) some-block reached-before l after (calls-before .1)

@@ -38,8 +38,8 @@ trimRows n = record { 0 = n }
 -- a call with the two slices lent to it
 pub record Lending : Type 0 where
   pub call : Call
-  pub field : Table
-  pub trim : Table
+  pub field : List ℤ
+  pub trim : List ℤ
 
 -- the line that the rules give of a call on record s
 abbrev pub lineOf : Session → Lending → Line
@@ -77,24 +77,25 @@ same-rules s lines others e =
 -- a call that is lent the two tables, or other slices
 pub data Asked : Type 0 where
   own : Call → Asked
-  astray : Call → Table → Table → Asked
+  astray : Call → List ℤ → List ℤ → Asked
 
 module _ (f t : Table) where
   abbrev pub lent : Asked → Lending
-  lent (own c) = record { call = c; field = f; trim = t }
+  lent (own c) = record { call = c; field = f .numbers; trim = t .numbers }
   lent (astray c f₁ t₁) = record { call = c; field = f₁; trim = t₁ }
 
   -- whether all calls that are lent other slices are refused
   abbrev pub straysRefused : Session → List Asked → Bool
   straysRefused s [] = true
-  straysRefused s (own c ∷ calls) = straysRefused (promised c f t s .session) calls
+  straysRefused s (own c ∷ calls) = straysRefused (promised c (f .numbers) (t .numbers) s .session) calls
   straysRefused s (astray c f₁ t₁ ∷ calls) =
       not (isAccepted (lineOf s (lent (astray c f₁ t₁)))) && straysRefused (promised c f₁ t₁ s .session) calls
 
   pub follows : (s : Session) (calls : List Asked) → straysRefused s calls ≡ true
       → Follows f t s (transcript s (map lent calls))
   follows s [] h = tt
-  follows s (own c ∷ calls) h = (refl, λ e. (refl, refl), follows (promised c f t s .session) calls h)
+  follows s (own c ∷ calls) h =
+      (refl, λ e. (refl, refl), follows (promised c (f .numbers) (t .numbers) s .session) calls h)
   follows s (astray c f₁ t₁ ∷ calls) h =
       let accepted = isAccepted (lineOf s (lent (astray c f₁ t₁))) in
       let rest = promised c f₁ t₁ s .session in

@@ -73,7 +73,7 @@ takes = own taking
 
 -- lent no field table at all
 abbrev strays : Asked
-strays = astray taking (oldTable []) trims
+strays = astray taking [] (trims .numbers)
 
 abbrev pub calls : List Asked
 calls =

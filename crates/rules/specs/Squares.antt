@@ -2,6 +2,7 @@
 use mathlib.Core.Path.{_≡_, refl, ap₂}
 use mathlib.Core.List.{List, [], _∷_}
 use Prim.Native.Nat.{ℕ, zero, suc, _+_, _*_, _≤_, _<_}
+use native.Mathlib.Nat.{suc-mul}
 use native.Mathlib.Omega.{arith}
 use lib.ListN.{length, getD, take}
 use lib.Seq.{take-all}
@@ -36,6 +37,17 @@ module _ {A : Type 0} (f : A → A → ℕ) where
   squares-first [] l (suc i) = omega arith
   squares-first (x ∷ k) [] (suc i) = omega arith
   squares-first (x ∷ k) (y ∷ l) (suc i) = let e = squares-first k l i in omega arith
+
+  -- so many squares, none above m
+  pub squares-most : (d : A) (m : ℕ) (k l : List A) → ((i : ℕ) → i < length k → squareAt f d k l i ≤ m)
+      → squares f k l ≤ length k * m
+  unfolding squares squareAt
+  squares-most d m [] l h = omega arith
+  squares-most d m (x ∷ k) [] h = omega arith
+  squares-most d m (x ∷ k) (y ∷ l) h =
+      let first = h 0 (omega arith) in
+      let rest = squares-most d m k l (λ i j. h (suc i) (omega arith)) in
+      omega (arith, suc-mul (length k) m)
 
   pub squares-all : (k l : List A) (i : ℕ) → length k ≤ i → length l ≤ i
       → squares f (take i k) (take i l) ≡ squares f k l

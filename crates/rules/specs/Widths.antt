@@ -3,7 +3,7 @@ use mathlib.Core.Path.{_≡_, sym, ap, _∙_}
 use mathlib.Core.List.{List, [], _∷_}
 use Prim.Native.Nat.{ℕ, zero, suc, _+_, _*_, _-_, _/_, _%_, _≤_, _<_}
 use native.Mathlib.Nat.{mul-le-mul-left, mul-div-le, div-add-mod, mul-div-cancel-left, div-le-self}
-use native.Mathlib.Nat.{mul-comm, suc-mul, div-lt-iff-lt-mul}
+use native.Mathlib.Nat.{mul-comm, suc-mul, div-lt-iff-lt-mul, le-div-iff-mul-le}
 use native.Mathlib.Omega.{arith}
 use lib.IntN.{ℤ, pos}
 use lib.ListN.{length, getD, take, drop, length-take, length-drop}
@@ -30,6 +30,11 @@ has-rows t m h =
 
 pub has-row : (t : Table) (i : ℕ) → i < rowCount t → HasRow t i
 has-row t i h = rows-row t i (rowCount t) h (has-rows t (rowCount t) (omega arith))
+
+-- and it has no other
+pub row-below : (t : Table) (i : ℕ) → HasRow t i → i < rowCount t
+row-below t i h =
+    le-div-iff-mul-le {k = width (t .coordinates)} {x = suc i} {y = length (t .numbers)} (omega arith) .1 (omega arith)
 
 -- so many numbers are so many rows, and no number more
 pub rows-count : (t : Table) (m : ℕ) → length (t .numbers) ≡ width (t .coordinates) * m → rowCount t ≡ m

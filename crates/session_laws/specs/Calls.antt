@@ -1,6 +1,6 @@
 -- What the calls know once their checks have passed, what they then answer, and which checks legal tables pass. Assumes
 -- nothing.
-use mathlib.Core.Path.{_≡_, refl, sym, ap}
+use mathlib.Core.Path.{_≡_, refl, sym, ap, subst}
 use mathlib.Core.Bool.{Bool, true, false, cond, _&&_}
 use mathlib.Core.List.{[], _∷_}
 use Prim.Native.Nat.{ℕ, _-_, _≤_, _<_}
@@ -14,47 +14,59 @@ use Rattle.rules.specs.declared.Session.{Session}
 use Rattle.rules.specs.declared.Answer.{Answer}
 use Rattle.rules.specs.declared.Answer.the-variants.{Refused, Opened, Read, Settled, Given, NotYet, Finished}
 use Rattle.rules.specs.Tables.{Table, rowCount, sizeFits, legal}
-use Rattle.rules.specs.Session.{opened, zeros, settled}
+use Rattle.rules.specs.Session.{twoTables, opened, zeros, settled}
 use Rattle.rules.specs.Read.{fieldNext, oldDepth, newDepth, readBlock}
 use Rattle.rules.specs.Take.{firstHeld, givesPair, movedOut, finished}
-use Rattle.rules.specs.Numbers.{tableSize, badRecord, otherCard, said, refusal}
+use Rattle.rules.specs.Numbers.{tableSize, badRecord, wrongKind, otherCard, said, refusal}
 use Rattle.rules.specs.Checks.{first-out, unless-out}
-use Rattle.rules.specs.Calls.{queryCode, cardsCode, sizeCode, sameSizeCode, rowsCode, recordFits, recordCode}
+use Rattle.rules.specs.Calls.{queryCode, isCard, kindCode, cardsCode, sizeCode, sameSizeCode, rowsCode, recordFits}
 use Rattle.rules.specs.Calls.{newBlockCodeBy, newBlockCode, step, openCode, openCall, readCallBy, readCall, takeCallBy}
-use Rattle.rules.specs.Calls.{lentCode, callCode, takeCall}
+use Rattle.rules.specs.Calls.{recordCode, lentCode, callCode, takeCall}
 use Rattle.rules.specs.Query.{wasRead, wasGiven}
 use Rattle.session_laws.specs.Tables.{Sized, size-out, size-in, RowFits, rows-out, rows-in, legal-out}
 use Rattle.session_laws.specs.Record.{RecordFits, record-out, record-in}
 
 -- ---- Opening
 
+-- two tables on one of the two cards
+pub record OneCard (f t : Table) : Type 0 where
+  pub known : isCard (f .coordinates) ≡ true
+  pub same : f .coordinates ≡ t .coordinates
+
 pub record Opening (q : Query) (f t : Table) : Type 0 where
   pub query : queryCode q ≡ 0
   pub field : Sized f
   pub trim : Sized t
-  pub cards : f .coordinates ≡ t .coordinates
+  pub cards : OneCard f t
 
 module _ (q : Query) (f t : Table) where
   pub open-out : openCode q f t ≡ 0 → Opening q f t
-  unfolding openCode sizeCode cardsCode
+  unfolding openCode kindCode sizeCode cardsCode
   open-out h =
-      let passes = first-out (queryCode q ∷ sizeCode f ∷ sizeCode t ∷ cardsCode f t ∷ []) h in
+      let sizes = sizeCode f ∷ sizeCode t ∷ cardsCode f t ∷ [] in
+      let passes = first-out (queryCode q ∷ kindCode f ∷ kindCode t ∷ sizes) h in
       let same = eqb (f .coordinates) (t .coordinates) in
       record {
         query = passes 0;
-        field = size-out f (unless-out (sizeFits f) tableSize (omega arith) (passes 1));
-        trim = size-out t (unless-out (sizeFits t) tableSize (omega arith) (passes 2));
-        cards = eqb-true (f .coordinates) (t .coordinates) (unless-out same otherCard (omega arith) (passes 3));
+        field = size-out f (unless-out (sizeFits f) tableSize (omega arith) (passes 3));
+        trim = size-out t (unless-out (sizeFits t) tableSize (omega arith) (passes 4));
+        cards =
+            record {
+              known = unless-out (isCard (f .coordinates)) wrongKind (omega arith) (passes 1);
+              same = eqb-true (f .coordinates) (t .coordinates) (unless-out same otherCard (omega arith) (passes 5));
+            };
       }
 
   pub open-in : Opening q f t → openCode q f t ≡ 0
-  unfolding openCode sizeCode cardsCode
+  unfolding openCode kindCode sizeCode cardsCode
   open-in h =
       rw (
         h .query,
+        h .cards .known,
+        subst (λ n. isCard n ≡ true) (h .cards .same) (h .cards .known),
         size-in f (h .field),
         size-in t (h .trim),
-        eq-eqb (f .coordinates) (t .coordinates) (h .cards),
+        eq-eqb (f .coordinates) (t .coordinates) (h .cards .same),
       )
 
   pub opened-code : openCall q f t .answer ≡ Opened → openCode q f t ≡ 0
@@ -62,7 +74,7 @@ module _ (q : Query) (f t : Table) where
   opened-code e = go (eqb (openCode q f t) 0) refl e
     where
       go : (b : Bool) → eqb (openCode q f t) 0 ≡ b
-          → cond b (step Opened (opened q (record { 0 = rowCount f }) (record { 0 = rowCount t })))
+          → cond b (step Opened (opened q (twoTables f t)))
           (step (Refused (openCode q f t)) zeros) .answer
           ≡ Opened
           → openCode q f t ≡ 0
@@ -72,12 +84,12 @@ module _ (q : Query) (f t : Table) where
   pub opened-query : openCall q f t .answer ≡ Opened → queryCode q ≡ 0
   opened-query e = open-out (opened-code e) .query
 
-  pub opened-cards : openCall q f t .answer ≡ Opened → f .coordinates ≡ t .coordinates
+  pub opened-cards : openCall q f t .answer ≡ Opened → OneCard f t
   opened-cards e = open-out (opened-code e) .cards
 
   -- a query that is accepted opens any two legal tables on one card
-  pub legal-opened : queryCode q ≡ 0 → f .coordinates ≡ t .coordinates → legal f ≡ true → legal t ≡ true
-      → openCall q f t ≡ step Opened (opened q (record { 0 = rowCount f }) (record { 0 = rowCount t }))
+  pub legal-opened : queryCode q ≡ 0 → OneCard f t → legal f ≡ true → legal t ≡ true
+      → openCall q f t ≡ step Opened (opened q (twoTables f t))
   unfolding openCall
   legal-opened e cards g h =
       let fits : Opening q f t =

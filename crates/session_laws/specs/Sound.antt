@@ -13,8 +13,7 @@ use lib.ListN.{length, drop, replicate, length-take}
 use lib.Seq.{drop-append-seam, drop-append-le}
 use Rattle.lists.specs.Lists.{every}
 use Rattle.lists.specs.Bools.{and-out}
-use Rattle.rules.specs.declared.FieldRows.{FieldRows}
-use Rattle.rules.specs.declared.TrimRows.{TrimRows}
+use Rattle.rules.specs.declared.TwoTables.{TwoTables}
 use Rattle.rules.specs.declared.Query.{Query}
 use Rattle.rules.specs.declared.Pair.{Pair}
 use Rattle.rules.specs.declared.Session.{Session}
@@ -124,9 +123,9 @@ blocks-cleared field s new t depth (suc n) h =
 
 -- ---- Opening
 
-pub sound-open : (q : Query) (m : FieldRows) (n : TrimRows) → Sound (opened q m n)
+pub sound-open : (q : Query) (tables : TwoTables) → Sound (opened q tables)
 unfolding opened
-sound-open q m n = record {
+sound-open q tables = record {
   field-whole = inl (zero-mod (q .block));
   trim-whole = inl (zero-mod (q .block));
   mark =

@@ -13,7 +13,7 @@ use Rattle.rules.specs.declared.Answer.the-variants.{Refused, Opened}
 use Rattle.rules.specs.declared.Pair.{Pair}
 use Rattle.rules.specs.declared.Query.{Query}
 use Rattle.rules.specs.Tables.{Table, rowCount}
-use Rattle.rules.specs.Session.{opened, zeros}
+use Rattle.rules.specs.Session.{twoTables, opened, zeros}
 use Rattle.rules.specs.Read.{fieldNext}
 use Rattle.rules.specs.Take.{movedOut}
 use Rattle.rules.specs.Calls.{step, openCode, openCall, readCall, takeCall}
@@ -122,7 +122,7 @@ module _ (q : Query) (f t : Table) where
   opened-wants = go (eqb (openCode q f t) 0)
     where
       go : (b : Bool)
-          → cond b (step Opened (opened q (record { 0 = rowCount f }) (record { 0 = rowCount t })))
+          → cond b (step Opened (opened q (twoTables f t)))
           (step (Refused (openCode q f t)) zeros) .session .query .k
           ≤ q .k
       go true = omega arith

@@ -211,14 +211,28 @@ pub fn row_code(n: u32, t: &[i32], i: usize) -> u32
     first(limit, order)
 }
 
-// Whether row i + 1 of a table is refused by neither.
-fn row_passes(n: u32, t: &[i32], i: usize) -> bool
+fn row_passes_at(n: u32, t: &[i32], i: usize) -> bool
     requires { ⌜ (i < mostRows) × HasRow (table n (now t)) i ⌝ }
     ensures { λ r. ⌜ r ≡ eqb (rowCode (table n (now (t .entry))) i) 0 ⌝ }
 {
     let inside = row_in_range(n, t, i);
     let ordered = in_order(n, t, i);
     inside & ordered
+}
+
+// Whether row i + 1 of a table is refused by neither. The code is chosen by n, so that the compiler knows how many
+// numbers a row has.
+fn row_passes(n: u32, t: &[i32], i: usize) -> bool
+    requires { ⌜ (i < mostRows) × HasRow (table n (now t)) i ⌝ }
+    ensures { λ r. ⌜ r ≡ eqb (rowCode (table n (now (t .entry))) i) 0 ⌝ }
+{
+    if n == 2 {
+        return row_passes_at(2, t, i);
+    }
+    if n == 3 {
+        return row_passes_at(3, t, i);
+    }
+    row_passes_at(n, t, i)
 }
 
 // What the first of rows a + 1 to a + m that is refused is refused by; 0 where none is.

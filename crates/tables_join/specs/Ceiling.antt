@@ -156,7 +156,7 @@ module _ {q : Query} {f t : Table} {out : List Pair} {s : Session} (a : Reached 
         let meets : near q (Join.rowAt S F i) (Join.rowAt U T j) ≡ true =
         ap₂ (near q) (rows-at f i hi) (rows-at t j hj) ∙ m .near in
         let low =
-        outside-low S U (near q) (laws q (a .accepted) f t (a .cards)) F F T T d e i j
+        outside-low S U (near q) (laws q (a .accepted) f t (a .cards .same)) F F T T d e i j
         (legal-rows f g (field-rises q (a .accepted)))
         (legal-rows t h (trim-rises q (a .accepted))) hd he (begins-itself (field-rises q (a .accepted)) d f g)
         (begins-itself (trim-rises q (a .accepted)) e t h)

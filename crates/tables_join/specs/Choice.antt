@@ -140,7 +140,7 @@ module _ {q : Query} {f t : Table} {out : List Pair} {s : Session} (a : Reached 
 
   field-limit : fieldNext f t s ≡ true → s .depth .field .0 < max (m .0) (n .0)
   field-limit c =
-      row-limit (fieldSide (f .coordinates) q) (trimSide (t .coordinates) q) (near q) (laws q (a .accepted) f t (a .cards)) (rowsOf f) (rowsOf t)
+      row-limit (fieldSide (f .coordinates) q) (trimSide (t .coordinates) q) (near q) (laws q (a .accepted) f t (a .cards .same)) (rowsOf f) (rowsOf t)
       (legal-rows f g (field-rises q (a .accepted))) (legal-rows t h (trim-rises q (a .accepted)))
       (q .k) (m .0) (n .0) (s .depth .field .0) (s .depth .trim .0) wanted live live-trim unended
       (λ hd he. unsettled-short a g h hd he u) (chosen a (unsettled-out f t s u .unread) true c)
@@ -148,7 +148,7 @@ module _ {q : Query} {f t : Table} {out : List Pair} {s : Session} (a : Reached 
 
   trim-limit : fieldNext f t s ≡ false → s .depth .trim .0 < max (m .0) (n .0)
   trim-limit c =
-      row-limit-trim (fieldSide (f .coordinates) q) (trimSide (t .coordinates) q) (near q) (laws q (a .accepted) f t (a .cards)) (rowsOf f) (rowsOf t)
+      row-limit-trim (fieldSide (f .coordinates) q) (trimSide (t .coordinates) q) (near q) (laws q (a .accepted) f t (a .cards .same)) (rowsOf f) (rowsOf t)
       (legal-rows f g (field-rises q (a .accepted))) (legal-rows t h (trim-rises q (a .accepted))) (q .k)
       (m .0) (n .0) (s .depth .field .0) (s .depth .trim .0) wanted live live-trim unended
       (λ hd he. unsettled-short a g h hd he u) (chosen a (unsettled-out f t s u .unread) false c)

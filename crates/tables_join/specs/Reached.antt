@@ -21,10 +21,11 @@ use Rattle.rules.specs.declared.Session.{Session}
 use Rattle.rules.specs.declared.Counts.{Counts}
 use Rattle.rules.specs.Tables.{Table, rowCount, row, ahead, legal, pairSum}
 use Rattle.rules.specs.Session.{isEmpty, heldPairs, opened, bothReadOut, aTableIsEmpty, fieldReadOut, trimReadOut}
-use Rattle.rules.specs.Session.{settled}
+use Rattle.rules.specs.Session.{twoTables, settled}
 use Rattle.rules.specs.Read.{readTo, newDepth, readTableBy, readTable, readBlock}
 use Rattle.rules.specs.Take.{firstHeld, movedOut, finished}
-use Rattle.rules.specs.Calls.{queryCode, pairFits, recordFits}
+use Rattle.rules.specs.Calls.{queryCode, isCard, pairFits, recordFits}
+use Rattle.session_laws.specs.Calls.{OneCard}
 use Rattle.session_laws.specs.ReadOut.{rows-qualify-out, live-above, live-never}
 use Rattle.session_laws.specs.Tables.{weighted-most, legal-out}
 use Rattle.session_laws.specs.Record.{query-out, pair-in, record-in}
@@ -38,7 +39,8 @@ use Rattle.tables_join.specs.Held.{Keeping, keeping-same, all-blocks-hol
 -- a record of a session over tables f and t, the pairs of `out` being out
 pub record Reached (q : Query) (f t : Table) (out : List Pair) (s : Session) : Type 0 where
   pub accepted : queryCode q ≡ 0
-  pub cards : f .coordinates ≡ t .coordinates
+  pub cards : OneCard f t
+  pub card : s .rows .card ≡ f .coordinates
   pub query : s .query ≡ q
   pub field-rows : s .rows .field .0 ≡ rowCount f
   pub trim-rows : s .rows .trim .0 ≡ rowCount t
@@ -48,12 +50,13 @@ pub record Reached (q : Query) (f t : Table) (out : List Pair) (s : Session) : T
 
 -- ---- Opening
 
-pub open-reached : (q : Query) (f t : Table) → queryCode q ≡ 0 → f .coordinates ≡ t .coordinates
-    → Reached q f t [] (opened q (record { 0 = rowCount f }) (record { 0 = rowCount t }))
+pub open-reached : (q : Query) (f t : Table) → queryCode q ≡ 0 → OneCard f t
+    → Reached q f t [] (opened q (twoTables f t))
 unfolding opened
 open-reached q f t accepted cards = record {
   accepted = accepted;
   cards = cards;
+  card = refl;
   query = refl;
   field-rows = refl;
   trim-rows = refl;
@@ -143,6 +146,7 @@ module _ (field : Bool) (f t : Table) (g : legal f ≡ true) (h : legal t ≡ tr
       record {
         accepted = a .accepted;
         cards = a .cards;
+        card = ap (λ c. c .card) (same .rows) ∙ a .card;
         query = same .query;
         field-rows = ap (λ c. c .field .0) (same .rows) ∙ a .field-rows;
         trim-rows = ap (λ c. c .trim .0) (same .rows) ∙ a .trim-rows;
@@ -199,6 +203,7 @@ module _ {q : Query} {f t : Table} {out : List Pair} {s : Session} (a : Reached 
         record {
           accepted = a .accepted;
           cards = a .cards;
+          card = a .card;
           query = a .query;
           field-rows = a .field-rows;
           trim-rows = a .trim-rows;
@@ -329,4 +334,5 @@ module _ {q : Query} {f t : Table} {out : List Pair} {s : Session} (a : Reached 
         mark = h .mark;
         zeros = h .cleared;
         joined = h .joined;
+        card = subst (λ n. isCard n ≡ true) (sym (a .card)) (a .cards .known);
       })

@@ -29,8 +29,9 @@ use Rattle.rules.specs.Tables.{mostRows, rowCount, inRange, Row, row, qualifies
 use Rattle.rules.specs.Tables.{withdrawn, rowsQualify, weighted, terms}
 use Rattle.rules.specs.Session.{withdrawnWithin, isEmpty}
 use Rattle.rules.specs.Tables.{legal, width, firstRows}
+use Rattle.rules.specs.Squares.{squares-same}
 use Rattle.rules.specs.Widths.{rows-count, has-row, shade-length}
-use Rattle.rules.specs.Tables.{natOf, gap, squares, squaredDistance, table, shadeAt, coordinateFits, fitsAt, shadeFits}
+use Rattle.rules.specs.Tables.{natOf, gap, table, shadeAt, coordinateFits, fitsAt, shadeFits}
 use Rattle.rules.specs.declared.Query.{Query}
 use Rattle.rules.specs.Calls.{queryCode}
 use Rattle.session_laws.specs.ReadOut.{rows-qualify-in}
@@ -379,14 +380,9 @@ gap-same (pos zero) = refl
 gap-same (pos (suc n)) = rw (le-ltb (suc n) (suc n) (omega arith)) (omega arith)
 gap-same (negsuc n) = rw (le-ltb (suc n) (suc n) (omega arith)) (omega arith)
 
-none-apart : (x : List ℤ) → squaredDistance x x ≡ 0
-unfolding squares
-none-apart [] = refl
-none-apart (x ∷ l) = rw (gap-same x, none-apart l)
-
 same-place : (radius : ℕ) (x : List ℤ) → qualifies radius x x ≡ true
 unfolding qualifies
-same-place radius x = rw (none-apart x) (le-leb 0 (radius * radius) (omega arith))
+same-place radius x = rw (squares-same gap gap-same x) (le-leb 0 (radius * radius) (omega arith))
 
 -- x at y's place
 abbrev moved : Row → Row → Row

@@ -16,7 +16,7 @@ use Rattle.rules.specs.declared.Query.{Query}
 use Rattle.rules.specs.declared.Session.{Session}
 use Rattle.rules.specs.declared.Step.{Step}
 use Rattle.rules.specs.declared.Answer.the-variants.{Read, Settled, Given, Finished}
-use Rattle.rules.specs.Session.{settled, opened}
+use Rattle.rules.specs.Session.{settled, twoTables, opened}
 use Rattle.rules.specs.Tables.{Table, width, rowCount, legal, terms, qualifying}
 use Rattle.rules.specs.Widths.{part-all}
 use Rattle.rules.specs.Read.{rowsBetween, fieldNext, readBlock}
@@ -28,7 +28,7 @@ use Rattle.rules.specs.Query.{list}
 use Rattle.rules.specs.Sure.{whole, qualifyingSums}
 use Rattle.session_laws.specs.Tables.{legal-out}
 use Rattle.session_laws.specs.Record.{query-out}
-use Rattle.session_laws.specs.Calls.{legal-opened, call-accepted, new-block-accepted, read-settled, read-goes}
+use Rattle.session_laws.specs.Calls.{OneCard, legal-opened, call-accepted, new-block-accepted, read-settled, read-goes}
 use Rattle.session_laws.specs.Calls.{take-gives, take-finishes}
 use Rattle.session_laws.specs.Read.{depths}
 use Rattle.session_laws.specs.Take.{gives-some, gives-secured, settled-take, settled-moves}
@@ -210,7 +210,7 @@ all-qualify query f t g h p =
     )
 
 module _ (q : Query) (f t : Table) (g : legal f ≡ true) (h : legal t ≡ true) (accepted : queryCode q ≡ 0)
-    (cards : f .coordinates ≡ t .coordinates) where
+    (cards : OneCard f t) where
   -- it reads until settled
   settled-session : SettledAt q f t [] (settledSession q f t)
   unfolding settledSession opened
@@ -221,7 +221,7 @@ module _ (q : Query) (f t : Table) (g : legal f ≡ true) (h : legal t ≡ true)
       SettledAt q f t [] (readUntilSettled (s .rows .field .0 + s .rows .trim .0 + 1) f t s))
       (sym (legal-opened q f t accepted cards g h))
       (settles q f t g h accepted (rowCount f + rowCount t + 1) (open-reached q f t accepted cards)
-      (sound-open q (record { 0 = rowCount f }) (record { 0 = rowCount t })) (omega arith))
+      (sound-open q (twoTables f t)) (omega arith))
 
   -- and takes until finished
   pub list-listed : Listed q f t [] (list q f t)

@@ -17,7 +17,7 @@ use Rattle.rules.specs.declared.Step.{Step}
 use Rattle.rules.specs.declared.Answer.the-variants.{Refused, Read, Settled, Given, NotYet, Finished}
 use Rattle.rules.specs.Tables.{Table, weighted, terms, unweighted}
 use Rattle.rules.specs.Numbers.{badRecord}
-use Rattle.rules.specs.Session.{weights, opened, settled}
+use Rattle.rules.specs.Session.{lentTable, weights, opened, settled}
 use Rattle.rules.specs.Read.{fieldNext, readBlock}
 use Rattle.rules.specs.Take.{firstHeld, givesPair, movedOut, finished}
 use Rattle.rules.specs.Calls.{callCode, newBlockCode, step, openCode, openCall, readCallBy, readCall, takeCallBy}
@@ -25,7 +25,7 @@ use Rattle.rules.specs.Calls.{takeCall}
 use Rattle.rules.specs.Query.{wasRead, given, wasGiven, readUntilSettledBy, takeUntilFinishedBy, settledSession, list}
 use Rattle.session_laws.specs.Calls.{call-out, new-block-out}
 use Rattle.session_laws.specs.Read.{read-query}
-use Rattle.demand.specs.Demand.{Call, reading, taking, Line, promised, byRules}
+use Rattle.demand.specs.Demand.{Call, reading, taking, Line, ruled, byRules}
 use Rattle.unweighted.specs.Unweighted.{lowSums, readUnweighted, takeUnweighted, callUnweighted}
 use Rattle.unweighted.specs.Unweighted.{byUnweighted, settledUnweighted, listUnweighted}
 use Rattle.unweighted.specs.Agree.{read-agrees, take-agrees}
@@ -111,11 +111,11 @@ module _ (f t : Table) (s : Session) (plain : Plain s) where
       go true false false = plain
       go false b c = plain
 
-  call-same : (c : Call) → promised c f t s ≡ callUnweighted c f t s
+  call-same : (c : Call) → ruled c f t s ≡ callUnweighted c f t s
   call-same reading = read-same
   call-same taking = take-same
 
-  call-plain : (c : Call) → Plain (promised c f t s .session)
+  call-plain : (c : Call) → Plain (ruled c f t s .session)
   call-plain reading = read-plain
   call-plain taking = take-plain
 
@@ -124,10 +124,10 @@ module _ (f t : Table) (s : Session) (plain : Plain s) where
 lines-same : (s : Session) (lines : List Line) → Plain s → byRules s lines ≡ byUnweighted s lines
 lines-same s [] plain = refl
 lines-same s (l ∷ lines) plain =
-    let f = l .field in
-    let t = l .trim in
+    let f = lentTable s (l .field) in
+    let t = lentTable s (l .trim) in
     let next = call-plain f t s plain (l .call) in
-    ap (λ r. promised (l .call) f t s ∷ r) (lines-same (promised (l .call) f t s .session) lines next)
+    ap (λ r. ruled (l .call) f t s ∷ r) (lines-same (ruled (l .call) f t s .session) lines next)
     ∙ ap (λ (x : Step). x ∷ byUnweighted (x .session) lines) (call-same f t s plain (l .call))
 
 -- reading until settled, and taking until finished

@@ -11,7 +11,7 @@ use Rattle.rules.specs.declared.Session.{Session}
 use Rattle.rules.specs.declared.Step.{Step}
 use Rattle.rules.specs.declared.Answer.the-variants.{Refused}
 use Rattle.rules.specs.Tables.{Table, unweighted}
-use Rattle.rules.specs.Session.{heldPairs}
+use Rattle.rules.specs.Session.{lentTable, heldPairs}
 use Rattle.rules.specs.Numbers.{badRecord}
 use Rattle.rules.specs.Calls.{step, openCall, readCallBy, takeCallBy}
 use Rattle.rules.specs.Query.{readUntilSettledBy, takeUntilFinishedBy}
@@ -46,8 +46,8 @@ callUnweighted taking f t s = takeUnweighted f t s
 abbrev pub byUnweighted : Session → List Line → List Step
 byUnweighted s [] = []
 byUnweighted s (l ∷ lines) =
-    callUnweighted (l .call) (l .field) (l .trim) s
-    ∷ byUnweighted (callUnweighted (l .call) (l .field) (l .trim) s .session) lines
+    let gave = callUnweighted (l .call) (lentTable s (l .field)) (lentTable s (l .trim)) s in
+    gave ∷ byUnweighted (gave .session) lines
 
 -- one whole query: the record when it is settled, and the list
 unfoldable pub settledUnweighted : Query → Table → Table → Session

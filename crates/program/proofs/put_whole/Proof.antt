@@ -12,6 +12,29 @@ use borrow.Author.Needs.{needs}
 use Rattle.program.proofs.put_whole.Statement.{statement}
 use Rattle.program.proofs.put_whole.Tie as tie
 
+-- the start of the call, from where the field file's table is lent
+abbrev start : tie.After-f → tie.Start
+start c = c .before .before .before .before .before
+
+-- where the field file is told to fit, from the load of the trim file
+abbrev field-fits : tie.After-load-table2 → tie.After-a
+field-fits c = c .before .before .before
+
+-- where it is loaded
+abbrev field-load : tie.After-load-table2 → tie.After-load-table
+field-load c = field-fits c .before .before .before
+
+-- where the trim file is told to fit, from its rows
+abbrev trim-fits : tie.After-first-rows2 → tie.After-b
+trim-fits c = c .before .before .before .before .before
+
+-- where a file is told to be unfit, from its refusal
+abbrev field-refused : tie.After-refusal → tie.At-match-keys2
+field-refused c = c .before .before .before
+
+abbrev trim-refused : tie.After-refusal2 → tie.At-match2-keys2
+trim-refused c = c .before .before .before
+
 slice-aggregate-load-table : tie.Need-slice-aggregate-load-table
 slice-aggregate-load-table c = search needs
 
@@ -35,9 +58,9 @@ same-length c = search needs
 
 returns : tie.Need-returns
 returns c =
-    let match = c .before .before .before .before .before .before in
+    let match = field-refused (c .before .before .before) in
     let load = match .before .before in
-    let s = load .before .before .before .before .before .before .args in
+    let s = start (load .before) .args in
     let x = load .load-table in
     let code = c .before .before .before .refusal .ensures in
     written-as
@@ -68,11 +91,11 @@ same-length-2 c = search needs
 
 returns-2 : tie.Need-returns-2
 returns-2 c =
-    let match = c .before .before .before .before .before .before in
+    let match = trim-refused (c .before .before .before) in
     let trim = match .before .before in
-    let told = trim .before .before .before .a .given in
-    let load = trim .before .before .before .before .before .before in
-    let s = load .before .before .before .before .before .before .args in
+    let told = field-fits trim .a .given in
+    let load = field-load trim in
+    let s = start (load .before) .args in
     let x = load .load-table in
     let y = trim .load-table2 in
     let code = c .before .before .before .refusal2 .ensures in
@@ -84,21 +107,18 @@ returns-2 c =
 
 -- the tables stand within their arrays
 field-there : (c : tie.After-load-table2) →
-    (let field = c .before .before .before .before .before .before in
-    HasRows (field .load-table .last .1 .1 .0) (c .before .before .before .a .given .0 .0))
+    HasRows (field-load c .load-table .last .1 .1 .0) (field-fits c .a .given .0 .0)
 field-there c =
-    let field = c .before .before .before .before .before .before in
-    let s = field .before .before .before .before .before .before .args in
-    let x = field .load-table in
-    let told = c .before .before .before .a .given in
+    let s = start (field-load c .before) .args in
+    let x = field-load c .load-table in
+    let told = field-fits c .a .given in
     let size : length (x .last .1 .1 .0) ≡ tableRoom = x .kept .1 .1 .0 ∙ simp length-replicate in
     table-there (s .field .now) (pos 1) (x .last .1 .1 .0) (x .result) (told .0 .0) (x .ensures .0) (told .1) size
 
 trim-there : (c : tie.After-load-table2) (n : ℕ) → c .load-table2 .result ≡ Rows n →
     HasRows (c .load-table2 .last .1 .1 .0) n
 trim-there c n e =
-    let field = c .before .before .before .before .before .before in
-    let s = field .before .before .before .before .before .before .args in
+    let s = start (field-load c .before) .args in
     let y = c .load-table2 in
     let size : length (y .last .1 .1 .0) ≡ tableRoom = y .kept .1 .1 .0 ∙ simp length-replicate in
     table-there (s .trim .now) (pos 2) (y .last .1 .1 .0) (y .result) n (y .ensures .0) e size
@@ -131,14 +151,14 @@ same-length-3 c = search needs
 
 returns-3 : tie.Need-returns-3
 returns-3 c =
-    let fields = c .before .before .before .before .before .before .first-rows in
-    let trims = c .before .before .before .before .first-rows2 in
-    let asked = c .before .before .before .before .before .before .before .before .before in
-    let n = asked .b .given in
-    let trim = asked .before .before .before in
-    let m = trim .before .before .before .a .given in
-    let load = trim .before .before .before .before .before .before in
-    let s = load .before .before .before .before .before .before .args in
+    let trims = c .before .before .before .before in
+    let fields = trims .before .before in
+    let told = trim-fits trims in
+    let n = told .b .given in
+    let trim = told .before .before .before in
+    let m = field-fits trim .a .given in
+    let load = field-load trim in
+    let s = start (load .before) .args in
     let x = load .load-table in
     let y = trim .load-table2 in
     let a = x .last .1 .1 .0 in
@@ -147,7 +167,7 @@ returns-3 c =
     let front2 = table-front (s .trim .now) (pos 2) _ b (y .result) (n .0 .0) (y .ensures .0) (n .1) (y .ensures .1) in
     written-as
     (files-fit (s .field .now) (s .trim .now) (s .input .now) (x .result) (x .ensures .0) (m .0 .0) (m .1) (y .result)
-    (y .ensures .0) (n .0 .0) _ _ (n .1) (fields .ensures ∙ front) (trims .ensures ∙ front2))
+    (y .ensures .0) (n .0 .0) _ _ (n .1) (fields .first-rows .ensures ∙ front) (trims .first-rows2 .ensures ∙ front2))
     (c .before .before .put-asked .ensures)
 
 pub put-whole-spec : {M : Type 1} → statement M

@@ -26,9 +26,10 @@ shade-fits-requires c κs = search needs
 returns : tie.Need-returns
 unfolding rowInRange row
 returns c =
-    let score = c .before .before .before .number2 in
-    let pattern = c .before .before .before .before .number in
-    let s = c .before .before .before .before .before .args in
+    let read = c .before .before .before in
+    let score = read .number2 in
+    let pattern = read .before .number in
+    let s = read .before .before .args in
     let t = table (s .n) (s .t .now) in
     let numbers = simp (
       toZ-ofZ {w = w32} {z = pattern .result} (sfits-of (pattern .ok)),

@@ -53,8 +53,9 @@ row-code-requires c κs = (search needs, has (c .before .before))
 
 returns : tie.Need-returns Inv-loop μ-loop
 returns c =
-    let l = c .before .before .before .before .loop in
-    let s = c .before .before .before .before .before .args in
+    let at = c .before .before .before in
+    let l = at .before .loop in
+    let s = at .before .before .args in
     let t = table (s .n) (s .t .now) in
     let passes = c .before .before .row-passes in
     let refused = eqb-false (rowCode t (s .a + l .i)) 0

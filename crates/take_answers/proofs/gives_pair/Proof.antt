@@ -1,10 +1,11 @@
 -- `gives_pair` meets its contract: a held pair shows that rows of both tables were read. Assumes nothing.
-use mathlib.Core.Path.{_≡_, refl, sym, _∙_}
+use mathlib.Core.Path.{refl}
 use Prim.Native.Nat.{_<_}
 use native.Mathlib.Omega.{arith}
-use lib.ListN.{length, length-map}
 use borrow.Author.Tests.{lt-ltb}
+use Rattle.rules.specs.Session.{lentTable}
 use Rattle.rules.specs.Take.{givesPairBy}
+use Rattle.rules.proofs.Places.{places-long}
 use Rattle.ceiling.specs.Last.{held-then-read}
 use borrow.Author.Needs.{needs}
 use Rattle.take_answers.proofs.gives_pair.Statement.{statement}
@@ -20,9 +21,9 @@ element-copy-out-p c = search needs
 is-secured-requires : tie.Need-is-secured-requires
 is-secured-requires c κs =
     let s = c .before .before in
-    let long : length (s .args .t3 .pairs) ≡ 64 =
-    sym (length-map (s .args .t3 .pairs) _) ∙ s .good .1 .1 .0 .1 .1 .1 .1 .1 .1 .1 .1 .0 .1 .0 .1 in
-    held-then-read (s .args .f .now) (s .args .t .now) (s .args .t3) (s .pre) (omega (arith, long))
+    let long = places-long (s .args .t3) _ (s .good .1 .1 .0) in
+    let a = s .args in
+    held-then-read (lentTable (a .t3) (a .f .now)) (lentTable (a .t3) (a .t .now)) (a .t3) (s .pre) (omega (arith, long))
     (omega (arith, c .before .if1 .left))
 
 returns-2 : tie.Need-returns-2
