@@ -63,7 +63,16 @@ fn join_parts(
 }
 
 // The effect of rows of the field table and rows of the trim table.
-fn effect_parts(n: u32, full: bool, low: u32, q: Query, f: &[i32], x: Span, t: &[i32], y: Span) -> u64
+fn effect_parts(
+    n: u32,
+    full: bool,
+    low: u32,
+    q: Query,
+    f: &[i32],
+    x: Span,
+    t: &[i32],
+    y: Span,
+) -> u64
     requires { ⌜ SpanFits x (table n (now f)) × SpanFits y (table n (now t)) ⌝ }
     ensures { λ r. ⌜ Effect full low q (spanBlock (table n (now (f .entry))) x .rows)
         (spanBlock (table n (now (t .entry))) y .rows) r ⌝ }
