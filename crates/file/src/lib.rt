@@ -27,8 +27,7 @@ fn and_room(n: u32, checked: Loaded, room: usize) -> Loaded
     checked
 }
 
-// The row of n coordinates that begins at `o`, which fits, written from place `p` on. What stands around it stays.
-fn put_row(n: u32, bytes: &[u8], o: usize, out: &mut [i32], p: usize)
+fn put_row_at(n: u32, bytes: &[u8], o: usize, out: &mut [i32], p: usize)
     requires { ⌜ (o + rowBytes n ≤ length (now bytes)) × (p + width n ≤ length (now out)) ⌝ }
     requires { ⌜ RowFits n (now bytes) o ⌝ }
     ensures { λ _. ⌜ now (out .exit) ≡ rowPut n (now (bytes .entry)) o p (now (out .entry)) ⌝ }
@@ -40,6 +39,24 @@ fn put_row(n: u32, bytes: &[u8], o: usize, out: &mut [i32], p: usize)
         out[p + j] = row_number(bytes, at, j);
         at += column_bytes(j);
         j += 1;
+    }
+}
+
+// The row of n coordinates that begins at `o`, which fits, written from place `p` on. What stands around it stays. The
+// code is chosen by n, so that the compiler knows the columns.
+fn put_row(n: u32, bytes: &[u8], o: usize, out: &mut [i32], p: usize)
+    requires { ⌜ (o + rowBytes n ≤ length (now bytes)) × (p + width n ≤ length (now out)) ⌝ }
+    requires { ⌜ RowFits n (now bytes) o ⌝ }
+    ensures { λ _. ⌜ now (out .exit) ≡ rowPut n (now (bytes .entry)) o p (now (out .entry)) ⌝ }
+{
+    if n == 2 {
+        put_row_at(2, bytes, o, out, p);
+    } else {
+        if n == 3 {
+            put_row_at(3, bytes, o, out, p);
+        } else {
+            put_row_at(n, bytes, o, out, p);
+        }
     }
 }
 
