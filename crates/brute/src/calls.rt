@@ -41,10 +41,13 @@ pub fn first_rows(card: u32, field: Table, trim: Table, rows: Counts) -> Lent {
     }
 }
 
-// The first numbers of a table.
-fn part(t: &Table, n: u32) -> &[i32] {
-    let all = &t[..];
-    &all[0..(n % 66) as usize]
+// The first numbers of a slice; all, if there are not so many.
+pub fn first(t: &[i32], n: u32) -> &[i32] {
+    let end = n as usize;
+    if end <= t.len() {
+        return &t[..end];
+    }
+    t
 }
 
 pub fn kinds(field: u32, trim: u32) -> Kinds {
@@ -63,7 +66,7 @@ pub fn kinds_on(card: u32) -> Kinds {
 pub fn open_as(l: Lent, kinds: Kinds, query: Query) -> Step {
     let f = l.field;
     let t = l.trim;
-    opening::start(query, kinds, part(&f, l.fields), part(&t, l.trims))
+    opening::start(query, kinds, first(&f, l.fields), first(&t, l.trims))
 }
 
 pub fn open(l: Lent, query: Query) -> Step {
@@ -74,8 +77,8 @@ pub fn open(l: Lent, query: Query) -> Step {
 pub fn call(l: Lent, s: Session, is_read: bool) -> Step {
     let f = l.field;
     let t = l.trim;
-    let fields = part(&f, l.fields);
-    let trims = part(&t, l.trims);
+    let fields = first(&f, l.fields);
+    let trims = first(&t, l.trims);
     if is_read {
         return reading::read(fields, trims, s);
     }
@@ -86,7 +89,7 @@ pub fn call(l: Lent, s: Session, is_read: bool) -> Step {
 pub fn shown(l: Lent, s: Session) -> u32 {
     let f = l.field;
     let t = l.trim;
-    let rows = showing::show(part(&f, l.fields), part(&t, l.trims), s);
+    let rows = showing::show(first(&f, l.fields), first(&t, l.trims), s);
     (rows.len() % 66) as u32
 }
 

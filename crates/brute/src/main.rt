@@ -62,11 +62,9 @@ fn all_cases(tally: &mut [u64; 48]) {
 }
 
 // Tables of 65,536 rows on either card.
-fn too_long(long: &[i32; 327680], tally: &mut [u64; 48]) {
-    let all = &long[..];
-    let query = openings::query(1, 1, 0);
-    tally::count(tally, openings::too_long(2, query, &all[0..262144]));
-    tally::count(tally, openings::too_long(3, query, all));
+fn too_long(long: &[i32], tally: &mut [u64; 48]) {
+    tally::count(tally, openings::too_long(2, calls::first(long, 262144)));
+    tally::count(tally, openings::too_long(3, long));
 }
 
 fn line(tally: [u64; 48], i: u32, name: &[u8]) {

@@ -123,11 +123,8 @@ fn two_cards(l: Lent, q: Query, kind: u32) -> u32 {
 }
 
 // An opening with a table of 65,536 rows, which must be refused by 4.
-pub fn too_long(card: u32, q: Query, long: &[i32]) -> u32 {
+pub fn too_long(card: u32, long: &[i32]) -> u32 {
     let t = [1i32; 5];
-    calls::kept(
-        opening::start(q, calls::kinds_on(card), long, &t[..0]),
-        zeros(),
-        4,
-    )
+    let step = opening::start(query(1, 1, 0), calls::kinds_on(card), long, &t[..0]);
+    calls::kept(step, zeros(), 4)
 }
