@@ -143,8 +143,8 @@ int32_t furzeladle_take(const int32_t *f, size_t f_len, const int32_t *t, size_t
                         size_t session_len, uint32_t *pair, size_t pair_len);
 
 /* Shows the rows last read: `place` gets the table (1 field, 2 trim, on either card), the first row, numbered from 1,
- * and how many. Three zeros where nothing was read, or the record or a table does not fit (5, 4): no number goes with that.
- * The answer is 0. */
+ * and how many. Three zeros where nothing was read, or the record or a table does not fit (5, 4): no number goes with
+ * that. The answer is 0. */
 int32_t furzeladle_show(const int32_t *f, size_t f_len, const int32_t *t, size_t t_len, const uint32_t *session,
                         size_t session_len, uint32_t *place, size_t place_len);
 
