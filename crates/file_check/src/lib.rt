@@ -43,14 +43,7 @@ fn read_header(bytes: &[u8]) -> Header
 pub fn kind_coordinates(kind: i32) -> u32
     ensures { λ r. ⌜ r ≡ wanted kind ⌝ }
 {
-    let number = tables::natural(kind);
-    if !((1 <= number) & (number <= 4)) {
-        return 0;
-    }
-    if number <= 2 {
-        return 2;
-    }
-    3
+    cards::kind_coordinates(tables::natural(kind))
 }
 
 // What a file of `len` bytes is refused by for its header, 8, 9, 10, 4, 8 in this order; 0 where it is not.
