@@ -16,3 +16,5 @@ pub mod Meaning
 pub mod Run
 pub mod Example
 pub mod Small
+pub mod OldCard
+pub mod CardCases
