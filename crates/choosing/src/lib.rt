@@ -72,7 +72,8 @@ pub fn next_depth(block: u32, rows: u32, depth: u32) -> u32
 
 // What 6 and 7 say of the new block, of the table that is read next.
 pub fn new_block_code(f: &[i32], t: &[i32], s: Session) -> u32
-    requires { ⌜ Accepted (lentTable s (now f)) (lentTable s (now t)) s × (settled (lentTable s (now f)) (lentTable s (now t)) s ≡ false) ⌝ }
+    requires { ⌜ Accepted (lentTable s (now f)) (lentTable s (now t)) s
+        × (settled (lentTable s (now f)) (lentTable s (now t)) s ≡ false) ⌝ }
     ensures { λ r. ⌜ r ≡ newBlockCode (lentTable s (now (f .entry))) (lentTable s (now (t .entry))) s ⌝ }
 {
     let field = field_next(f, t, s);

@@ -48,7 +48,8 @@ sure-uneven = sure-is-test (topOne 1) refl fields trims refl refl (fieldRows 1) 
 
 pub limit-uneven : DepthsUpTo 2 (lastOf (topOne 1) fields trims)
 unfolding run
-limit-uneven = keeps (topOne 1) fields trims (record { known = refl; same = refl }) refl refl refl .row-limit (fieldRows 1) (trimRows 2) sure-uneven
+limit-uneven = keeps (topOne 1) fields trims (record { known = refl; same = refl }) refl refl refl .row-limit
+    (fieldRows 1) (trimRows 2) sure-uneven
 
 pub at-uneven : (lastOf (topOne 1) fields trims .depth .field .0 ≡ 2)
     × (lastOf (topOne 1) fields trims .depth .trim .0 ≡ 2)
@@ -66,7 +67,8 @@ sure-one = sure-is-test (topOne 2) refl table table refl refl (fieldRows 1) (tri
 
 pub limit-two : DepthsUpTo 2 (lastOf (topOne 2) table table)
 unfolding run
-limit-two = keeps (topOne 2) table table (record { known = refl; same = refl }) refl refl refl .row-limit (fieldRows 1) (trimRows 1) sure-one
+limit-two = keeps (topOne 2) table table (record { known = refl; same = refl }) refl refl refl .row-limit
+    (fieldRows 1) (trimRows 1) sure-one
 
 pub at-two : (lastOf (topOne 2) table table .depth .field .0 ≡ 2)
     × (lastOf (topOne 2) table table .depth .trim .0 ≡ 2)

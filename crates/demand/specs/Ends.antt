@@ -25,7 +25,8 @@ use Rattle.session_laws.specs.Read.{depths}
 use Rattle.session_laws.specs.Take.{gives-some, settled-take}
 use Rattle.session_laws.specs.Sound.{Sound, sound-open}
 use Rattle.tables_join.specs.Reached.{Reached, read-sound, take-sound, reached-fits, read-deepens}
-use Rattle.demand.specs.Demand.{Call, reading, taking, Line, ruled, promised, isAccepted, Sequence, Follows, lastRecord}
+use Rattle.demand.specs.Demand.{Call, reading, taking, Line, ruled, promised, isAccepted, Sequence, Follows}
+use Rattle.demand.specs.Demand.{lastRecord}
 use Rattle.demand.specs.GetsThere.{GetsThere, runOf}
 use Rattle.demand.specs.Steps.{readsOf, Changed, kept, deeper, fewer}
 use Rattle.demand.specs.Outcomes.{said-not-yet}

@@ -56,7 +56,8 @@ pub fn line_of(n: u32, f: &[i32], t: &[i32], rank: u32, p: Pair) -> Line
 
 // The list's lines, from a place on.
 fn put_pairs(out: &mut [u8], at: usize, n: u32, f: &[i32], t: &[i32], run: Outcome)
-    requires { ⌜ (at + lineLength * placeCount ≤ length (now out)) × OutcomeOf (table n (now f)) (table n (now t)) run ⌝ }
+    requires { ⌜ (at + lineLength * placeCount ≤ length (now out))
+        × OutcomeOf (table n (now f)) (table n (now t)) run ⌝ }
     ensures { λ _. ⌜ now (out .exit)
         ≡ putAt at (listLines (run .query) (table n (now (f .entry))) (table n (now (t .entry)))) (now (out .entry)) ⌝ }
 {
@@ -72,7 +73,8 @@ fn put_pairs(out: &mut [u8], at: usize, n: u32, f: &[i32], t: &[i32], run: Outco
 // The listing of a query that was run, from the front of `out`: how many bytes it takes.
 pub fn put_listing(out: &mut [u8], n: u32, f: &[i32], t: &[i32], run: Outcome) -> usize
     requires { ⌜ (listingRoom ≤ length (now out)) × OutcomeOf (table n (now f)) (table n (now t)) run ⌝ }
-    ensures { λ r. ⌜ (r ≤ listingRoom) × (r ≡ length (listing (run .query) (table n (now (f .entry))) (table n (now (t .entry))))) ⌝ }
+    ensures { λ r. ⌜ (r ≤ listingRoom)
+        × (r ≡ length (listing (run .query) (table n (now (f .entry))) (table n (now (t .entry))))) ⌝ }
     ensures { λ _. ⌜ now (out .exit)
         ≡ putAt 0 (listing (run .query) (table n (now (f .entry))) (table n (now (t .entry)))) (now (out .entry)) ⌝ }
 {

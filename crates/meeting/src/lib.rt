@@ -63,7 +63,16 @@ fn join_parts(
 }
 
 // The effect of rows of the field table and rows of the trim table.
-fn effect_parts(n: u32, full: bool, low: u32, q: Query, f: &[i32], x: Span, t: &[i32], y: Span) -> u64
+fn effect_parts(
+    n: u32,
+    full: bool,
+    low: u32,
+    q: Query,
+    f: &[i32],
+    x: Span,
+    t: &[i32],
+    y: Span,
+) -> u64
     requires { ⌜ SpanFits x (table n (now f)) × SpanFits y (table n (now t)) ⌝ }
     ensures { λ r. ⌜ Effect full low q (spanBlock (table n (now (f .entry))) x .rows)
         (spanBlock (table n (now (t .entry))) y .rows) r ⌝ }
@@ -181,7 +190,8 @@ pub struct After {
 fn read_on(field: bool, f: &[i32], t: &[i32], s: Session, keys: &mut [u64; 64]) -> After
     requires { ⌜ Due field (lentTable s (now f)) (lentTable s (now t)) s
         × Passed field (lentTable s (now f)) (lentTable s (now t)) s × Keys s (now keys) ⌝ }
-    ensures { λ r. ⌜ (withKeys s r (now (keys .exit)) ≡ readTable field (lentTable s (now (f .entry))) (lentTable s (now (t .entry))) s)
+    ensures { λ r. ⌜ (withKeys s r (now (keys .exit))
+        ≡ readTable field (lentTable s (now (f .entry))) (lentTable s (now (t .entry))) s)
         × (r .held ≤ 64) × (length (now (keys .exit)) ≡ 64) ⌝ }
 {
     let block = s.query.block;
@@ -207,9 +217,11 @@ fn read_on(field: bool, f: &[i32], t: &[i32], s: Session, keys: &mut [u64; 64]) 
 
 // One block of the table that is next is read and meets the other table's. The pairs held go in and come back as keys.
 pub fn read_block(f: &[i32], t: &[i32], s: Session, keys: &mut [u64; 64]) -> After
-    requires { ⌜ Accepted (lentTable s (now f)) (lentTable s (now t)) s × (settled (lentTable s (now f)) (lentTable s (now t)) s ≡ false)
+    requires { ⌜ Accepted (lentTable s (now f)) (lentTable s (now t)) s
+        × (settled (lentTable s (now f)) (lentTable s (now t)) s ≡ false)
         × (newBlockCode (lentTable s (now f)) (lentTable s (now t)) s ≡ 0) × Keys s (now keys) ⌝ }
-    ensures { λ r. ⌜ (withKeys s r (now (keys .exit)) ≡ readBlock (lentTable s (now (f .entry))) (lentTable s (now (t .entry))) s)
+    ensures { λ r. ⌜ (withKeys s r (now (keys .exit))
+        ≡ readBlock (lentTable s (now (f .entry))) (lentTable s (now (t .entry))) s)
         × (r .held ≤ 64) × (length (now (keys .exit)) ≡ 64) ⌝ }
 {
     let field = choosing::field_next(f, t, s);

@@ -26,7 +26,10 @@ fn tables_code(m: u32, f: &[i32], n: u32, t: &[i32]) -> u32
     let rows = tables::unless(tables::size_fits(m, f), rules::TABLE_SIZE);
     let others = tables::unless(tables::size_fits(n, t), rules::TABLE_SIZE);
     let cards = tables::unless(m == n, rules::OTHER_CARD);
-    tables::first(field, tables::first(trim, tables::first(rows, tables::first(others, cards))))
+    tables::first(
+        field,
+        tables::first(trim, tables::first(rows, tables::first(others, cards))),
+    )
 }
 
 // What an opening is refused by: 1, 2, 3, 12, 10, 4, 15; 0 where it is not.

@@ -48,7 +48,8 @@ fn put_three(out: &mut [u64], at: usize, x: u64, y: u64, z: u64)
 // A pair's numbers.
 fn put_pair(out: &mut [u64], at: usize, n: u32, f: &[i32], t: &[i32], p: Pair)
     requires { ⌜ (at + pairLength ≤ length (now out)) × Shown (table n (now f)) (table n (now t)) p ⌝ }
-    ensures { λ _. ⌜ now (out .exit) ≡ putAt at (pairNumbers (table n (now (f .entry))) (table n (now (t .entry))) p) (now (out .entry)) ⌝ }
+    ensures { λ _. ⌜ now (out .exit) ≡ putAt at (pairNumbers (table n (now (f .entry))) (table n (now (t .entry))) p)
+        (now (out .entry)) ⌝ }
 {
     let b = at + 3;
     let line = listing::line_of(n, f, t, 0, p);
@@ -59,7 +60,8 @@ fn put_pair(out: &mut [u64], at: usize, n: u32, f: &[i32], t: &[i32], p: Pair)
 // The root of its squared distance, and the remainder.
 fn put_root(out: &mut [u64], at: usize, n: u32, f: &[i32], t: &[i32], p: Pair)
     requires { ⌜ (at + rootLength ≤ length (now out)) × Shown (table n (now f)) (table n (now t)) p ⌝ }
-    ensures { λ _. ⌜ now (out .exit) ≡ putAt at (rootNumbers (table n (now (f .entry))) (table n (now (t .entry))) p) (now (out .entry)) ⌝ }
+    ensures { λ _. ⌜ now (out .exit) ≡ putAt at (rootNumbers (table n (now (f .entry))) (table n (now (t .entry))) p)
+        (now (out .entry)) ⌝ }
 {
     let b = at + 1;
     let line = listing::line_of(n, f, t, 0, p);
@@ -94,7 +96,8 @@ fn put_parts(
     requires { ⌜ (wide ≡ partLength roots) × (at + partLength roots * placeCount ≤ length (now out)) ⌝ }
     requires { ⌜ OutcomeOf (table n (now f)) (table n (now t)) run ⌝ }
     ensures { λ _. ⌜ now (out .exit)
-        ≡ putAt at (listParts roots (run .query) (table n (now (f .entry))) (table n (now (t .entry)))) (now (out .entry)) ⌝ }
+        ≡ putAt at (listParts roots (run .query) (table n (now (f .entry))) (table n (now (t .entry))))
+        (now (out .entry)) ⌝ }
 {
     let mut i: usize = 0;
     while i < run.count {
@@ -107,7 +110,8 @@ fn put_parts(
 // The numbers of a query that was run, from the front of `out`; the roots behind them, if there is room.
 pub fn put_numbers(out: &mut [u64], n: u32, f: &[i32], t: &[i32], run: Outcome)
     requires { ⌜ (queryRoom ≤ length (now out)) × OutcomeOf (table n (now f)) (table n (now t)) run ⌝ }
-    ensures { λ _. ⌜ now (out .exit) ≡ answered (run .query) (table n (now (f .entry))) (table n (now (t .entry))) (now (out .entry)) ⌝ }
+    ensures { λ _. ⌜ now (out .exit) ≡ answered (run .query) (table n (now (f .entry))) (table n (now (t .entry)))
+        (now (out .entry)) ⌝ }
 {
     let more = ROOTS_ROOM <= out.len();
     let settled = run.session;

@@ -14,7 +14,8 @@ use Rattle.rules.specs.declared.Session.{Session}
 use Rattle.rules.specs.declared.Step.{Step}
 use Rattle.rules.specs.declared.Answer.{Answer}
 use Rattle.rules.specs.declared.Answer.the-variants.{Refused, Opened, Read, Settled, Given, NotYet, Finished}
-use Rattle.rules.specs.Tables.{Table, coordinates, Terms, terms, width, mostRows, rowCount, rowInRange, rowInOrder}
+use Rattle.rules.specs.Tables.{Table, coordinates, Terms, terms, width, mostRows, rowCount, rowInRange}
+use Rattle.rules.specs.Tables.{rowInOrder}
 use Rattle.rules.specs.Tables.{sizeFits, ahead}
 use Rattle.rules.specs.Session.{twoTables, opened, zeros, heldPairs, settledBy}
 use Rattle.rules.specs.Read.{blockCount, fieldNextBy, oldDepth, newDepth, readBlockBy}

@@ -50,7 +50,12 @@ pub opened-on : openedBy 1 1 4 2 8 ∷ openedBy 1 3 5 4 10 ∷ [] ≡ 0 ∷ 0 �
 unfolding run
 opened-on = refl
 
-pub kinds-first : openedBy 1 2 4 2 4 ∷ openedBy 1 1 3 1 4 ∷ openedBy 1 4 5 4 5 ∷ openedBy 1 0 0 5 0 ∷ openedBy 0 0 0 0 0 ∷ []
+pub kinds-first : openedBy 1 2 4 2 4
+    ∷ openedBy 1 1 3 1 4
+    ∷ openedBy 1 4 5 4 5
+    ∷ openedBy 1 0 0 5 0
+    ∷ openedBy 0 0 0 0 0
+    ∷ []
     ≡ 10 ∷ 10 ∷ 10 ∷ 10 ∷ 1 ∷ []
 unfolding run
 kinds-first = refl

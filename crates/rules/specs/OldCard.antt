@@ -1,5 +1,5 @@
--- Old kinds read, pair and print as before: on the old card the rules are those of the first paper, in its own formulas.
--- Assumes nothing.
+-- Old kinds read, pair and print as before: on the old card the rules are, in its own formulas, those of the first
+-- paper. Assumes nothing.
 use mathlib.Core.Path.{_≡_, refl, ap, ap₂, _∙_}
 use mathlib.Core.Bool.{Bool, true, false, _&&_}
 use mathlib.Core.List.{List, [], _∷_}

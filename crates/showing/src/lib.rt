@@ -11,7 +11,8 @@ ghost use Rattle.rules.specs.Calls.{showCall, movedOn, showPlace};
 // The rows of a table from the first to the last of its last block down to a depth.
 fn last_rows<'a>(n: u32, t: &'a [i32], block: u32, depth: u32) -> &'a [i32]
     requires { ⌜ (0 < block) × (0 < depth) × (depth ≤ mostRows) × HasRows (table n (now t)) depth ⌝ }
-    ensures { λ r. ⌜ now r ≡ part (table n (now (t .entry))) (lastBlock block depth) (depth - lastBlock block depth) .numbers ⌝ }
+    ensures { λ r. ⌜ now r ≡ part (table n (now (t .entry))) (lastBlock block depth)
+        (depth - lastBlock block depth) .numbers ⌝ }
     ensures { λ r. ⌜ ptr r ≡ movedOn (ptr (t .entry)) (width n * lastBlock block depth) ⌝ }
 {
     let a = ((depth - 1) / block * block) as usize;
@@ -23,7 +24,8 @@ fn last_rows<'a>(n: u32, t: &'a [i32], block: u32, depth: u32) -> &'a [i32]
 pub fn show<'a>(f: &'a [i32], t: &'a [i32], s: Session) -> &'a [i32]
     ensures { λ r. ⌜ now r ≡ showCall (lentTable s (now (f .entry))) (lentTable s (now (t .entry))) s ⌝ }
     ensures { λ r. ⌜ ptr r
-        ≡ showPlace (lentTable s (now (f .entry))) (lentTable s (now (t .entry))) (ptr (f .entry)) (ptr (t .entry)) s ⌝ }
+        ≡ showPlace (lentTable s (now (f .entry))) (lentTable s (now (t .entry))) (ptr (f .entry))
+        (ptr (t .entry)) s ⌝ }
 {
     let fits = checks::fits(s);
     if checks::lent_code(fits, s.rows, f, t) != 0 {

@@ -83,9 +83,10 @@ module _ {q : Query} {f t : Table} {out : List Pair} {s : Session} (a : Reached 
     where
       -- equal drops: the one with fewer rows read
       fewer : ltb u v ≡ false → ltb v u ≡ false
-          → dropAt (fieldSide (f .coordinates) q) (rowsOf f) d ≡ u → dropAt (trimSide (t .coordinates) q) (rowsOf t) e ≡ v → 1 ≤ d → 1 ≤ e
-          → fieldSide (f .coordinates) q .ended (rowsOf f) d ≡ false → trimSide (t .coordinates) q .ended (rowsOf t) e ≡ false → (b : Bool)
-          → leb d e ≡ b → Next b
+          → dropAt (fieldSide (f .coordinates) q) (rowsOf f) d ≡ u
+          → dropAt (trimSide (t .coordinates) q) (rowsOf t) e ≡ v → 1 ≤ d → 1 ≤ e
+          → fieldSide (f .coordinates) q .ended (rowsOf f) d ≡ false
+          → trimSide (t .coordinates) q .ended (rowsOf t) e ≡ false → (b : Bool) → leb d e ≡ b → Next b
       fewer l m i j hd he x y true n =
           let no-less = ltb-false v u m in
           inr (he, x, inr (inr (omega (arith, i, j), leb-true d e n)))
@@ -134,13 +135,15 @@ module _ {q : Query} {f t : Table} {out : List Pair} {s : Session} (a : Reached 
       empty-read (trim-rises q (a .accepted)) t (s .depth .trim .0) (s .rows .trim .0) (a .trim-rows) (a .trim-depth)
       ∙ unsettled-out f t s u .trim-live
 
-  unended : (fieldSide (f .coordinates) q .ended (rowsOf f) (s .depth .field .0) && trimSide (t .coordinates) q .ended (rowsOf t) (s .depth .trim .0))
+  unended : (fieldSide (f .coordinates) q .ended (rowsOf f) (s .depth .field .0)
+      && trimSide (t .coordinates) q .ended (rowsOf t) (s .depth .trim .0))
       ≡ false
   unended = rw (field-ended a, trim-ended a) (unsettled-out f t s u .unread)
 
   field-limit : fieldNext f t s ≡ true → s .depth .field .0 < max (m .0) (n .0)
   field-limit c =
-      row-limit (fieldSide (f .coordinates) q) (trimSide (t .coordinates) q) (near q) (laws q (a .accepted) f t (a .cards .same)) (rowsOf f) (rowsOf t)
+      row-limit (fieldSide (f .coordinates) q) (trimSide (t .coordinates) q) (near q)
+      (laws q (a .accepted) f t (a .cards .same)) (rowsOf f) (rowsOf t)
       (legal-rows f g (field-rises q (a .accepted))) (legal-rows t h (trim-rises q (a .accepted)))
       (q .k) (m .0) (n .0) (s .depth .field .0) (s .depth .trim .0) wanted live live-trim unended
       (λ hd he. unsettled-short a g h hd he u) (chosen a (unsettled-out f t s u .unread) true c)
@@ -148,7 +151,8 @@ module _ {q : Query} {f t : Table} {out : List Pair} {s : Session} (a : Reached 
 
   trim-limit : fieldNext f t s ≡ false → s .depth .trim .0 < max (m .0) (n .0)
   trim-limit c =
-      row-limit-trim (fieldSide (f .coordinates) q) (trimSide (t .coordinates) q) (near q) (laws q (a .accepted) f t (a .cards .same)) (rowsOf f) (rowsOf t)
+      row-limit-trim (fieldSide (f .coordinates) q) (trimSide (t .coordinates) q) (near q)
+      (laws q (a .accepted) f t (a .cards .same)) (rowsOf f) (rowsOf t)
       (legal-rows f g (field-rises q (a .accepted))) (legal-rows t h (trim-rises q (a .accepted))) (q .k)
       (m .0) (n .0) (s .depth .field .0) (s .depth .trim .0) wanted live live-trim unended
       (λ hd he. unsettled-short a g h hd he u) (chosen a (unsettled-out f t s u .unread) false c)

@@ -27,7 +27,8 @@ use Rattle.rules.specs.Calls.{queryCode}
 use Rattle.rules.specs.Sure.{qualifyingSums, whole, Begins, Sure}
 use Rattle.session_laws.specs.Record.{query-out}
 use Rattle.tables_join.specs.Rows.{rowsOf, rowsBy, fieldSide, trimSide, near, Rises, flat, Wide, length-rows}
-use Rattle.tables_join.specs.Rows.{legal-rows, field-rises, trim-rises, rows-flat, flat-rows, legal-wide, wide-rows}
+use Rattle.tables_join.specs.Rows.{legal-rows, field-rises, trim-rises, rows-flat, flat-rows, legal-wide}
+use Rattle.tables_join.specs.Rows.{wide-rows}
 use Rattle.tables_join.specs.Rows.{row-at, weight-zero, zero-legal, flat-take, rows-take, flat-legal, laws}
 
 -- a reading of n rows has read a table out: its last row, or a withdrawn one, is within it

@@ -23,7 +23,8 @@ returns-2 : tie.Need-returns-2
 unfolding kindCoordinates
 returns-2 c =
     let first = c .before .before in
-    simp (not-false (isKind (first .before .args .kind)) (first .if1 .left), le-leb _ _ (c .before .if2 .taken)) (c .coordinates .ensures)
+    simp (not-false (isKind (first .before .args .kind)) (first .if1 .left), le-leb _ _ (c .before .if2 .taken))
+    (c .coordinates .ensures)
 
 coordinates-requires-2 : tie.Need-coordinates-requires-2
 coordinates-requires-2 c κs = search needs
@@ -32,7 +33,8 @@ returns-3 : tie.Need-returns-3
 unfolding kindCoordinates
 returns-3 c =
     let first = c .before .before in
-    simp (not-false (isKind (first .before .args .kind)) (first .if1 .left), lt-leb _ _ (c .before .if2 .left)) (c .coordinates2 .ensures)
+    simp (not-false (isKind (first .before .args .kind)) (first .if1 .left), lt-leb _ _ (c .before .if2 .left))
+    (c .coordinates2 .ensures)
 
 pub kind-coordinates-spec : {M : Type 1} → statement M
 kind-coordinates-spec =

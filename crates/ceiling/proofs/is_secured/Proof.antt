@@ -19,7 +19,8 @@ returns c =
     let a = s .args in
     let out : bothReadOut (lentTable (a .s) (a .f .now)) (lentTable (a .s) (a .t .now)) (a .s) ≡ true =
     simp (c .before .before .read-out .ensures, c .before .read-out2 .ensures) at (c .if1 .taken) in
-    rw (read-secured (lentTable (a .s) (a .f .now)) (lentTable (a .s) (a .t .now)) (a .s) (a .p) (s .pre)) (simp out refl)
+    rw (read-secured (lentTable (a .s) (a .f .now)) (lentTable (a .s) (a .t .now)) (a .s) (a .p) (s .pre))
+    (simp out refl)
 
 threshold-requires : tie.Need-threshold-requires
 threshold-requires c κs = search needs
@@ -34,7 +35,8 @@ returns-2 c =
     let out : bothReadOut (lentTable (a .s) (a .f .now)) (lentTable (a .s) (a .t .now)) (a .s) ≡ false =
     simp (c .before .before .before .before .read-out .ensures, c .before .before .before .read-out2 .ensures) at
     (c .before .before .if1 .left) in
-    rw (read-secured (lentTable (a .s) (a .f .now)) (lentTable (a .s) (a .t .now)) (a .s) (a .p) (s .pre)) (simp (out, c .before .threshold .ensures) refl)
+    rw (read-secured (lentTable (a .s) (a .f .now)) (lentTable (a .s) (a .t .now)) (a .s) (a .p) (s .pre))
+    (simp (out, c .before .threshold .ensures) refl)
 
 pub is-secured-spec : {M : Type 1} → statement M
 is-secured-spec =

@@ -31,7 +31,8 @@ unfolding readOut
 returns-3 c =
     let s = c .before .before .before in
     let last =
-    within-last (table (s .args .n) (s .args .t .now)) (s .args .depth) (s .pre .fit) (omega (arith, c .before .if2 .left)) in
+    within-last (table (s .args .n) (s .args .t .now)) (s .args .depth) (s .pre .fit)
+    (omega (arith, c .before .if2 .left)) in
     simp (ne-eqb _ _ (c .before .before .if1 .left), last, c .is-withdrawn .ensures) refl
 
 pub read-out-spec : {M : Type 1} → statement M

@@ -9,10 +9,12 @@ use Rattle.ceiling.proofs.threshold.Statement.{statement}
 use Rattle.ceiling.proofs.threshold.Tie as tie
 
 -- the slices have the rows read
-field-row : (s : tie.Start) (i : ℕ) → i < s .args .s .depth .field .0 → HasRow (lentTable (s .args .s) (s .args .f .now)) i
+field-row : (s : tie.Start) (i : ℕ) → i < s .args .s .depth .field .0 →
+    HasRow (lentTable (s .args .s) (s .args .f .now)) i
 field-row s i h = rows-row (lentTable (s .args .s) (s .args .f .now)) i _ h (s .pre .field .there)
 
-trim-row : (s : tie.Start) (i : ℕ) → i < s .args .s .depth .trim .0 → HasRow (lentTable (s .args .s) (s .args .t .now)) i
+trim-row : (s : tie.Start) (i : ℕ) → i < s .args .s .depth .trim .0 →
+    HasRow (lentTable (s .args .s) (s .args .t .now)) i
 trim-row s i h = rows-row (lentTable (s .args .s) (s .args .t .now)) i _ h (s .pre .trim .there)
 
 weighted-requires : tie.Need-weighted-requires

@@ -24,7 +24,8 @@ abbrev own : tie.After-field-next → Table
 own c = cond (c .field-next .result) (field (c .before)) (trim (c .before))
 
 -- what is known of it
-known : (c : tie.After-field-next) → Due (c .field-next .result) (field (c .before)) (trim (c .before)) (c .before .args .s)
+known : (c : tie.After-field-next) → Due (c .field-next .result) (field (c .before)) (trim (c .before))
+    (c .before .args .s)
 known c =
     let s = c .before in
     let long = places-long (s .args .s) _ (s .good .1 .1 .0) in
@@ -64,7 +65,8 @@ inside : (c : tie.After-next-depth)
     × HasRows (own (chosen c)) (c .next-depth .result)
 inside c =
     let at = chosen c in
-    let k = new-inside (field (at .before)) (trim (at .before)) (at .before .args .s) (at .field-next .result) (known at) in (
+    let k = new-inside (field (at .before)) (trim (at .before)) (at .before .args .s) (at .field-next .result)
+    (known at) in (
       omega (arith, old (c .before), new c, k .0),
       omega (arith, new c, k .1),
       subst (HasRows (own at)) (sym (new c)) (k .2),

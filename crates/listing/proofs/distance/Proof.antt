@@ -42,7 +42,8 @@ returns c =
     let y = row (table (s .args .n) (s .args .t .now)) (s .args .p .trim - 1) .shade in
     let small : squaredDistance x y < 2 ^ 64 = s .pre .small in
     let e : c .squared-distance .result ≡ min (squaredDistance x y) (2 ^ 64 - 1) =
-    simp (c .before .before .before .shade .ensures .0, c .before .shade2 .ensures .0) at (c .squared-distance .ensures) in
+    simp (c .before .before .before .shade .ensures .0, c .before .shade2 .ensures .0) at
+    (c .squared-distance .ensures) in
     omega arith
 
 pub distance-spec : {M : Type 1} → statement M

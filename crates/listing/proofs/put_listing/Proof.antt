@@ -22,13 +22,15 @@ pairs-put c = c .before .before .before .before
 mul-end : tie.Need-mul-end
 mul-end c =
     let s = c .before .before .before in
-    let few = count-few (table (s .args .n) (s .args .f .now)) (table (s .args .n) (s .args .t .now)) (s .args .run) (s .pre .1) in
+    let few = count-few (table (s .args .n) (s .args .f .now)) (table (s .args .n) (s .args .t .now)) (s .args .run)
+    (s .pre .1) in
     record { fits = omega arith }
 
 add-end : tie.Need-add-end
 add-end c =
     let s = c .before .before .before in
-    let few = count-few (table (s .args .n) (s .args .f .now)) (table (s .args .n) (s .args .t .now)) (s .args .run) (s .pre .1) in
+    let few = count-few (table (s .args .n) (s .args .f .now)) (table (s .args .n) (s .args .t .now)) (s .args .run)
+    (s .pre .1) in
     record { fits = omega arith }
 
 put-query-requires : tie.Need-put-query-requires
@@ -42,13 +44,15 @@ put-last-requires c κs =
     let pairs = c .before .before .before in
     let query = query-put pairs in
     let s = start query in
-    let few = count-few (table (s .args .n) (s .args .f .now)) (table (s .args .n) (s .args .t .now)) (s .args .run) (s .pre .1) in
+    let few = count-few (table (s .args .n) (s .args .f .now)) (table (s .args .n) (s .args .t .now)) (s .args .run)
+    (s .pre .1) in
     omega (arith, pairs .put-pairs .kept .0, query .put-query .kept .0, s .pre .0)
 
 add-result : tie.Need-add-result
 add-result c =
     let s = start (query-put (pairs-put (c .before .before))) in
-    let few = count-few (table (s .args .n) (s .args .f .now)) (table (s .args .n) (s .args .t .now)) (s .args .run) (s .pre .1) in
+    let few = count-few (table (s .args .n) (s .args .f .now)) (table (s .args .n) (s .args .t .now)) (s .args .run)
+    (s .pre .1) in
     record { fits = omega arith }
 
 same-length : tie.Need-same-length

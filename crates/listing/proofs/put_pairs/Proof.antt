@@ -59,7 +59,8 @@ line-of-requires : tie.Need-line-of-requires Inv-loop μ-loop
 line-of-requires c κs =
     let s = start (c .before .before) in
     let i = c .before .before .loop .i in
-    pair-at (table (s .args .n) (s .args .f .now)) (table (s .args .n) (s .args .t .now)) (s .args .t6) (s .pre .1) i (c .before .loop-test .taken) .shown
+    pair-at (table (s .args .n) (s .args .f .now)) (table (s .args .n) (s .args .t .now)) (s .args .t6) (s .pre .1) i
+    (c .before .loop-test .taken) .shown
 
 mul-put-line : tie.Need-mul-put-line Inv-loop μ-loop
 mul-put-line c = search needs

@@ -20,7 +20,8 @@ effect-requires : tie.Need-effect-requires
 effect-requires c κs =
     let s = c .before .before in
     let n = s .args .n in (
-      has-row (table n (c .before .rows .result .now)) 0 (omega (arith, c .before .rows .ensures .0 .1, s .pre .0 .some)),
+      has-row (table n (c .before .rows .result .now)) 0
+          (omega (arith, c .before .rows .ensures .0 .1, s .pre .0 .some)),
       has-row (table n (c .rows2 .result .now)) 0 (omega (arith, c .rows2 .ensures .0 .1, s .pre .1 .some)),
     )
 

@@ -99,7 +99,8 @@ old-inside c =
       some = omega (arith, begins (c .before), c .lesser .ensures, least);
       few = omega (arith, c .lesser .ensures, s .pre .1 .1 .0);
       within =
-          rows-less (other s) (c .lesser .result) (s .args .depth) (omega (arith, c .lesser .ensures)) (s .pre .1 .1 .1);
+          rows-less (other s) (c .lesser .result) (s .args .depth) (omega (arith, c .lesser .ensures))
+          (s .pre .1 .1 .1);
       fit = λ i h. s .pre .1 .0 .1 i (omega (arith, h, c .lesser .ensures));
     }
 

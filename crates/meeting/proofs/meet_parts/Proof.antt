@@ -40,14 +40,16 @@ add-t21 c = search needs
 -- the effect, of the last key's sum
 effect : (c : tie.After-effect-parts) → let a = start c .args in
     Effect (eqb (a .m .held) (a .room)) (pairOf (getD (a .keys .now) ((a .m .held + 63) % 64) 0) .sum) (a .q)
-    (spanBlock (table (a .n) (a .f .now)) (a .x) .rows) (spanBlock (table (a .n) (a .t .now)) (a .y) .rows) (c .effect-parts .result)
+    (spanBlock (table (a .n) (a .f .now)) (a .x) .rows) (spanBlock (table (a .n) (a .t .now)) (a .y) .rows)
+    (c .effect-parts .result)
 effect c = rw (sym (c .before .pair .ensures)) (c .effect-parts .ensures)
 
 returns : tie.Need-returns
 returns c =
     let at = c .before .before .before .before in
     let a = start at .args in
-    meets-joined (a .q) (a .room) (spanBlock (table (a .n) (a .f .now)) (a .x)) (spanBlock (table (a .n) (a .t .now)) (a .y)) (a .m)
+    meets-joined (a .q) (a .room) (spanBlock (table (a .n) (a .f .now)) (a .x))
+    (spanBlock (table (a .n) (a .t .now)) (a .y)) (a .m)
     (a .keys .now) (at .effect-parts .result) (effect at) (c .before .before .before .if1 .taken)
     (c .before .join-parts .result) _ (c .before .join-parts .ensures)
 
@@ -59,7 +61,8 @@ returns-2 c =
     let at = c .before .before in
     let s = start at in
     let a = s .args in
-    meets-counted (a .q) (a .room) (spanBlock (table (a .n) (a .f .now)) (a .x)) (spanBlock (table (a .n) (a .t .now)) (a .y)) (a .m)
+    meets-counted (a .q) (a .room) (spanBlock (table (a .n) (a .f .now)) (a .x))
+    (spanBlock (table (a .n) (a .t .now)) (a .y)) (a .m)
     (a .keys .now) (at .effect-parts .result) (effect at) (c .before .if1 .left) (s .pre .0 .0) (s .pre .0 .3)
 
 pub meet-parts-spec : {M : Type 1} → statement M

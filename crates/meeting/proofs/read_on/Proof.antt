@@ -94,7 +94,8 @@ met s =
     let a = s .args in
     let depth = otherDepth (a .field) (a .s) in
     meetBlocks (a .field) (a .s)
-    (rowsBetween (own s) (oldDepth (a .field) (a .s)) (newDepth (a .field) (a .s))) (other s) depth (blockCount (a .s .query .block) depth)
+    (rowsBetween (own s) (oldDepth (a .field) (a .s)) (newDepth (a .field) (a .s))) (other s) depth
+    (blockCount (a .s .query .block) depth)
 
 ready : (s : tie.Start) → Ready (met s)
 ready s = blocks-ready (s .args .field) (s .args .s) _ _ _ _ (s .pre .0 .ready)

@@ -20,7 +20,8 @@ trim s = trimTable (s .args .kinds) (s .args .t .now)
 coded : (c : tie.After-open-code) → let s = c .before .before .before in
     c .open-code .result ≡ openCode (s .args .q) (field s) (trim s)
 coded c =
-    simp (c .before .before .field-coordinates .ensures, c .before .trim-coordinates .ensures) at (c .open-code .ensures)
+    simp (c .before .before .field-coordinates .ensures, c .before .trim-coordinates .ensures) at
+    (c .open-code .ensures)
 
 -- where it is 0: the start of the call, where the field table's coordinates are known, and what was passed
 abbrev start : tie.Else1 → tie.Start

@@ -45,7 +45,8 @@ returns c =
     let pairs = if .before .before .before in
     let three = first pairs in
     let s = start (three .before) in
-    answered-roots (table (s .args .n) (s .args .f .now)) (table (s .args .n) (s .args .t .now)) (s .args .run) (s .args .out .now) (three .put-three .last .0)
+    answered-roots (table (s .args .n) (s .args .f .now)) (table (s .args .n) (s .args .t .now)) (s .args .run)
+    (s .args .out .now) (three .put-three .last .0)
     (pairs .put-parts .last .1 .1 .0) (s .pre .1) (three .put-three .ensures) (pairs .put-parts .ensures)
     (roots .last .1 .1 .0) (if .if1 .taken) (roots .ensures)
 
@@ -57,7 +58,8 @@ returns-2 c =
     let pairs = c .before .before .before in
     let three = first pairs in
     let s = start (three .before) in
-    answered-numbers (table (s .args .n) (s .args .f .now)) (table (s .args .n) (s .args .t .now)) (s .args .run) (s .args .out .now) (three .put-three .last .0)
+    answered-numbers (table (s .args .n) (s .args .f .now)) (table (s .args .n) (s .args .t .now)) (s .args .run)
+    (s .args .out .now) (three .put-three .last .0)
     (pairs .put-parts .last .1 .1 .0) (s .pre .1) (three .put-three .ensures) (pairs .put-parts .ensures)
     (c .if1 .left)
 

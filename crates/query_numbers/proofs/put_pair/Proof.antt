@@ -49,7 +49,8 @@ returns c =
     let three = first (c .before .before .before) in
     let line = known three in
     let s = line .before .before .args in
-    pair-put (table (s .n) (s .f .now)) (table (s .n) (s .t .now)) (s .p) (line .line-of .result) (s .at) (s .out .now) (three .put-three .last .0)
+    pair-put (table (s .n) (s .f .now)) (table (s .n) (s .t .now)) (s .p) (line .line-of .result) (s .at)
+    (s .out .now) (three .put-three .last .0)
     (more .last .0) (line .line-of .ensures) (three .put-three .ensures) (more .ensures)
 
 pub put-pair-spec : {M : Type 1} → statement M

@@ -36,7 +36,8 @@ returns c =
     let put = c .before .before .put-root in
     let if = c .before .before .before .before in
     let s = if .before .before .args in
-    subst (λ (b : Bool). put .last .0 ≡ putAt (s .at) (partNumbers b (table (s .n) (s .f .now)) (table (s .n) (s .t .now)) (s .p)) (s .out .now))
+    subst (λ (b : Bool). put .last .0 ≡ putAt (s .at)
+    (partNumbers b (table (s .n) (s .f .now)) (table (s .n) (s .t .now)) (s .p)) (s .out .now))
     (sym (if .if1 .taken)) (put .ensures)
 
 same-length-2 : tie.Need-same-length-2
@@ -48,7 +49,8 @@ returns-2 c =
     let put = c .before .before .put-pair in
     let if = c .before .before .before .before in
     let s = if .before .before .args in
-    subst (λ (b : Bool). put .last .0 ≡ putAt (s .at) (partNumbers b (table (s .n) (s .f .now)) (table (s .n) (s .t .now)) (s .p)) (s .out .now))
+    subst (λ (b : Bool). put .last .0 ≡ putAt (s .at)
+    (partNumbers b (table (s .n) (s .f .now)) (table (s .n) (s .t .now)) (s .p)) (s .out .now))
     (sym (if .if1 .left)) (put .ensures)
 
 pub put-part-spec : {M : Type 1} → statement M

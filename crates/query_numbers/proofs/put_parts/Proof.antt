@@ -71,7 +71,8 @@ put-part-requires c κs =
     let more = c .before .before .loop-test .taken in
     let fits = room (s .args .wide) (l .i) placeCount (omega (arith, more, l .inv .0)) in (
       omega (arith, fits, l .inv .1 .kept, s .pre .0),
-      pair-at (table (s .args .n) (s .args .f .now)) (table (s .args .n) (s .args .t .now)) (s .args .t8) (s .pre .1) (l .i) more .shown,
+      pair-at (table (s .args .n) (s .args .f .now)) (table (s .args .n) (s .args .t .now)) (s .args .t8) (s .pre .1)
+          (l .i) more .shown,
     )
 
 add-i : tie.Need-add-i Inv-loop μ-loop

@@ -30,7 +30,8 @@ returns c =
     let one = first (c .before .before) in
     let line = one .before .before in
     let s = line .before .before .args in
-    roots-put (table (s .n) (s .f .now)) (table (s .n) (s .t .now)) (s .p) (line .line-of .result) (s .at) (s .out .now) (one .put-one .last .0)
+    roots-put (table (s .n) (s .f .now)) (table (s .n) (s .t .now)) (s .p) (line .line-of .result) (s .at)
+    (s .out .now) (one .put-one .last .0)
     (more .last .0) (line .line-of .ensures) (one .put-one .ensures) (more .ensures)
 
 pub put-root-spec : {M : Type 1} → statement M

@@ -119,7 +119,8 @@ call-code-requires : tie.Need-call-code-requires Inv-loop μ-loop Inv-loop2 μ-l
 call-code-requires c κs h = depths-fit (given (c .before .before) .args .s) (sym (looked (c .before .before)) ∙ h)
 
 passed : (c : tie.After-call-code Inv-loop μ-loop Inv-loop2 μ-loop2)
-    → let a = given (looking c) .args in Checked (lentTable (a .s) (a .f .now)) (lentTable (a .s) (a .t .now)) (a .s) (c .call-code .result)
+    → let a = given (looking c) .args in Checked (lentTable (a .s) (a .f .now)) (lentTable (a .s) (a .t .now)) (a .s)
+    (c .call-code .result)
 passed c =
     let a = given (looking c) .args in
     checked (a .f .now) (a .t .now) (a .s) (looking c .loop-test .fits) (c .call-code .result) (looked (looking c))
@@ -145,7 +146,8 @@ called c = c .before .before .before .before
 -- a block is to be read: the checks passed, those of the new block too, and the session is not settled
 asked : (c : tie.After-enum-told Inv-loop μ-loop Inv-loop2 μ-loop2)
     → let call = called c in let a = given (looking call) .args in
-    (call .call-code .result ≡ 0) × (settled (lentTable (a .s) (a .f .now)) (lentTable (a .s) (a .t .now)) (a .s) ≡ false)
+    (call .call-code .result ≡ 0) × (settled (lentTable (a .s) (a .f .now)) (lentTable (a .s) (a .t .now)) (a .s) ≡
+    false)
     × (newBlockCode (lentTable (a .s) (a .f .now)) (lentTable (a .s) (a .t .now)) (a .s) ≡ 0)
 asked c =
     let call = called c in
@@ -209,12 +211,14 @@ loop2-again c =
 -- the answer is the rule's, and so is the record that goes with it
 ended : (c : tie.After-read-answer Inv-loop μ-loop Inv-loop2 μ-loop2)
     → let a = given (looking (c .before .before)) .args in
-    step (c .read-answer .result) (afterRead (lentTable (a .s) (a .f .now)) (lentTable (a .s) (a .t .now)) (a .s) (c .read-answer .result)) ≡ readCall
+    step (c .read-answer .result) (afterRead (lentTable (a .s) (a .f .now)) (lentTable (a .s) (a .t .now)) (a .s)
+    (c .read-answer .result)) ≡ readCall
     (lentTable (a .s) (a .f .now)) (lentTable (a .s) (a .t .now)) (a .s)
 ended c =
     let call = c .before .before in
     let a = given (looking call) .args in
-    read-ends (lentTable (a .s) (a .f .now)) (lentTable (a .s) (a .t .now)) (a .s) (call .call-code .result) (c .read-answer .result) (passed call .code-is)
+    read-ends (lentTable (a .s) (a .f .now)) (lentTable (a .s) (a .t .now)) (a .s) (call .call-code .result)
+    (c .read-answer .result) (passed call .code-is)
     (c .read-answer .ensures)
 
 returns : tie.Need-returns Inv-loop μ-loop Inv-loop2 μ-loop2
@@ -234,7 +238,8 @@ returns-2 : tie.Need-returns-2 Inv-loop μ-loop Inv-loop2 μ-loop2
 returns-2 c =
     let a = given (looking (c .before .before .before)) .args in
     let is = ap (λ (r : Step). r .answer) (ended (c .before)) in
-    simp (not-read (lentTable (a .s) (a .f .now)) (lentTable (a .s) (a .t .now)) (a .s) (c .before .read-answer .result) is (c .match .keys2)) at
+    simp (not-read (lentTable (a .s) (a .f .now)) (lentTable (a .s) (a .t .now)) (a .s)
+    (c .before .read-answer .result) is (c .match .keys2)) at
     (ended (c .before))
 
 pub read-spec : {M : Type 1} → statement M

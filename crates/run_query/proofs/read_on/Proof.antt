@@ -69,7 +69,8 @@ returns c =
     let none =
     ap (λ (a : Answer). wasRead a) (sym answered)
     ∙ not-read f t (at .loop .at) (call .read .result .answer) answered (c .before .match .keys2) in
-    let ended : at .loop .at ≡ readOn f t (at .before .args .s) = read-ends f t (at .loop .at) none ∙ at .loop .inv .0 in
+    let ended : at .loop .at ≡ readOn f t (at .before .args .s) = read-ends f t (at .loop .at) none ∙ at .loop .inv .0
+    in
     let code = c .refusal .ensures ∙ ap (λ (a : Answer). refusal (said a)) answered in
     let told : _≡_ {A = ReadOut} (record { code = c .refusal .result; session = at .loop .at })
     (record { code = refusedBy f t (at .loop .at); session = at .loop .at }) =

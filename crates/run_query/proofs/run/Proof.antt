@@ -14,7 +14,8 @@ use Rattle.rules.specs.Query.{settledSession, list}
 use Rattle.run_query.specs.declared.ReadOut.{ReadOut}
 use Rattle.run_query.specs.declared.TakenOut.{TakenOut}
 use Rattle.run_query.specs.Until.{readOn, settled-on, list-taken}
-use Rattle.run_query.specs.Outcomes.{refusedBy, readOut, takenOut, queryOutcome, opening-code, read-begun, take-done}
+use Rattle.run_query.specs.Outcomes.{refusedBy, readOut, takenOut, queryOutcome, opening-code, read-begun}
+use Rattle.run_query.specs.Outcomes.{take-done}
 use Rattle.run_query.proofs.run.Statement.{statement}
 use Rattle.run_query.proofs.run.Tie as tie
 use Rattle.rules.specs.Tables.{Table, fieldTable, trimTable}
@@ -40,7 +41,8 @@ module _ (q : Query) (f t : Table)
   taken-is x ex =
       ex
       ∙ ap
-      (λ (y : ReadOut). takenOut (lentTable (y .session) (f .numbers)) (lentTable (y .session) (t .numbers)) (y .session))
+      (λ (y : ReadOut). takenOut (lentTable (y .session) (f .numbers)) (lentTable (y .session) (t .numbers))
+      (y .session))
       read-is
       ∙ take-done q f t
       ∙ ap (λ (l : List Pair). record { pairs = places l; count = length l }) (list-taken q f t)

@@ -45,11 +45,13 @@ is-empty-requires-2 c κs = rows (c .before) .1 .there
 
 -- what was asked of both tables, by the rules' names
 empty : (c : tie.After-is-empty2) → let a = c .before .before .args in
-    aTableIsEmpty (lentTable (a .s) (a .f .now)) (lentTable (a .s) (a .t .now)) (a .s) ≡ c .before .is-empty .result || c .is-empty2 .result
+    aTableIsEmpty (lentTable (a .s) (a .f .now)) (lentTable (a .s) (a .t .now)) (a .s) ≡ c .before .is-empty .result
+    || c .is-empty2 .result
 empty c = simp (c .before .is-empty .ensures, c .is-empty2 .ensures) refl
 
 out : (c : tie.After-read-out2) → let a = start c .args in
-    bothReadOut (lentTable (a .s) (a .f .now)) (lentTable (a .s) (a .t .now)) (a .s) ≡ c .before .read-out .result && c .read-out2 .result
+    bothReadOut (lentTable (a .s) (a .f .now)) (lentTable (a .s) (a .t .now)) (a .s) ≡ c .before .read-out .result &&
+    c .read-out2 .result
 out c = simp (c .before .read-out .ensures, c .read-out2 .ensures) refl
 
 returns : tie.Need-returns
@@ -70,7 +72,8 @@ returns-2 c =
 
 -- no table is empty, nor are both read out
 live : (c : tie.Else2) → let a = start (c .before) .args in
-    (aTableIsEmpty (lentTable (a .s) (a .f .now)) (lentTable (a .s) (a .t .now)) (a .s) ≡ false) × (bothReadOut (lentTable (a .s) (a .f .now)) (lentTable (a .s) (a .t .now)) (a .s) ≡ false)
+    (aTableIsEmpty (lentTable (a .s) (a .f .now)) (lentTable (a .s) (a .t .now)) (a .s) ≡ false) ×
+    (bothReadOut (lentTable (a .s) (a .f .now)) (lentTable (a .s) (a .t .now)) (a .s) ≡ false)
 live c =
     let at = c .before .before .before in
     (empty (at .before) ∙ at .if1 .left, out (c .before) ∙ c .if2 .left)
@@ -95,7 +98,8 @@ returns-4 c =
 is-secured-requires : tie.Need-is-secured-requires
 is-secured-requires c κs =
     let s = start (undecided (c .before) .before) in
-    held-then-read (lentTable (s .args .s) (s .args .f .now)) (lentTable (s .args .s) (s .args .t .now)) (s .args .s) (s .pre .0) (omega (arith, long s)) (some c)
+    held-then-read (lentTable (s .args .s) (s .args .f .now)) (lentTable (s .args .s) (s .args .t .now)) (s .args .s)
+    (s .pre .0) (omega (arith, long s)) (some c)
 
 returns-5 : tie.Need-returns-5
 unfolding settledBy
@@ -110,7 +114,8 @@ returns-5 c =
       live at .1,
       ne-eqb _ _ (c .before .before .before .before .if3 .left),
       eq-eqb _ _ (c .before .if4 .left),
-      held-secured (lentTable (s .args .s) (s .args .f .now)) (lentTable (s .args .s) (s .args .t .now)) (s .args .s) l fit (some (c .before)),
+      held-secured (lentTable (s .args .s) (s .args .f .now)) (lentTable (s .args .s) (s .args .t .now)) (s .args .s)
+          l fit (some (c .before)),
       ← last,
     )
     (c .is-secured .ensures)

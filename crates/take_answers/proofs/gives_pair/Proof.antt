@@ -23,7 +23,8 @@ is-secured-requires c κs =
     let s = c .before .before in
     let long = places-long (s .args .t3) _ (s .good .1 .1 .0) in
     let a = s .args in
-    held-then-read (lentTable (a .t3) (a .f .now)) (lentTable (a .t3) (a .t .now)) (a .t3) (s .pre) (omega (arith, long))
+    held-then-read (lentTable (a .t3) (a .f .now)) (lentTable (a .t3) (a .t .now)) (a .t3) (s .pre)
+    (omega (arith, long))
     (omega (arith, c .before .if1 .left))
 
 returns-2 : tie.Need-returns-2

@@ -101,7 +101,8 @@ call-code-requires : tie.Need-call-code-requires Inv-loop μ-loop Inv-loop2 μ-l
 call-code-requires c κs h = depths-fit (given (c .before .before) .args .s) (sym (looked (c .before .before)) ∙ h)
 
 passed : (c : tie.After-call-code Inv-loop μ-loop Inv-loop2 μ-loop2)
-    → let a = given (looking c) .args in Checked (lentTable (a .s) (a .f .now)) (lentTable (a .s) (a .t .now)) (a .s) (c .call-code .result)
+    → let a = given (looking c) .args in Checked (lentTable (a .s) (a .f .now)) (lentTable (a .s) (a .t .now)) (a .s)
+    (c .call-code .result)
 passed c =
     let a = given (looking c) .args in
     checked (a .f .now) (a .t .now) (a .s) (looking c .loop-test .fits) (c .call-code .result) (looked (looking c))
@@ -133,7 +134,8 @@ gives c =
     (sym (ap wasGiven (c .before .before .take-answer .ensures)) ∙ told c) in
     let some =
     ltb-true 0 (a .s .held)
-    (and-left (ltb 0 (a .s .held)) (secured (lentTable (a .s) (a .f .now)) (lentTable (a .s) (a .t .now)) (a .s) (firstHeld (a .s))) (asked .1)) in
+    (and-left (ltb 0 (a .s .held)) (secured (lentTable (a .s) (a .f .now)) (lentTable (a .s) (a .t .now)) (a .s)
+    (firstHeld (a .s))) (asked .1)) in
     let k = passed call .known (asked .0) .lent .fits in
     (some, omega (arith, k .room, k .query .k .1))
 
@@ -186,12 +188,14 @@ sub-r c =
 -- the answer is the rule's, and so is the record that goes with it
 ended : (c : tie.After-take-answer Inv-loop μ-loop Inv-loop2 μ-loop2)
     → let a = given (looking (c .before)) .args in
-    step (c .take-answer .result) (afterTake (lentTable (a .s) (a .f .now)) (lentTable (a .s) (a .t .now)) (a .s) (c .take-answer .result)) ≡ takeCall
+    step (c .take-answer .result) (afterTake (lentTable (a .s) (a .f .now)) (lentTable (a .s) (a .t .now)) (a .s)
+    (c .take-answer .result)) ≡ takeCall
     (lentTable (a .s) (a .f .now)) (lentTable (a .s) (a .t .now)) (a .s)
 ended c =
     let call = c .before in
     let a = given (looking call) .args in
-    take-ends (lentTable (a .s) (a .f .now)) (lentTable (a .s) (a .t .now)) (a .s) (call .call-code .result) (c .take-answer .result) (passed call .code-is)
+    take-ends (lentTable (a .s) (a .f .now)) (lentTable (a .s) (a .t .now)) (a .s) (call .call-code .result)
+    (c .take-answer .result) (passed call .code-is)
     (c .take-answer .ensures)
 
 returns : tie.Need-returns Inv-loop μ-loop Inv-loop2 μ-loop2

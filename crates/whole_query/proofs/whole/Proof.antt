@@ -11,7 +11,8 @@ use Rattle.rules.specs.Query.{list}
 use Rattle.listing.specs.ListShown.{counted, count-few}
 use Rattle.whole_query.specs.Asked.{askedField, askedTrim, lentQueryAnswer, lentQueryNumbers}
 use Rattle.query_numbers.specs.Answers.{queryRoom, answered}
-use Rattle.whole_query.proofs.Ends.{Asking, outcome-is, code-refusal, has-room, lents, outcome-lent, refused, found}
+use Rattle.whole_query.proofs.Ends.{Asking, outcome-is, code-refusal, has-room, lents, outcome-lent, refused}
+use Rattle.whole_query.proofs.Ends.{found}
 use Rattle.whole_query.proofs.whole.Statement.{statement}
 use Rattle.whole_query.proofs.whole.Tie as tie
 
@@ -70,7 +71,8 @@ returns c =
     let f = fields s in
     let t = trims s in
     let end =
-    refused (asked at) (λ (q : Query). length (list q f t)) (λ (q : Query). answered q f t (s .args .out .now)) (s .args .out .now)
+    refused (asked at) (λ (q : Query). length (list q f t)) (λ (q : Query). answered q f t (s .args .out .now))
+    (s .args .out .now)
     (c .before .if1 .taken) in
     (toZ-ofZ {w = w32} {z = c .minus .result} (sfits-of (c .minus .ok)) ∙ c .minus .ensures ∙ end .0, end .1)
 
