@@ -69,6 +69,10 @@ pub row-most : (n : ℕ) → rowBytes n ≤ 7 * n + 15
 unfolding rowBytes
 row-most n = omega (arith, start-most (width n))
 
+pub row-least : (n : ℕ) → 1 ≤ rowBytes n
+unfolding rowBytes
+row-least n = omega arith
+
 -- "Each row, 27 bytes", and 33 on the new card
 pub row-old : rowBytes 2 ≡ 27
 unfolding rowBytes columnStart

@@ -1,5 +1,5 @@
 -- What a whole query comes to: what its calls refuse, the record when it is settled, the list. Assumes nothing.
-use mathlib.Core.Path.{_≡_, refl, sym, ap, ap₂, _∙_}
+use mathlib.Core.Path.{_≡_, refl, sym, ap, ap₂, subst, _∙_}
 use mathlib.Core.Bool.{Bool, true, false, cond}
 use mathlib.Core.List.{List, []}
 use Prim.Native.Nat.{ℕ}
@@ -135,3 +135,13 @@ module _ (q : Query) (f t : Table) where
           ∙ ends _ _
           ∙ sym (ends f t)
           ∙ ap (takenOut f t) (sym z)
+
+-- of an outcome that was opened: the slices, lent to the record that its reading ended with, are the tables
+pub lent-outcome : (q : Query) (f t : Table) (r : Outcome) → r ≡ queryOutcome q f t → r .opening ≡ 0
+    → (lentTable (r .session) (f .numbers) ≡ f) × (lentTable (r .session) (t .numbers) ≡ t)
+unfolding queryOutcome
+lent-outcome q f t r e z =
+    let opened : openCode q f t ≡ 0 = sym (ap (λ (x : Outcome). x .opening) e) ∙ z in
+    let session : r .session ≡ settledSession q f t = ap (λ (x : Outcome). x .session) e in
+    subst (λ (x : Session). (lentTable x (f .numbers) ≡ f) × (lentTable x (t .numbers) ≡ t)) (sym session)
+    (settled-again q f t opened)

@@ -8,17 +8,15 @@ use lib.IntN.{ℤ, pos, negℤ}
 use lib.ListN.{length}
 use borrow.Author.Tests.{leb-true, eq-eqb, ne-eqb}
 use Rattle.rules.specs.declared.Query.{Query}
-use Rattle.rules.specs.declared.Session.{Session}
 use Rattle.rules.specs.Session.{lentTable}
 use Rattle.rules.specs.Numbers.{shortSlice, IsRefusal, unless, first, signed}
 use Rattle.rules.specs.Checks.{unless-out, first-out, unless-refusal, first-refusal}
 use Rattle.rules.specs.Calls.{openCode}
 use Rattle.rules.specs.Query.{settledSession}
-use Rattle.session_laws.specs.Cards.{settled-again}
 use Rattle.record_layout.specs.Flat.{querySize, queryIn}
 use Rattle.answers.specs.Refusals.{open-refusal, read-refusal}
 use Rattle.run_query.specs.declared.Outcome.{Outcome}
-use Rattle.run_query.specs.Outcomes.{readCode, queryOutcome, opening-code, OutcomeOf, is-outcome}
+use Rattle.run_query.specs.Outcomes.{readCode, queryOutcome, opening-code, OutcomeOf, is-outcome, lent-outcome}
 use Rattle.whole_query.specs.Asked.{askedCode, asked, writtenUnless}
 use Rattle.rules.specs.Tables.{Table}
 
@@ -74,13 +72,7 @@ module _ {least : ℕ} {l : List ℕ} {f t : Table} {room : ℕ} {q : Query} {r 
 
   -- the slices, on the card of the record that the reading ended with, are the tables
   pub lents : code ≡ 0 → (lentTable (r .session) (f .numbers) ≡ f) × (lentTable (r .session) (t .numbers) ≡ t)
-  unfolding queryOutcome
-  lents z =
-      let passes = first-out (checks least l room r) (sym (h .checked) ∙ z) in
-      let opened : openCode q f t ≡ 0 = sym (ap (λ (x : Outcome). x .opening) (h .ran)) ∙ passes 1 in
-      let session : r .session ≡ settledSession q f t = ap (λ (x : Outcome). x .session) (h .ran) in
-      subst (λ (x : Session). (lentTable x (f .numbers) ≡ f) × (lentTable x (t .numbers) ≡ t)) (sym session)
-      (settled-again q f t opened)
+  lents z = lent-outcome q f t r (h .ran) (first-out (checks least l room r) (sym (h .checked) ∙ z) 1)
 
   -- so the outcome is one over these slices
   pub outcome-lent : code ≡ 0 → OutcomeOf (lentTable (r .session) (f .numbers)) (lentTable (r .session) (t .numbers)) r
