@@ -1,8 +1,8 @@
 -- The end of reading into a slice: what 11 does to an answer, and what stands in the slice after it. Assumes nothing.
-use mathlib.Core.Path.{_≡_, refl, sym, ap, _∙_}
+use mathlib.Core.Path.{_≡_, refl, sym, ap}
 use mathlib.Core.Bool.{Bool, true, false, cond}
 use mathlib.Core.List.{List, [], _∷_, _++_}
-use Prim.Native.Nat.{ℕ, _*_, _<_}
+use Prim.Native.Nat.{ℕ, _*_}
 use native.Mathlib.Omega.{arith}
 use denote.Enum.Declared.{tagOf}
 use types.Run.{OneOf}
@@ -43,7 +43,8 @@ module _ (bytes : List ℕ) (kind : ℤ) (lent : List ℤ) where
   unfit-load (Unfit code row) e h = ends (Unfit code row) e
 
   pub whole-load : (n : ℕ) → Rows n ≡ andSlice (wanted kind) (length lent) (checkFile bytes kind) →
-      (Rows n ≡ loadAnswer bytes kind lent) × (fileTable (wanted kind) bytes n .numbers ++ afterRows n (table (wanted kind) lent) .numbers
+      (Rows n ≡ loadAnswer bytes kind lent)
+      × (fileTable (wanted kind) bytes n .numbers ++ afterRows n (table (wanted kind) lent) .numbers
       ≡ loadNumbers bytes kind lent)
   unfolding loadedInto
   whole-load n e = ends (Rows n) e
@@ -54,7 +55,8 @@ module _ (bytes : List ℕ) (kind : ℤ) (lent : List ℤ) where
   unfolding andSlice
   read-passed n e = go (checkFile bytes kind) (sym e)
     where
-      short : (m : ℕ) (t : Bool) → ltb (length lent) (width (wanted kind) * m) ≡ t → cond t (Unfit shortSlice 0) (Rows m) ≡ Rows n →
+      short : (m : ℕ) (t : Bool) → ltb (length lent) (width (wanted kind) * m) ≡ t →
+          cond t (Unfit shortSlice 0) (Rows m) ≡ Rows n →
           (Rows m ≡ Rows n) × HasRows (table (wanted kind) lent) n
       short m true t h = unfit-rows shortSlice 0 n h
       short m false t h =
@@ -62,6 +64,7 @@ module _ (bytes : List ℕ) (kind : ℤ) (lent : List ℤ) where
           let count = ap (_*_ (width (wanted kind))) same in
           (h, omega (arith, count, ltb-false (length lent) (width (wanted kind) * m) t))
 
-      go : (x : Loaded) → andSlice (wanted kind) (length lent) x ≡ Rows n → (x ≡ Rows n) × HasRows (table (wanted kind) lent) n
+      go : (x : Loaded) → andSlice (wanted kind) (length lent) x ≡ Rows n →
+          (x ≡ Rows n) × HasRows (table (wanted kind) lent) n
       go (Unfit code row) h = unfit-rows code row n h
       go (Rows m) h = short m (ltb (length lent) (width (wanted kind) * m)) refl h

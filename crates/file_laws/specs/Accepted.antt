@@ -2,7 +2,7 @@
 use mathlib.Core.Path.{_≡_, refl, sym, ap, _∙_}
 use mathlib.Core.Bool.{Bool, true, false, cond}
 use mathlib.Core.List.{List, [], _∷_}
-use Prim.Native.Nat.{ℕ, zero, suc, _+_, _*_, _≤_, _<_}
+use Prim.Native.Nat.{ℕ, zero, suc, _+_, _≤_, _<_}
 use native.Mathlib.Omega.{arith}
 use lib.Dec.{leb, ltb, eqb}
 use lib.IntN.{ℤ}
@@ -11,7 +11,7 @@ use borrow.Author.Tests.{leb-true, ltb-true, ltb-false, eqb-true}
 use Rattle.rules.specs.declared.Loaded.{Loaded}
 use Rattle.rules.specs.declared.Loaded.the-variants.{Rows, Unfit}
 use Rattle.rules.specs.Tables.{Table, mostRows, rowInRange, rowInOrder}
-use Rattle.rules.specs.Numbers.{tableSize, rowLimit, rowOrder, cutFile, badColumn, wrongKind, unless, first}
+use Rattle.rules.specs.Numbers.{tableSize, rowLimit, rowOrder, cutFile, badColumn, wrongKind, unless}
 use Rattle.rules.specs.Calls.{rowCode}
 use Rattle.rules.specs.File.{headerBytes, headerFits, fileCount, kindFits, wanted, rowStart, headCode, checkFile}
 use Rattle.rules.specs.File.{rowColumnsFit, fileTable, fileRowCode, andRow, rowsLoaded}

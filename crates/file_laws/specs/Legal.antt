@@ -12,7 +12,8 @@ use borrow.Author.Tests.{le-leb, le-ltb, leb-true, eqb-true}
 use Rattle.lists.specs.Lists.{every, range}
 use Rattle.rules.specs.declared.Loaded.{Loaded}
 use Rattle.rules.specs.declared.Loaded.the-variants.{Rows, Unfit}
-use Rattle.rules.specs.Tables.{table, mostRows, natOf, rowInRange, rowInOrder, sizeFits, legal, width, HasRows, rowCount}
+use Rattle.rules.specs.Tables.{table, mostRows, natOf, rowInRange, rowInOrder, sizeFits, legal, width, HasRows}
+use Rattle.rules.specs.Tables.{rowCount}
 use Rattle.rules.specs.Widths.{rows-count, no-rest}
 use Rattle.rules.specs.Calls.{between}
 use Rattle.rules.specs.File.{fileCount, fileKind, fileTable, kindFits, wanted, checkFile, andSlice, loadAnswer}
@@ -35,9 +36,11 @@ pub accepted-legal : (bytes : List ℕ) (kind : ℤ) (n : ℕ) → checkFile byt
 unfolding legal sizeFits fileTable
 accepted-legal bytes kind n h =
     let f = accepted bytes kind n h in
+    let w = width (wanted kind) in
     let t = fileTable (wanted kind) bytes n in
-    let rows : rowCount t ≡ n = rows-count t n (table-length (wanted kind) bytes n) in
-    let whole : length (t .numbers) % width (wanted kind) ≡ 0 = no-rest t (ap (_*_ (width (wanted kind))) rows ∙ sym (table-length (wanted kind) bytes n)) in
+    let size = table-length (wanted kind) bytes n in
+    let rows : rowCount t ≡ n = rows-count t n size in
+    let whole : length (t .numbers) % w ≡ 0 = no-rest t (ap (_*_ w) rows ∙ sym size) in
     let each-row : every (λ i. rowInRange t i && rowInOrder t i) (range 0 n) ≡ true =
     every-range (λ i. rowInRange t i && rowInOrder t i) 0 n
     (λ i k l.
@@ -64,12 +67,13 @@ one-kind bytes j k n m h l =
     same (negsuc a) y p q = absurd (omega arith)
 
 -- the check alone and the reading into a long enough slice agree
-pub check-and-load : (bytes : List ℕ) (kind : ℤ) (lent : List ℤ) → HasRows (table (wanted kind) lent) (fileCount bytes) →
-    loadAnswer bytes kind lent ≡ checkFile bytes kind
+pub check-and-load : (bytes : List ℕ) (kind : ℤ) (lent : List ℤ) →
+    HasRows (table (wanted kind) lent) (fileCount bytes) → loadAnswer bytes kind lent ≡ checkFile bytes kind
 unfolding loadAnswer andSlice
 check-and-load bytes kind lent h = go (checkFile bytes kind) refl
   where
-    go : (x : Loaded) → checkFile bytes kind ≡ x → andSlice (wanted kind) (length lent) (checkFile bytes kind) ≡ checkFile bytes kind
+    go : (x : Loaded) → checkFile bytes kind ≡ x →
+        andSlice (wanted kind) (length lent) (checkFile bytes kind) ≡ checkFile bytes kind
     go (Unfit code row) e = ap (andSlice (wanted kind) (length lent)) e ∙ sym e
     go (Rows n) e =
         let f = accepted bytes kind n e in

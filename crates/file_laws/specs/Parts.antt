@@ -38,6 +38,7 @@ row-parts n bytes i f =
     let end = endsLine bytes (o + columnStart (width n)) in
     record {
       column = λ j h.
-          every-at (columnFitsAt bytes o) j (and-left all end f) (mem-range j 0 (width n) .1 (omega arith, omega arith));
+          every-at (columnFitsAt bytes o) j (and-left all end f)
+          (mem-range j 0 (width n) .1 (omega arith, omega arith));
       end = and-right all end f;
     }

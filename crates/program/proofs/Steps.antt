@@ -45,7 +45,8 @@ table-front bytes kind lent out x n ex e i =
     let c = kindCoordinates kind in
     ap (λ l. firstRows n (table c l)) (i ∙ ap (loadedInto c bytes lent) e)
     ∙ ap (table c)
-    (take-at (fileTable c bytes n .numbers) (afterRows n (table c lent) .numbers) (width c * n) (table-length c bytes n))
+    (take-at (fileTable c bytes n .numbers) (afterRows n (table c lent) .numbers) (width c * n)
+    (table-length c bytes n))
     ∙ ap (fileTable c bytes) (sym (accepted bytes (pos kind) n (program-rows bytes kind n (sym ex ∙ e) .0) .count))
 
 -- so do its rows, cut off there
@@ -73,7 +74,8 @@ module _ (bytes : List ℕ) (kinds : Kinds) (l : List ℤ) where
   either a b kind (inl e) = rw (eq-eqb kind a e)
   either a b kind (inr e) = rw (eq-eqb kind b e, or-true (eqb kind a))
 
-  pub field-own : kinds .field .0 ≡ fieldFileKind bytes → fieldTable kinds l ≡ table (kindCoordinates (kinds .field .0)) l
+  pub field-own : kinds .field .0 ≡ fieldFileKind bytes
+      → fieldTable kinds l ≡ table (kindCoordinates (kinds .field .0)) l
   field-own e = either 1 3 (kinds .field .0) (⊎-elim (λ i. inl (e ∙ i)) (λ i. inr (e ∙ i)) (kind-either 1 3 bytes))
 
   pub trim-own : kinds .trim .0 ≡ trimFileKind bytes → trimTable kinds l ≡ table (kindCoordinates (kinds .trim .0)) l

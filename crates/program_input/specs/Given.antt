@@ -37,7 +37,9 @@ tableRoom = width (coordinates New) * tableRows
 -- no card has longer files, or longer tables
 pub file-most : (kind : ℕ) → mostFileBytes (kindCoordinates kind) ≤ mostFileBytes (coordinates New)
 unfolding rowBytes
-file-most kind = omega (arith, start-up (width (kindCoordinates kind)) (width (coordinates New)) (omega (arith, kind-most kind)))
+file-most kind =
+    let n = kindCoordinates kind in
+    omega (arith, start-up (width n) (width (coordinates New)) (omega (arith, kind-most kind)))
 
 pub table-most : (kind : ℕ) → width (kindCoordinates kind) * tableRows ≤ tableRoom
 table-most kind = omega (arith, kind-most kind)

@@ -108,4 +108,5 @@ pub whole-refused : (field trim input : List ℕ) → (wholeQueryCode field trim
     wholeQuery field trim input ≡ refusalLine (wholeQueryCode field trim input)
 unfolding wholeQuery orRefusal
 whole-refused field trim input h =
-    refusal-some (wholeQueryCode field trim input) (listing (inputQuery input) (fieldFileTable field) (trimFileTable trim)) h
+    refusal-some (wholeQueryCode field trim input)
+    (listing (inputQuery input) (fieldFileTable field) (trimFileTable trim)) h

@@ -79,15 +79,17 @@ same-length c = search needs
 
 returns-2 : tie.Need-returns-2
 returns-2 c =
-    let at = c .before .before .before .before .before .before in
+    let count = c .before .before .before .before in
+    let at = count .before .before in
     let s = begun at .args in
-    let given = c .before .before .before .before .answer .given in
+    let given = count .answer .given in
     let m = given .0 .0 in
+    let written : ℕ → List ℤ =
+    λ n. fileTable n (s .bytes .now) m .numbers ++ afterRows m (table n (s .out .now)) .numbers in
     let w = whole-load (s .bytes .now) (s .kind) (s .out .now) m (sym (given .1) ∙ answered at) in (
       w .0,
       c .before .put-rows .ensures
-          ∙ ap (λ (n : ℕ). fileTable n (s .bytes .now) m .numbers ++ afterRows m (table n (s .out .now)) .numbers) (n-is at)
-          ∙ w .1,
+          ∙ ap written (n-is at) ∙ w .1,
     )
 
 pub load-spec : {M : Type 1} → statement M

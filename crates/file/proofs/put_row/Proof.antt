@@ -52,11 +52,12 @@ width-requires c κs = search needs
 loop-holds : tie.Need-loop-holds Inv-loop μ-loop
 unfolding columnStart
 loop-holds c =
-    let s = c .before .before in (
+    let s = c .before .before in
+    let f = numberAt (s .args .bytes .now) (s .args .o) in (
       search needs,
       refl,
       omega arith,
-      sym (put-none (numberAt (s .args .bytes .now) (s .args .o)) (s .args .p) (s .args .out .now) (omega (arith, s .pre .0 .1))),
+      sym (put-none f (s .args .p) (s .args .out .now) (omega (arith, s .pre .0 .1))),
     )
 
 row-number-requires : tie.Need-row-number-requires Inv-loop μ-loop
@@ -67,7 +68,8 @@ row-number-requires c κs =
     let bytes = s .args .bytes .now in
     let fit = s .pre .1 .column (l .j) (omega (arith, inside c)) in (
       omega (arith, room c),
-      subst (λ (at : ℕ). columnFits (isSigned (l .j)) (columns bytes at (columnBytes (l .j))) ≡ true) (sym (l .inv .2)) fit,
+      subst (λ (at : ℕ). columnFits (isSigned (l .j)) (columns bytes at (columnBytes (l .j))) ≡ true)
+          (sym (l .inv .2)) fit,
     )
 
 add-t11 : tie.Need-add-t11 Inv-loop μ-loop

@@ -1,9 +1,8 @@
 -- `put_rows` meets its contract: the rows passed stand at the front, the rest is as it was. Assumes nothing.
 use mathlib.Core.Path.{_≡_, refl, sym, ap, ap₂, subst, _∙_}
-use mathlib.Core.List.{List, _++_}
+use mathlib.Core.List.{_++_}
 use Prim.Native.Nat.{ℕ, _+_, _*_, _-_, _≤_}
 use native.Mathlib.Omega.{arith}
-use lib.IntN.{ℤ}
 use lib.ListN.{length, drop}
 use borrow.Author.Needs.{needs}
 use Rattle.lists.specs.Lists.{range, each}
@@ -39,7 +38,8 @@ goal : (c : tie.In-loop Inv-loop μ-loop)
 goal c = ap (λ (w : ℕ). w * c .before .loop .i) (c .before .before .width .ensures)
 
 room : (c : tie.In-loop Inv-loop μ-loop)
-    → rowStart (begun c .args .n) (c .before .loop .i) + rowBytes (begun c .args .n) ≤ length (begun c .args .bytes .now)
+    → rowStart (begun c .args .n) (c .before .loop .i) + rowBytes (begun c .args .n)
+    ≤ length (begun c .args .bytes .now)
 room c =
     let s = begun c in
     omega (
@@ -48,7 +48,8 @@ room c =
       next-row (rowBytes (s .args .n)) (c .before .loop .i) (s .args .count) (c .loop-test .taken),
     )
 
-free : (c : tie.In-loop Inv-loop μ-loop) → HasRow (table (begun c .args .n) (begun c .args .out .now)) (c .before .loop .i)
+free : (c : tie.In-loop Inv-loop μ-loop)
+    → HasRow (table (begun c .args .n) (begun c .args .out .now)) (c .before .loop .i)
 free c =
     let s = begun c in
     rows-row (table (s .args .n) (s .args .out .now)) (c .before .loop .i) (s .args .count) (c .loop-test .taken)

@@ -49,7 +49,8 @@ returns c =
 n-is : (c : tie.After-kind-coordinates) →
     c .kind-coordinates .result ≡ wanted (c .before .before .before .before .before .args .kind)
 n-is c =
-    let s = c .before .before .before .before .before in c .kind-coordinates .ensures ∙ ap wanted (toZ-ofZ (s .fits .kind))
+    let s = c .before .before .before .before .before in
+    c .kind-coordinates .ensures ∙ ap wanted (toZ-ofZ (s .fits .kind))
 
 kind-coordinates-requires : tie.Need-kind-coordinates-requires
 kind-coordinates-requires c κs = search needs
@@ -59,9 +60,10 @@ cast-check-rows c = search needs
 
 check-rows-requires : tie.Need-check-rows-requires
 check-rows-requires c κs =
-    let p = passed (c .before .before) in
+    let at = c .before .before in
+    let p = passed at in
     let n = n-is (c .before) in
-    let s = c .before .before .before .before .before .before .args in
+    let s = at .before .before .before .before .args in
     let least = fits-least (s .bytes .now) (s .kind) (p .0 .kind-fits) in
     let size = p .0 .size ∙ ap₂ rowStart (sym n) (sym (p .1)) in
     (omega (arith, n, least), omega (arith, p .0 .few, p .1), omega (arith, size))

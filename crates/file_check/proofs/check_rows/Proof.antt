@@ -33,14 +33,17 @@ begun c = c .before .before .before .before
 
 -- the row's place, and that it is there
 place : (c : tie.In-loop Inv-loop μ-loop)
-    → headerBytes + c .before .before .row-bytes .result * c .before .loop .i ≡ rowStart (begun c .args .n) (c .before .loop .i)
+    → headerBytes + c .before .before .row-bytes .result * c .before .loop .i
+    ≡ rowStart (begun c .args .n) (c .before .loop .i)
 place c = ap (λ (z : ℕ). headerBytes + z * c .before .loop .i) (c .before .before .row-bytes .ensures)
 
 room : (c : tie.In-loop Inv-loop μ-loop)
-    → rowStart (begun c .args .n) (c .before .loop .i) + rowBytes (begun c .args .n) ≤ length (begun c .args .bytes .now)
+    → rowStart (begun c .args .n) (c .before .loop .i) + rowBytes (begun c .args .n)
+    ≤ length (begun c .args .bytes .now)
 room c =
     let s = begun c in
-    omega (arith, s .pre .2, next-row (rowBytes (s .args .n)) (c .before .loop .i) (s .args .count) (c .loop-test .taken))
+    let next = next-row (rowBytes (s .args .n)) (c .before .loop .i) (s .args .count) (c .loop-test .taken) in
+    omega (arith, s .pre .2, next)
 
 row-bytes-requires : tie.Need-row-bytes-requires Inv-loop μ-loop
 row-bytes-requires c κs = search needs

@@ -24,6 +24,10 @@ Inv-loop n bytes o front fits₀ inside₀ at₀ k₀ fits inside at k =
 abbrev μ-loop : tie.MeasureT-loop
 μ-loop n bytes o front fits₀ inside₀ at₀ k₀ fits inside at k = n - k
 
+-- what was handed in, seen from the loop's head
+abbrev begun : tie.At-loop Inv-loop μ-loop → tie.Start Inv-loop μ-loop
+begun c = c .before .before .before
+
 read-front-requires : tie.Need-read-front-requires Inv-loop μ-loop
 unfolding rowBytes
 read-front-requires c κs =
@@ -50,14 +54,14 @@ loop-holds c =
 
 -- there is room for the column at hand
 room : (c : tie.In-loop Inv-loop μ-loop) →
-    c .before .loop .at + 6 + 1 ≤ c .before .before .before .before .args .o + rowBytes (c .before .before .before .before .args .n)
+    c .before .loop .at + 6 + 1 ≤ begun (c .before) .args .o + rowBytes (begun (c .before) .args .n)
 room c =
     let l = c .before .loop in
-    let s = c .before .before .before .before .args in
+    let s = begun (c .before) .args in
     back-fits (s .bytes .now) (s .o) (l .k) (l .inv .0) (l .at) (l .inv .2) (s .n) (c .loop-test .taken)
 
 column-at-requires : tie.Need-column-at-requires Inv-loop μ-loop
-column-at-requires c κs = (omega arith, omega (arith, room c, c .before .before .before .before .pre .1))
+column-at-requires c κs = (omega arith, omega (arith, room c, begun (c .before) .pre .1))
 
 cast-coordinate-fits : tie.Need-cast-coordinate-fits Inv-loop μ-loop
 cast-coordinate-fits c = search needs
@@ -68,7 +72,7 @@ coordinate-fits-requires c κs = search needs
 add-at-2 : tie.Need-add-at-2 Inv-loop μ-loop
 add-at-2 c =
     let at = c .before .before .before .before in
-    record { fits = omega (arith, room at, at .before .before .before .before .pre .1) }
+    record { fits = omega (arith, room at, begun (at .before) .pre .1) }
 
 add-k : tie.Need-add-k Inv-loop μ-loop
 add-k c = search needs
@@ -80,19 +84,21 @@ loop-again : tie.Need-loop-again Inv-loop μ-loop
 loop-again c =
     let at = c .before .before .before .before in
     let l = at .before .loop in
-    let s = at .before .before .before .before .args in
+    let s = begun (at .before) .args in
     let bytes = s .bytes .now in
     let column = c .before .before .before .column-at in
     let held : column .result ≡ heldAt bytes (s .o) (l .k + 2) =
     column .ensures ∙ back-held bytes (s .o) (l .k) (l .inv .0) (l .at) (l .inv .2) in
-    let number = toZ-ofZ {w = w32} {z = column .result .number} (sfits-of (c .before .before .struct-told .given .1 .0 .1)) in
+    let told = c .before .before .struct-told .given in
+    let number = toZ-ofZ {w = w32} {z = column .result .number} (sfits-of (told .1 .0 .1)) in
     let here : c .before .coordinate-fits .result ≡ coordinateFits (l .k) (heldAt bytes (s .o) (l .k + 2) .number) =
     c .before .coordinate-fits .ensures
     ∙ ap (coordinateFits (l .k)) (number ∙ ap (λ (x : Column). x .number) held) in (
       search needs,
       search needs,
       back-next bytes (s .o) (l .k) (l .inv .0) (l .at) (l .inv .2),
-      ap₂ (λ (a b : Bool). a && b) (l .inv .3) (ap (λ (x : Column). x .fits) held) ∙ sym (columns-more bytes (s .o) (l .k)),
+      ap₂ (λ (a b : Bool). a && b) (l .inv .3) (ap (λ (x : Column). x .fits) held)
+          ∙ sym (columns-more bytes (s .o) (l .k)),
       ap₂ (λ (a b : Bool). a && b) (l .inv .4) here ∙ sym (numbers-more bytes (s .o) (l .k)),
     )
 
@@ -100,7 +106,7 @@ shared-slice-read-t14 : tie.Need-shared-slice-read-t14 Inv-loop μ-loop
 unfolding rowBytes
 shared-slice-read-t14 c =
     let l = c .before .before .loop in
-    let s = c .before .before .before .before .before in
+    let s = begun (c .before .before) in
     let e : l .k ≡ s .args .n = omega arith in
     omega (arith, l .inv .2, s .pre .1, ap (λ (k : ℕ). columnStart (k + 2)) e)
 
@@ -109,7 +115,7 @@ unfolding rowHeld frontHeld
 returns c =
     let l = c .before .before .before .loop in
     let front = c .before .before .before .before .read-front in
-    let s = c .before .before .before .before .before .before .args in
+    let s = begun (c .before .before .before) .args in
     let bytes = s .bytes .now in
     let e : l .k ≡ s .n = omega arith in
     let columns = l .inv .3 ∙ ap (λ (k : ℕ). columnsHeld (k + 2) bytes (s .o)) e in

@@ -26,11 +26,12 @@ returns c =
     let if = c .before .before .before .before in
     let read = if .before .before .read-input in
     let s = if .before .before .before .before .before .args in
+    let f = fieldTable (s .kinds) (s .f .now) in
+    let t = trimTable (s .kinds) (s .t .now) in
     let input = s .input .now in
     let code = ap (λ (x : Input). x .code) (read .ensures) in
     written-as
-    (refused-as (read .result .code) (inputCode input) (answerBytes (inputQuery input) (fieldTable (s .kinds) (s .f .now)) (trimTable (s .kinds) (s .t .now))) code
-    (if .if1 .taken))
+    (refused-as (read .result .code) (inputCode input) (answerBytes (inputQuery input) f t) code (if .if1 .taken))
     (c .before .before .refuse .ensures)
 
 put-answer-requires : tie.Need-put-answer-requires

@@ -56,7 +56,8 @@ slice-aggregate-load-table c = search needs
 load-table-requires : tie.Need-load-table-requires
 load-table-requires c κs =
     let s = start (c .before) .args in
-    (omega (arith, c .before .file-kind .ensures, kind-few 1 3 (s .field .now) (omega arith) (omega arith)), search needs)
+    let few = kind-few 1 3 (s .field .now) (omega arith) (omega arith) in
+    (omega (arith, c .before .file-kind .ensures), search needs)
 
 -- what the load of the field file gave
 loaded : (c : tie.After-load-table) → let field = start (field-kind c) .args .field .now in
@@ -102,7 +103,8 @@ load-table-requires-2 : tie.Need-load-table-requires-2
 load-table-requires-2 c κs =
     let kind = c .before in
     let s = start (field-kind (field-load kind)) .args in
-    (omega (arith, kind .file-kind2 .ensures, kind-few 2 4 (s .trim .now) (omega arith) (omega arith)), search needs)
+    let few = kind-few 2 4 (s .trim .now) (omega arith) (omega arith) in
+    (omega (arith, kind .file-kind2 .ensures), search needs)
 
 -- what the load of the trim file gave
 loaded-2 : (c : tie.After-load-table2) →

@@ -35,8 +35,8 @@ returns : tie.Need-returns
 unfolding programFile loadedInto
 returns c =
     let size = length (c .before .before .before .args .bytes .now) in
-    let long = ap (leb size) (sym (most-is (c .before))) ∙ not-true (leb size (c .before .most-bytes .result)) (c .if1 .taken) in
-    (simp long, refl)
+    let long = not-true (leb size (c .before .most-bytes .result)) (c .if1 .taken) in
+    (simp (ap (leb size) (sym (most-is (c .before))) ∙ long), refl)
 
 load-requires : tie.Need-load-requires
 load-requires c κs = search needs
@@ -53,12 +53,13 @@ returns-2 c =
     let kind = s .args .kind in
     let lent = s .args .out .now in
     let load = c .before .load in
-    let short = ap (leb (length bytes)) (sym (most-is at)) ∙ not-false (leb (length bytes) (at .most-bytes .result)) (c .before .before .before .if1 .left) in
+    let short = not-false (leb (length bytes) (at .most-bytes .result)) (c .before .before .before .if1 .left) in
+    let small = ap (leb (length bytes)) (sym (most-is at)) ∙ short in
     let e : load .result ≡ loadAnswer bytes (pos kind) lent =
     load .ensures .0 ∙ ap (λ (z : ℤ). loadAnswer bytes z lent) (kind-is at) in
     let i : load .last .1 .1 .0 ≡ loadNumbers bytes (pos kind) lent =
     load .ensures .1 ∙ ap (λ (z : ℤ). loadNumbers bytes z lent) (kind-is at) in
-    (e ∙ load-small bytes kind lent short (s .pre .1), i ∙ ap (loadedInto (kindCoordinates kind) bytes lent) (sym e))
+    (e ∙ load-small bytes kind lent small (s .pre .1), i ∙ ap (loadedInto (kindCoordinates kind) bytes lent) (sym e))
 
 pub load-table-spec : {M : Type 1} → statement M
 load-table-spec =
