@@ -17,7 +17,8 @@ static void expect(const char *what, long got, long want) {
     }
 }
 
-static int32_t ask(uint32_t k, uint32_t block, uint32_t radius, const int32_t *f, size_t m, uint64_t *out, size_t room) {
+static int32_t ask(uint32_t k, uint32_t block, uint32_t radius, const int32_t *f, size_t m, uint64_t *out,
+                   size_t room) {
     uint32_t q[3] = {k, block, radius};
     return furzeladle_query(q, 3, f, m, T, 20, out, room);
 }
@@ -109,7 +110,8 @@ static void lightness(void) {
 /* A row of the highest score each: 9 times 9,999, twice. */
 static void highest(void) {
     static const int32_t row[4] = {1, 9999, 0, 0};
-    static const char listing[] = "     1     1     0\n     1179982     1     1       0       0\n     1     1           1\n";
+    static const char listing[] = "     1     1     0\n     1179982     1     1       0       0\n"
+                                  "     1     1           1\n";
     static const uint32_t q[5] = {1, 1, 0, 9, 9};
     uint8_t text[FURZELADLE_LISTING_SIZE];
     expect("highest", furzeladle_listing(q, 5, row, 4, row, 4, text, sizeof text), (long)strlen(listing));
@@ -194,8 +196,8 @@ int main(void) {
     uint8_t text[FURZELADLE_LISTING_SIZE];
     const uint32_t q[3] = {2, 1, 5};
     memset(text, 'x', sizeof text);
-    expect("text room", furzeladle_listing(q, 3, F, 20, T, 20, text, FURZELADLE_LISTING_SIZE - 1), -FURZELADLE_SHORT_SLICE);
-    expect("text query", furzeladle_listing(two, 2, F, 19, T, 20, text, FURZELADLE_LISTING_SIZE), -FURZELADLE_SHORT_SLICE);
+    expect("text room", furzeladle_listing(q, 3, F, 20, T, 20, text, sizeof text - 1), -FURZELADLE_SHORT_SLICE);
+    expect("text query", furzeladle_listing(two, 2, F, 19, T, 20, text, sizeof text), -FURZELADLE_SHORT_SLICE);
     expect("text left alone", text[0], 'x');
     expect("listing", furzeladle_listing(q, 3, F, 20, T, 20, text, FURZELADLE_LISTING_SIZE), (long)strlen(listing));
     expect("text", memcmp(text, listing, strlen(listing)), 0);
