@@ -144,8 +144,8 @@ fn withdrawn_rows_by_hand() {
     }
 }
 
-/// Who lends k, block and radius alone gets what weights 1 and 1 and kinds 1 and 2 get; who lends one weight, what it, 1
-/// and those kinds get.
+/// Who lends k, block and radius alone gets what weights 1 and 1 and kinds 1 and 2 get; who lends one weight, what it,
+/// 1 and those kinds get.
 #[test]
 fn numbers_that_are_not_lent() {
     for seed in 0..2_000 {
