@@ -1,8 +1,8 @@
 /* How often a call copies the session's record: the linker hands every memcpy and memmove of the library to the
  * counters below (--wrap). A record is 832 bytes, its pair places 768, their keys 512; nothing else that is copied is
- * as long. It prints the counts; exit status 0: some were counted, and none is above what is written here. A call copies
- * the record once as it comes in and once as it goes back, whatever it does between; laying it out flat for C, where it
- * changed, is a third copy. The counts are the same on both cards. */
+ * as long. It prints the counts; exit status 0: some were counted, and none is above what is written here. A call
+ * copies the record once as it comes in and once as it goes back, whatever it does between; laying it out flat for C,
+ * where it changed, is a third copy. The counts are the same on both cards. */
 #include <stdio.h>
 #include <string.h>
 

@@ -1,9 +1,9 @@
 //! Safe Rust over libfurzeladle.a, whose functions are proved: the strict file, the join session and the whole query.
 //!
 //! A table is `&[i32]`, four numbers to a row on the old shade card: pattern number, score, a, b; on the new one five,
-//! L last. A query says which card it is about, and means the old one where it says nothing; `Rows` are tables that know
-//! their card. Rows are numbered from 1. Nothing here panics or trusts its input: what does not fit is refused by the
-//! rules' number.
+//! L last. A query says which card it is about, and means the old one where it says nothing; `Rows` are tables that
+//! know their card. Rows are numbered from 1. Nothing here panics or trusts its input: what does not fit is refused by
+//! the rules' number.
 //!
 //! A score of 0 means that the pattern is withdrawn: its row is read, shown and checked like any other, but no pair
 //! with it qualifies. As scores fall, a table counts as read out once such a row has been read.
