@@ -211,7 +211,8 @@ pub fn row_code(n: u32, t: &[i32], i: usize) -> u32
     first(limit, order)
 }
 
-fn row_passes_at(n: u32, t: &[i32], i: usize) -> bool
+// Whether row i + 1 of a table is refused by neither.
+fn row_passes(n: u32, t: &[i32], i: usize) -> bool
     requires { ⌜ (i < mostRows) × HasRow (table n (now t)) i ⌝ }
     ensures { λ r. ⌜ r ≡ eqb (rowCode (table n (now (t .entry))) i) 0 ⌝ }
 {
@@ -220,23 +221,7 @@ fn row_passes_at(n: u32, t: &[i32], i: usize) -> bool
     inside & ordered
 }
 
-// Whether row i + 1 of a table is refused by neither. The code is chosen by n, so that the compiler knows how many
-// numbers a row has.
-fn row_passes(n: u32, t: &[i32], i: usize) -> bool
-    requires { ⌜ (i < mostRows) × HasRow (table n (now t)) i ⌝ }
-    ensures { λ r. ⌜ r ≡ eqb (rowCode (table n (now (t .entry))) i) 0 ⌝ }
-{
-    if n == 2 {
-        return row_passes_at(2, t, i);
-    }
-    if n == 3 {
-        return row_passes_at(3, t, i);
-    }
-    row_passes_at(n, t, i)
-}
-
-// What the first of rows a + 1 to a + m that is refused is refused by; 0 where none is.
-pub fn rows_code(n: u32, t: &[i32], a: usize, m: usize) -> u32
+fn rows_code_at(n: u32, t: &[i32], a: usize, m: usize) -> u32
     requires { ⌜ (a + m ≤ mostRows) × HasRows (table n (now t)) (a + m) ⌝ }
     ensures { λ r. ⌜ r ≡ rowsCode (table n (now (t .entry))) a m ⌝ }
 {
@@ -249,4 +234,19 @@ pub fn rows_code(n: u32, t: &[i32], a: usize, m: usize) -> u32
         i += 1;
     }
     0
+}
+
+// What the first of rows a + 1 to a + m that is refused is refused by; 0 where none is. The code is chosen by n, so that
+// the compiler knows how many numbers a row has.
+pub fn rows_code(n: u32, t: &[i32], a: usize, m: usize) -> u32
+    requires { ⌜ (a + m ≤ mostRows) × HasRows (table n (now t)) (a + m) ⌝ }
+    ensures { λ r. ⌜ r ≡ rowsCode (table n (now (t .entry))) a m ⌝ }
+{
+    if n == 2 {
+        return rows_code_at(2, t, a, m);
+    }
+    if n == 3 {
+        return rows_code_at(3, t, a, m);
+    }
+    rows_code_at(n, t, a, m)
 }

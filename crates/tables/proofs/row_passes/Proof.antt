@@ -1,40 +1,31 @@
--- `row_passes` meets its contract, whichever code is chosen. Assumes nothing.
-use mathlib.Core.Path.{subst}
-use Prim.Native.Nat.{ℕ, _<_}
-use Rattle.rules.specs.Tables.{table, HasRow, mostRows}
+-- `row_passes` meets its contract. Assumes nothing.
+use mathlib.Core.Path.{_≡_, refl}
+use mathlib.Core.Bool.{Bool, true, false, _&&_}
+use mathlib.Core.List.{[], _∷_}
+use lib.Dec.{eqb}
+use Rattle.rules.specs.Numbers.{rowLimit, rowOrder, unless, first}
+use Rattle.rules.specs.Calls.{rowCode}
 use borrow.Author.Needs.{needs}
 use Rattle.tables.proofs.row_passes.Statement.{statement}
 use Rattle.tables.proofs.row_passes.Tie as tie
 
--- what the code for n asks
-abbrev Has : tie.Start → ℕ → Type 0
-Has s n = (s .args .i < mostRows) × HasRow (table n (s .args .t .now)) (s .args .i)
+both-pass : (a b : Bool) → (a && b) ≡ eqb (first (unless a rowLimit ∷ unless b rowOrder ∷ [])) 0
+both-pass true true = refl
+both-pass true false = refl
+both-pass false b = refl
 
-row-passes-at-requires : tie.Need-row-passes-at-requires
-row-passes-at-requires c κs = let s = c .before in subst (Has s) (c .if1 .taken) (s .pre)
+row-in-range-requires : tie.Need-row-in-range-requires
+row-in-range-requires c κs = search needs
+
+in-order-requires : tie.Need-in-order-requires
+in-order-requires c κs = search needs
 
 returns : tie.Need-returns
-returns c = rw (c .before .if1 .taken) (c .row-passes-at .ensures)
-
-row-passes-at-requires-2 : tie.Need-row-passes-at-requires-2
-row-passes-at-requires-2 c κs = let s = c .before .before in subst (Has s) (c .if2 .taken) (s .pre)
-
-returns-2 : tie.Need-returns-2
-returns-2 c = rw (c .before .if2 .taken) (c .row-passes-at2 .ensures)
-
-row-passes-at-requires-3 : tie.Need-row-passes-at-requires-3
-row-passes-at-requires-3 c κs = search needs
-
-returns-3 : tie.Need-returns-3
-returns-3 c = search needs
+unfolding rowCode
+returns c =
+    let inside = c .before .row-in-range in
+    let ordered = c .in-order in
+    simp (← inside .ensures, ← ordered .ensures) (both-pass (inside .result) (ordered .result))
 
 pub row-passes-spec : {M : Type 1} → statement M
-row-passes-spec =
-    tie.close
-    (tie.spec
-    row-passes-at-requires
-    returns
-    row-passes-at-requires-2
-    returns-2
-    row-passes-at-requires-3
-    returns-3)
+row-passes-spec = tie.close (tie.spec row-in-range-requires in-order-requires returns)
