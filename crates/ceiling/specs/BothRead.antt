@@ -2,6 +2,7 @@
 -- Assumes nothing.
 use Prim.Native.Nat.{ℕ, _≤_, _<_}
 use native.Mathlib.Omega.{arith}
+use Rattle.rules.specs.declared.Counts.{Counts}
 use Rattle.rules.specs.declared.Session.{Session}
 use Rattle.rules.specs.Tables.{Table, HasRows}
 use Rattle.rules.specs.Widths.{has-rows}
@@ -14,11 +15,11 @@ pub record RowsRead (t : Table) (depth : ℕ) : Type 0 where
   pub fit : (i : ℕ) → i < depth → RowFits t i
 
 -- rows of both tables were read
-pub record BothRead (f t : Table) (s : Session) : Type 0 where
-  pub field-some : 0 < s .depth .field .0
-  pub trim-some : 0 < s .depth .trim .0
-  pub field : RowsRead f (s .depth .field .0)
-  pub trim : RowsRead t (s .depth .trim .0)
+pub record BothRead (f t : Table) (depth : Counts) : Type 0 where
+  pub field-some : 0 < depth .field .0
+  pub trim-some : 0 < depth .trim .0
+  pub field : RowsRead f (depth .field .0)
+  pub trim : RowsRead t (depth .trim .0)
 
 rows-read : (t : Table) (rows depth : ℕ) → SameSize rows t → depth ≤ rows → ((i : ℕ) → i < depth → RowFits t i)
     → RowsRead t depth

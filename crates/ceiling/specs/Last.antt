@@ -95,7 +95,7 @@ module _ (f t : Table) (s : Session) where
   all-secured l h o = every-last (secured f t s) secured-higher l h o
 
 -- once rows of both tables were read, only the read-out tables and the ceiling decide
-pub read-secured : (f t : Table) (s : Session) (p : Pair) → BothRead f t s →
+pub read-secured : (f t : Table) (s : Session) (p : Pair) → BothRead f t (s .depth) →
     secured f t s p ≡ cond (bothReadOut f t s) true (leb (ceiling f t s) (p .sum))
 unfolding securedBy
 read-secured f t s p r =
@@ -105,7 +105,7 @@ read-secured f t s p r =
 
 -- a record with a pair held, over its tables
 pub held-then-read : (f t : Table) (s : Session) → Accepted f t s → 0 < length (s .pairs) → 0 < s .held
-    → BothRead f t s
+    → BothRead f t (s .depth)
 held-then-read f t s a n h =
     let p = first-fits s (a .lent .fits) n h in
     let rows = accepted-rows f t s a in

@@ -1,13 +1,16 @@
 // The ceiling, and whether a held pair is secured: the threshold of the rules' sessions. And what they ask of a table:
 // whether it is read out; whether it is empty.
+use rules::Counts;
 use rules::Pair;
-use rules::Session;
+use rules::Query;
+use rules::TwoTables;
 ghost use mathlib.Core.Path.{_≡_};
 ghost use mathlib.Core.Bool.{cond};
 ghost use Prim.Native.Nat.{_+_, _<_, max};
-ghost use Rattle.rules.specs.Session.{lentTable, readOut, isEmpty, ceiling, secured};
+ghost use Rattle.rules.specs.Session.{readOut, isEmpty, ceiling, secured};
 ghost use Rattle.rules.specs.Tables.{table, HasRows};
 ghost use Rattle.ceiling.specs.BothRead.{RowsRead, BothRead};
+ghost use Rattle.ceiling.specs.Bare.{bare};
 
 fn pick(t: bool, a: u64, b: u64) -> u64
     ensures { λ r. ⌜ r ≡ cond t a b ⌝ }
@@ -50,36 +53,39 @@ pub fn is_empty(n: u32, t: &[i32], rows: u32, depth: u32) -> bool
 }
 
 // The ceiling: the higher of HF + LT, unless trim is read out, and LF + HT, unless field is. Each score counts
-// by its table's weight.
-pub fn threshold(f: &[i32], t: &[i32], s: Session) -> u64
-    requires { ⌜ BothRead (lentTable s (now f)) (lentTable s (now t)) s ⌝ }
-    ensures { λ r. ⌜ r ≡ ceiling (lentTable s (now (f .entry))) (lentTable s (now (t .entry))) s ⌝ }
+// by its table's weight. Of a session it asks the query, the tables and the depths alone, and only these are handed on:
+// a whole session would be copied.
+pub fn threshold(f: &[i32], t: &[i32], q: Query, rows: TwoTables, depth: Counts) -> u64
+    requires { ⌜ BothRead (table (rows .card) (now f)) (table (rows .card) (now t)) depth ⌝ }
+    ensures { λ r. ⌜ r ≡ ceiling (table (rows .card) (now (f .entry))) (table (rows .card) (now (t .entry)))
+        (bare q rows depth) ⌝ }
 {
-    let n = s.rows.card;
-    let d = s.depth.field.0;
-    let e = s.depth.trim.0;
-    let v = s.query.weights.field.0;
-    let w = s.query.weights.trim.0;
+    let n = rows.card;
+    let d = depth.field.0;
+    let e = depth.trim.0;
+    let v = q.weights.field.0;
+    let w = q.weights.trim.0;
     let hf = tables::weighted(v, n, f, 0);
     let lt = tables::weighted(w, n, t, e as usize - 1);
     let lf = tables::weighted(v, n, f, d as usize - 1);
     let ht = tables::weighted(w, n, t, 0);
-    let trim_out = read_out(n, t, s.rows.trim.0, e);
-    let field_out = read_out(n, f, s.rows.field.0, d);
+    let trim_out = read_out(n, t, rows.trim.0, e);
+    let field_out = read_out(n, f, rows.field.0, d);
     let a = pick(trim_out, 0, hf + lt);
     let b = pick(field_out, 0, lf + ht);
     higher(a, b)
 }
 
 // Whether a held pair is secured.
-pub fn is_secured(f: &[i32], t: &[i32], s: Session, p: Pair) -> bool
-    requires { ⌜ BothRead (lentTable s (now f)) (lentTable s (now t)) s ⌝ }
-    ensures { λ r. ⌜ r ≡ secured (lentTable s (now (f .entry))) (lentTable s (now (t .entry))) s p ⌝ }
+pub fn is_secured(f: &[i32], t: &[i32], q: Query, rows: TwoTables, depth: Counts, p: Pair) -> bool
+    requires { ⌜ BothRead (table (rows .card) (now f)) (table (rows .card) (now t)) depth ⌝ }
+    ensures { λ r. ⌜ r ≡ secured (table (rows .card) (now (f .entry))) (table (rows .card) (now (t .entry)))
+        (bare q rows depth) p ⌝ }
 {
-    let field_out = read_out(s.rows.card, f, s.rows.field.0, s.depth.field.0);
-    let trim_out = read_out(s.rows.card, t, s.rows.trim.0, s.depth.trim.0);
+    let field_out = read_out(rows.card, f, rows.field.0, depth.field.0);
+    let trim_out = read_out(rows.card, t, rows.trim.0, depth.trim.0);
     if field_out & trim_out {
         return true;
     }
-    threshold(f, t, s) <= p.sum as u64
+    threshold(f, t, q, rows, depth) <= p.sum as u64
 }

@@ -28,5 +28,5 @@ pub fn is_settled(f: &[i32], t: &[i32], s: Session, last: Pair) -> bool
     if s.out + s.held != s.query.k {
         return false;
     }
-    ceiling::is_secured(f, t, s, last)
+    ceiling::is_secured(f, t, s.query, s.rows, s.depth, last)
 }

@@ -5,7 +5,6 @@ ghost use mathlib.Core.Bool.{_&&_};
 ghost use mathlib.Core.List.{[], _∷_};
 ghost use Prim.Native.Nat.{_+_, _*_, _-_, _≤_, _<_, _^_};
 ghost use denote.Ref.{ptr};
-ghost use lib.Dec.{eqb};
 ghost use lib.IntN.{pos};
 ghost use lib.ListN.{length};
 ghost use Rattle.rules.specs.Tables.{table, width, num, rowCount, HasRow, HasRows, firstRows, part, mostRows, sizeFits};
@@ -202,23 +201,17 @@ pub fn is_withdrawn(n: u32, t: &[i32], i: usize) -> bool
 }
 
 // What row i + 1 of a table is refused by, 6 before 7; 0 where it is not.
-pub fn row_code(n: u32, t: &[i32], i: usize) -> u32
+fn row_code(n: u32, t: &[i32], i: usize) -> u32
     requires { ⌜ (i < mostRows) × HasRow (table n (now t)) i ⌝ }
     ensures { λ r. ⌜ r ≡ rowCode (table n (now (t .entry))) i ⌝ }
 {
-    let limit = unless(row_in_range(n, t, i), rules::ROW_LIMIT);
-    let order = unless(in_order(n, t, i), rules::ROW_ORDER);
-    first(limit, order)
-}
-
-// Whether row i + 1 of a table is refused by neither.
-fn row_passes(n: u32, t: &[i32], i: usize) -> bool
-    requires { ⌜ (i < mostRows) × HasRow (table n (now t)) i ⌝ }
-    ensures { λ r. ⌜ r ≡ eqb (rowCode (table n (now (t .entry))) i) 0 ⌝ }
-{
-    let inside = row_in_range(n, t, i);
-    let ordered = in_order(n, t, i);
-    inside & ordered
+    if !row_in_range(n, t, i) {
+        return rules::ROW_LIMIT;
+    }
+    if !in_order(n, t, i) {
+        return rules::ROW_ORDER;
+    }
+    0
 }
 
 fn rows_code_at(n: u32, t: &[i32], a: usize, m: usize) -> u32
@@ -227,17 +220,17 @@ fn rows_code_at(n: u32, t: &[i32], a: usize, m: usize) -> u32
 {
     let mut i: usize = 0;
     while i < m {
-        let next = a + i;
-        if !row_passes(n, t, next) {
-            return row_code(n, t, next);
+        let code = row_code(n, t, a + i);
+        if code != 0 {
+            return code;
         }
         i += 1;
     }
     0
 }
 
-// What the first of rows a + 1 to a + m that is refused is refused by; 0 where none is. The code is chosen by n, so that
-// the compiler knows how many numbers a row has.
+// What the first of rows a + 1 to a + m that is refused is refused by; 0 where none is. The code is chosen by n, so
+// that the compiler knows how many numbers a row has.
 pub fn rows_code(n: u32, t: &[i32], a: usize, m: usize) -> u32
     requires { ⌜ (a + m ≤ mostRows) × HasRows (table n (now t)) (a + m) ⌝ }
     ensures { λ r. ⌜ r ≡ rowsCode (table n (now (t .entry))) a m ⌝ }

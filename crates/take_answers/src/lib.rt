@@ -16,7 +16,7 @@ fn gives_pair(f: &[i32], t: &[i32], s: Session) -> bool
         return false;
     }
     let p = s.pairs[0];
-    ceiling::is_secured(f, t, s, p)
+    ceiling::is_secured(f, t, s.query, s.rows, s.depth, p)
 }
 
 // Whether no further pair can come.

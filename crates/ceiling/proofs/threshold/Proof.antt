@@ -1,21 +1,25 @@
 -- `threshold` meets its contract: the higher of the two parts. Assumes nothing.
 use Prim.Native.Nat.{ℕ, _<_}
 use native.Mathlib.Omega.{arith}
+use Rattle.rules.specs.declared.Session.{Session}
 use Rattle.rules.specs.Tables.{HasRow}
 use Rattle.rules.specs.Widths.{rows-row}
 use Rattle.rules.specs.Session.{lentTable, ceilingBy}
+use Rattle.ceiling.specs.Bare.{bare}
 use borrow.Author.Needs.{needs}
 use Rattle.ceiling.proofs.threshold.Statement.{statement}
 use Rattle.ceiling.proofs.threshold.Tie as tie
 
--- the slices have the rows read
-field-row : (s : tie.Start) (i : ℕ) → i < s .args .s .depth .field .0 →
-    HasRow (lentTable (s .args .s) (s .args .f .now)) i
-field-row s i h = rows-row (lentTable (s .args .s) (s .args .f .now)) i _ h (s .pre .field .there)
+-- what is asked of the session
+abbrev told : tie.Start → Session
+told s = bare (s .args .q) (s .args .rows) (s .args .depth)
 
-trim-row : (s : tie.Start) (i : ℕ) → i < s .args .s .depth .trim .0 →
-    HasRow (lentTable (s .args .s) (s .args .t .now)) i
-trim-row s i h = rows-row (lentTable (s .args .s) (s .args .t .now)) i _ h (s .pre .trim .there)
+-- the slices have the rows read
+field-row : (s : tie.Start) (i : ℕ) → i < s .args .depth .field .0 → HasRow (lentTable (told s) (s .args .f .now)) i
+field-row s i h = rows-row (lentTable (told s) (s .args .f .now)) i _ h (s .pre .field .there)
+
+trim-row : (s : tie.Start) (i : ℕ) → i < s .args .depth .trim .0 → HasRow (lentTable (told s) (s .args .t .now)) i
+trim-row s i h = rows-row (lentTable (told s) (s .args .t .now)) i _ h (s .pre .trim .there)
 
 weighted-requires : tie.Need-weighted-requires
 weighted-requires c κs = field-row c 0 (omega (arith, c .pre .field-some))

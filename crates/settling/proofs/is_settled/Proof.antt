@@ -7,6 +7,7 @@ use lib.ListN.{length}
 use borrow.Author.Tests.{eq-eqb, ne-eqb}
 use Rattle.rules.specs.Session.{lentTable, placeCount, aTableIsEmpty, bothReadOut, settledBy}
 use Rattle.rules.proofs.Places.{places-long}
+use Rattle.ceiling.specs.Bare.{secured-bare}
 use Rattle.ceiling.specs.BothRead.{RowsRead, accepted-rows}
 use Rattle.ceiling.specs.Last.{held-then-read, held-secured}
 use borrow.Author.Needs.{needs}
@@ -109,6 +110,9 @@ returns-5 c =
     let l = s .pre .0 .lent .fits in
     let fit : s .args .s .held ≤ length (s .args .s .pairs) = omega (arith, long s, l .room, l .query .k .1) in
     let last = s .pre .1 (some (c .before)) in
+    let a = s .args in
+    let bare =
+    secured-bare (lentTable (a .s) (a .f .now)) (lentTable (a .s) (a .t .now)) (a .s) (a .last) in
     simp (
       live at .0,
       live at .1,
@@ -118,7 +122,7 @@ returns-5 c =
           l fit (some (c .before)),
       ← last,
     )
-    (c .is-secured .ensures)
+    (c .is-secured .ensures ∙ bare)
 
 pub is-settled-spec : {M : Type 1} → statement M
 is-settled-spec =

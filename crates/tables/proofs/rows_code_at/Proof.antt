@@ -1,12 +1,13 @@
--- `rows_code_at` meets its contract: no row before the turn's is refused, and the first that is decides. Assumes nothing.
+-- `rows_code_at` meets its contract: no row before the turn's is refused, and the first that is decides. Assumes
+-- nothing.
 use mathlib.Core.Path.{_≡_, refl, sym, _∙_}
 use Prim.Native.Nat.{ℕ, _+_, _-_, _≤_}
 use native.Mathlib.Omega.{arith}
 use native.Mathlib.Decide.{le-ind}
 use native.Mathlib.Numerals.{add-one}
-use borrow.Author.Tests.{eq-eqb, ne-eqb, eqb-true, eqb-false, not-true, not-false}
+use borrow.Author.Tests.{eq-eqb, ne-eqb}
 use borrow.Author.Needs.{needs}
-use Rattle.rules.specs.Tables.{Table, table, HasRow}
+use Rattle.rules.specs.Tables.{Table, table}
 use Rattle.rules.specs.Widths.{rows-row}
 use Rattle.rules.specs.Calls.{rowCode, rowsCode}
 use Rattle.tables.proofs.rows_code_at.Statement.{statement}
@@ -34,35 +35,32 @@ loop-holds : tie.Need-loop-holds Inv-loop μ-loop
 unfolding rowsCode
 loop-holds c = (search needs, refl)
 
-add-next : tie.Need-add-next Inv-loop μ-loop
-add-next c = search needs
+add-row-code : tie.Need-add-row-code Inv-loop μ-loop
+add-row-code c = search needs
 
 -- the table has the turn's row
-has : (c : tie.In-loop Inv-loop μ-loop) → HasRow (table (c .before .before .args .n) (c .before .before .args .t .now))
-    (c .before .before .args .a + c .before .loop .i)
-has c =
-    let s = c .before .before in
-    rows-row (table (s .args .n) (s .args .t .now)) (s .args .a + c .before .loop .i) (s .args .a + s .args .m)
-    (omega arith) (s .pre .1)
-
-row-passes-requires : tie.Need-row-passes-requires Inv-loop μ-loop
-row-passes-requires c κs = (search needs, has c)
-
 row-code-requires : tie.Need-row-code-requires Inv-loop μ-loop
-row-code-requires c κs = (search needs, has (c .before .before))
+row-code-requires c κs =
+    let s = c .before .before in (
+      search needs,
+      rows-row (table (s .args .n) (s .args .t .now)) (s .args .a + c .before .loop .i) (s .args .a + s .args .m)
+          (omega arith) (s .pre .1),
+    )
+
+-- the turn's row decides for the rows up to it
+turn : (c : tie.After-row-code Inv-loop μ-loop) → let s = c .before .before .before .args in
+    rowsCode (table (s .n) (s .t .now)) (s .a) (c .before .before .loop .i + 1) ≡ c .row-code .result
+turn c =
+    let s = c .before .before .before .args in
+    let l = c .before .before .loop in
+    here (table (s .n) (s .t .now)) (s .a) (l .i) (l .inv .1) ∙ sym (c .row-code .ensures)
 
 returns : tie.Need-returns Inv-loop μ-loop
 returns c =
-    let at = c .before .before .before in
-    let l = at .before .loop in
-    let s = at .before .before .args in
-    let t = table (s .n) (s .t .now) in
-    let passes = c .before .before .row-passes in
-    let refused = eqb-false (rowCode t (s .a + l .i)) 0
-    (sym (passes .ensures) ∙ not-true (passes .result) (c .before .if1 .taken)) in
-    let e = here t (s .a) (l .i) (l .inv .1) in
-    c .row-code .ensures
-    ∙ sym (stays t (s .a) (l .i + 1) (s .m) (omega arith) (λ z. refused (sym e ∙ z)) ∙ e)
+    let l = c .before .before .before .loop in
+    let s = c .before .before .before .before .args in
+    let e = turn (c .before) in
+    sym (stays (table (s .n) (s .t .now)) (s .a) (l .i + 1) (s .m) (omega arith) (λ z. c .if1 .taken (sym e ∙ z)) ∙ e)
 
 add-i : tie.Need-add-i Inv-loop μ-loop
 add-i c = search needs
@@ -71,14 +69,7 @@ loop-less : tie.Need-loop-less Inv-loop μ-loop
 loop-less c = search needs
 
 loop-again : tie.Need-loop-again Inv-loop μ-loop
-loop-again c =
-    let l = c .before .before .before .loop in
-    let s = c .before .before .before .before .args in
-    let t = table (s .n) (s .t .now) in
-    let passes = c .before .row-passes in
-    let passed = eqb-true (rowCode t (s .a + l .i)) 0
-    (sym (passes .ensures) ∙ not-false (passes .result) (c .if1 .left)) in
-    (search needs, here t (s .a) (l .i) (l .inv .1) ∙ passed)
+loop-again c = (search needs, turn (c .before) ∙ c .if1 .left)
 
 returns-2 : tie.Need-returns-2 Inv-loop μ-loop
 returns-2 c = let e : c .before .loop .i ≡ c .before .before .args .m = omega arith in cc
@@ -90,8 +81,7 @@ rows-code-at-spec =
     Inv-loop
     μ-loop
     loop-holds
-    add-next
-    row-passes-requires
+    add-row-code
     row-code-requires
     returns
     add-i
