@@ -72,12 +72,3 @@ row-most n = omega (arith, start-most (width n))
 pub row-least : (n : ℕ) → 1 ≤ rowBytes n
 unfolding rowBytes
 row-least n = omega arith
-
--- "Each row, 27 bytes", and 33 on the new card
-pub row-old : rowBytes 2 ≡ 27
-unfolding rowBytes columnStart
-row-old = refl
-
-pub row-new : rowBytes 3 ≡ 33
-unfolding rowBytes columnStart
-row-new = refl
