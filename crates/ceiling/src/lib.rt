@@ -2,8 +2,7 @@
 // whether it is read out; whether it is empty.
 use rules::Counts;
 use rules::Pair;
-use rules::Query;
-use rules::TwoTables;
+use rules::Weights;
 ghost use mathlib.Core.Path.{_≡_};
 ghost use mathlib.Core.Bool.{cond};
 ghost use Prim.Native.Nat.{_+_, _<_, max};
@@ -53,18 +52,16 @@ pub fn is_empty(n: u32, t: &[i32], rows: u32, depth: u32) -> bool
 }
 
 // The ceiling: the higher of HF + LT, unless trim is read out, and LF + HT, unless field is. Each score counts
-// by its table's weight. Of a session it asks the query, the tables and the depths alone, and only these are handed on:
-// a whole session would be copied.
-pub fn threshold(f: &[i32], t: &[i32], q: Query, rows: TwoTables, depth: Counts) -> u64
-    requires { ⌜ BothRead (table (rows .card) (now f)) (table (rows .card) (now t)) depth ⌝ }
-    ensures { λ r. ⌜ r ≡ ceiling (table (rows .card) (now (f .entry))) (table (rows .card) (now (t .entry)))
-        (bare q rows depth) ⌝ }
+// by its table's weight. Of a session it asks the card, the row counts, the depths and the weights alone, and only these
+// are handed on: a whole session would be copied.
+pub fn threshold(f: &[i32], t: &[i32], n: u32, rows: Counts, depth: Counts, weights: Weights) -> u64
+    requires { ⌜ BothRead (table n (now f)) (table n (now t)) depth ⌝ }
+    ensures { λ r. ⌜ r ≡ ceiling (table n (now (f .entry))) (table n (now (t .entry))) (bare n rows depth weights) ⌝ }
 {
-    let n = rows.card;
     let d = depth.field.0;
     let e = depth.trim.0;
-    let v = q.weights.field.0;
-    let w = q.weights.trim.0;
+    let v = weights.field.0;
+    let w = weights.trim.0;
     let hf = tables::weighted(v, n, f, 0);
     let lt = tables::weighted(w, n, t, e as usize - 1);
     let lf = tables::weighted(v, n, f, d as usize - 1);
@@ -77,15 +74,23 @@ pub fn threshold(f: &[i32], t: &[i32], q: Query, rows: TwoTables, depth: Counts)
 }
 
 // Whether a held pair is secured.
-pub fn is_secured(f: &[i32], t: &[i32], q: Query, rows: TwoTables, depth: Counts, p: Pair) -> bool
-    requires { ⌜ BothRead (table (rows .card) (now f)) (table (rows .card) (now t)) depth ⌝ }
-    ensures { λ r. ⌜ r ≡ secured (table (rows .card) (now (f .entry))) (table (rows .card) (now (t .entry)))
-        (bare q rows depth) p ⌝ }
+pub fn is_secured(
+    f: &[i32],
+    t: &[i32],
+    n: u32,
+    rows: Counts,
+    depth: Counts,
+    weights: Weights,
+    p: Pair,
+) -> bool
+    requires { ⌜ BothRead (table n (now f)) (table n (now t)) depth ⌝ }
+    ensures { λ r. ⌜ r ≡ secured (table n (now (f .entry))) (table n (now (t .entry)))
+        (bare n rows depth weights) p ⌝ }
 {
-    let field_out = read_out(rows.card, f, rows.field.0, depth.field.0);
-    let trim_out = read_out(rows.card, t, rows.trim.0, depth.trim.0);
+    let field_out = read_out(n, f, rows.field.0, depth.field.0);
+    let trim_out = read_out(n, t, rows.trim.0, depth.trim.0);
     if field_out & trim_out {
         return true;
     }
-    threshold(f, t, q, rows, depth) <= p.sum as u64
+    threshold(f, t, n, rows, depth, weights) <= p.sum as u64
 }

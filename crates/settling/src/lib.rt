@@ -1,6 +1,9 @@
 // Whether a session is settled.
+use rules::Counts;
+use rules::FieldRows;
 use rules::Pair;
 use rules::Session;
+use rules::TrimRows;
 ghost use mathlib.Core.Path.{_≡_};
 ghost use Rattle.rules.specs.Session.{lentTable, settled};
 ghost use Rattle.session_laws.specs.Calls.{Accepted};
@@ -28,5 +31,9 @@ pub fn is_settled(f: &[i32], t: &[i32], s: Session, last: Pair) -> bool
     if s.out + s.held != s.query.k {
         return false;
     }
-    ceiling::is_secured(f, t, s.query, s.rows, s.depth, last)
+    let rows = Counts {
+        field: FieldRows(l),
+        trim: TrimRows(m),
+    };
+    ceiling::is_secured(f, t, n, rows, s.depth, s.query.weights, last)
 }

@@ -1,6 +1,9 @@
 // What a take answers: the first held pair, finished, or not yet.
 use rules::Answer;
+use rules::Counts;
+use rules::FieldRows;
 use rules::Session;
+use rules::TrimRows;
 ghost use mathlib.Core.Path.{_≡_};
 ghost use Rattle.rules.specs.Take.{givesPair, finished};
 ghost use Rattle.session_laws.specs.Calls.{Accepted};
@@ -16,7 +19,11 @@ fn gives_pair(f: &[i32], t: &[i32], s: Session) -> bool
         return false;
     }
     let p = s.pairs[0];
-    ceiling::is_secured(f, t, s.query, s.rows, s.depth, p)
+    let rows = Counts {
+        field: FieldRows(s.rows.field.0),
+        trim: TrimRows(s.rows.trim.0),
+    };
+    ceiling::is_secured(f, t, s.rows.card, rows, s.depth, s.query.weights, p)
 }
 
 // Whether no further pair can come.

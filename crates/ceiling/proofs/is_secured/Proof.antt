@@ -18,7 +18,7 @@ returns : tie.Need-returns
 returns c =
     let s = c .before .before .before in
     let a = s .args in
-    let b = bare (a .q) (a .rows) (a .depth) in
+    let b = bare (a .n) (a .rows) (a .depth) (a .weights) in
     let out : bothReadOut (lentTable b (a .f .now)) (lentTable b (a .t .now)) b ≡ true =
     simp (c .before .before .read-out .ensures, c .before .read-out2 .ensures) at (c .if1 .taken) in
     rw (read-secured (lentTable b (a .f .now)) (lentTable b (a .t .now)) b (a .p) (s .pre))
@@ -34,7 +34,7 @@ returns-2 : tie.Need-returns-2
 returns-2 c =
     let s = c .before .before .before .before .before in
     let a = s .args in
-    let b = bare (a .q) (a .rows) (a .depth) in
+    let b = bare (a .n) (a .rows) (a .depth) (a .weights) in
     let out : bothReadOut (lentTable b (a .f .now)) (lentTable b (a .t .now)) b ≡ false =
     simp (c .before .before .before .before .read-out .ensures, c .before .before .before .read-out2 .ensures) at
     (c .before .before .if1 .left) in

@@ -12,7 +12,7 @@ use Rattle.ceiling.proofs.threshold.Tie as tie
 
 -- what is asked of the session
 abbrev told : tie.Start → Session
-told s = bare (s .args .q) (s .args .rows) (s .args .depth)
+told s = bare (s .args .n) (s .args .rows) (s .args .depth) (s .args .weights)
 
 -- the slices have the rows read
 field-row : (s : tie.Start) (i : ℕ) → i < s .args .depth .field .0 → HasRow (lentTable (told s) (s .args .f .now)) i

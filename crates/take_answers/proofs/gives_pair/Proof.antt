@@ -20,8 +20,8 @@ element-copy-out-p : tie.Need-element-copy-out-p
 element-copy-out-p c = search needs
 
 -- where a pair is held, from the numbers handed on
-abbrev some : tie.After-is-secured-arg3 → tie.Else1
-some c = c .before .before .before .before
+abbrev some : tie.After-is-secured-arg2 → tie.Else1
+some c = c .before .before .before
 
 is-secured-requires : tie.Need-is-secured-requires
 is-secured-requires c κs =
