@@ -1,4 +1,5 @@
--- What the ceiling and the securing of a pair ask of a session: its card, row counts, depths and weights. Assumes nothing.
+-- What the ceiling and the securing of a pair ask of a session: its card, row counts, depths and weights. Assumes
+-- nothing.
 use mathlib.Core.Path.{_≡_, refl}
 use mathlib.Core.List.{[]}
 use Prim.Native.Nat.{ℕ}

@@ -52,8 +52,8 @@ pub fn is_empty(n: u32, t: &[i32], rows: u32, depth: u32) -> bool
 }
 
 // The ceiling: the higher of HF + LT, unless trim is read out, and LF + HT, unless field is. Each score counts
-// by its table's weight. Of a session it asks the card, the row counts, the depths and the weights alone, and only these
-// are handed on: a whole session would be copied.
+// by its table's weight. Of a session it asks the card, the row counts, the depths and the weights alone: a whole
+// session would be copied.
 pub fn threshold(f: &[i32], t: &[i32], n: u32, rows: Counts, depth: Counts, weights: Weights) -> u64
     requires { ⌜ BothRead (table n (now f)) (table n (now t)) depth ⌝ }
     ensures { λ r. ⌜ r ≡ ceiling (table n (now (f .entry))) (table n (now (t .entry))) (bare n rows depth weights) ⌝ }

@@ -1,5 +1,5 @@
 -- `gives_pair` meets its contract: a held pair shows that rows of both tables were read. Assumes nothing.
-use mathlib.Core.Path.{refl}
+use mathlib.Core.Path.{refl, _∙_}
 use Prim.Native.Nat.{_<_}
 use native.Mathlib.Omega.{arith}
 use borrow.Author.Tests.{lt-ltb}
@@ -40,7 +40,7 @@ returns-2 c =
     let s = a .t3 in
     let one : 0 < s .held = omega (arith, held .if1 .left) in
     let bare = secured-bare (lentTable s (a .f .now)) (lentTable s (a .t .now)) s (firstHeld s) in
-    simp (lt-ltb 0 (s .held) one, c .is-secured .ensures, bare) refl
+    simp (lt-ltb 0 (s .held) one) (c .is-secured .ensures ∙ bare)
 
 pub gives-pair-spec : {M : Type 1} → statement M
 gives-pair-spec = tie.close (tie.spec returns element-copy-out-p is-secured-requires returns-2)
