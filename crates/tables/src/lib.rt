@@ -230,15 +230,22 @@ fn rows_code_at(n: u32, t: &[i32], a: usize, m: usize) -> u32
 }
 
 // What the first of rows a + 1 to a + m that is refused is refused by; 0 where none is. The code is chosen by n, so
-// that the compiler knows how many numbers a row has.
+// that the compiler knows how many numbers a row has, and for the rows from the first on, so that it knows which row has
+// none before it.
 pub fn rows_code(n: u32, t: &[i32], a: usize, m: usize) -> u32
     requires { ⌜ (a + m ≤ mostRows) × HasRows (table n (now t)) (a + m) ⌝ }
     ensures { λ r. ⌜ r ≡ rowsCode (table n (now (t .entry))) a m ⌝ }
 {
     if n == 2 {
+        if a == 0 {
+            return rows_code_at(2, t, 0, m);
+        }
         return rows_code_at(2, t, a, m);
     }
     if n == 3 {
+        if a == 0 {
+            return rows_code_at(3, t, 0, m);
+        }
         return rows_code_at(3, t, a, m);
     }
     rows_code_at(n, t, a, m)
