@@ -230,7 +230,7 @@ fn rows_code_at(n: u32, t: &[i32], a: usize, m: usize) -> u32
 }
 
 // What the first of rows a + 1 to a + m that is refused is refused by; 0 where none is. The code is chosen by n, so
-// that the compiler knows how many numbers a row has, and for the rows from the first on, so that it knows which row has
+// that the compiler knows how many numbers a row has, and for rows from the first on, so that it knows which row has
 // none before it.
 pub fn rows_code(n: u32, t: &[i32], a: usize, m: usize) -> u32
     requires { ⌜ (a + m ≤ mostRows) × HasRows (table n (now t)) (a + m) ⌝ }
