@@ -84,7 +84,7 @@ pub fn fits(s: Session) -> bool
 fn same_size_code(rows: u32, n: u32, t: &[i32]) -> u32
     ensures { λ r. ⌜ r ≡ sameSizeCode rows (table n (now (t .entry))) ⌝ }
 {
-    let same = tables::row_count(n, t) == rows as usize;
+    let same = tables::rows_lent(n, t) == rows as usize;
     tables::unless(tables::size_fits(n, t) & same, rules::TABLE_SIZE)
 }
 

@@ -98,8 +98,8 @@ pub fn start(q: Query, kinds: Kinds, f: &[i32], t: &[i32]) -> Step
         };
     }
     let rows = TwoTables {
-        field: FieldRows(tables::row_count(m, f) as u32),
-        trim: TrimRows(tables::row_count(n, t) as u32),
+        field: FieldRows(tables::rows_lent(m, f) as u32),
+        trim: TrimRows(tables::rows_lent(n, t) as u32),
         card: m,
     };
     let s = fresh(q, rows);

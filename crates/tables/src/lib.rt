@@ -43,30 +43,32 @@ pub fn width(n: u32) -> usize
     n as usize + 2
 }
 
-fn row_count_at(n: u32, t: &[i32]) -> usize
+// How many rows a table has.
+pub fn rows_lent(n: u32, t: &[i32]) -> usize
     ensures { λ r. ⌜ r ≡ rowCount (table n (now (t .entry))) ⌝ }
 {
     t.len() / width(n)
 }
 
-// How many rows a table has. The code is chosen by n: to divide by a number that the compiler does not know takes long.
+// The same for each block that is met. The code is chosen by n: to divide by a number that the compiler does not know
+// takes long.
 pub fn row_count(n: u32, t: &[i32]) -> usize
     ensures { λ r. ⌜ r ≡ rowCount (table n (now (t .entry))) ⌝ }
 {
     if n == 2 {
-        return row_count_at(2, t);
+        return rows_lent(2, t);
     }
     if n == 3 {
-        return row_count_at(3, t);
+        return rows_lent(3, t);
     }
-    row_count_at(n, t)
+    rows_lent(n, t)
 }
 
 // Whether a slice is of whole rows, at most 65,535.
 pub fn size_fits(n: u32, t: &[i32]) -> bool
     ensures { λ r. ⌜ r ≡ sizeFits (table n (now (t .entry))) ⌝ }
 {
-    (t.len() % width(n) == 0) & (row_count(n, t) <= MOST_ROWS)
+    (t.len() % width(n) == 0) & (rows_lent(n, t) <= MOST_ROWS)
 }
 
 // Where row i + 1 begins, or the table ends.

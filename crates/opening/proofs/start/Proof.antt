@@ -53,23 +53,23 @@ unfolding openCall
 returns c =
     simp (← coded (c .before .before), ne-eqb _ _ (c .before .if1 .taken), c .all-zeros .ensures) refl
 
-row-count-requires : tie.Need-row-count-requires
-row-count-requires c κs = search needs
+rows-lent-requires : tie.Need-rows-lent-requires
+rows-lent-requires c κs = search needs
 
 -- how many rows the field table has, and the trim table
-field-count : (c : tie.After-row-count) → c .row-count .result ≡ rowCount (field (start (c .before)))
-field-count c = simp (asked (c .before) .field-coordinates .ensures) at (c .row-count .ensures)
+field-count : (c : tie.After-rows-lent) → c .rows-lent .result ≡ rowCount (field (start (c .before)))
+field-count c = simp (asked (c .before) .field-coordinates .ensures) at (c .rows-lent .ensures)
 
 cast-t14 : tie.Need-cast-t14
 cast-t14 c =
     let o = opening (c .before) in
     record { fits = omega (arith, field-count c, o .field .few) }
 
-row-count-requires-2 : tie.Need-row-count-requires-2
-row-count-requires-2 c κs = search needs
+rows-lent-requires-2 : tie.Need-rows-lent-requires-2
+rows-lent-requires-2 c κs = search needs
 
-trim-count : (c : tie.After-row-count2) → c .row-count2 .result ≡ rowCount (trim (start (c .before .before)))
-trim-count c = simp (c .before .before .before .before .trim-coordinates .ensures) at (c .row-count2 .ensures)
+trim-count : (c : tie.After-rows-lent2) → c .rows-lent2 .result ≡ rowCount (trim (start (c .before .before)))
+trim-count c = simp (c .before .before .before .before .trim-coordinates .ensures) at (c .rows-lent2 .ensures)
 
 cast-t17 : tie.Need-cast-t17
 cast-t17 c =
@@ -102,9 +102,9 @@ start-spec =
     open-code-requires
     all-zeros-requires
     returns
-    row-count-requires
+    rows-lent-requires
     cast-t14
-    row-count-requires-2
+    rows-lent-requires-2
     cast-t17
     fresh-requires
     returns-2)

@@ -10,12 +10,12 @@ width-requires c κs = search needs
 rem-result : tie.Need-rem-result
 rem-result c = search needs
 
-row-count-requires : tie.Need-row-count-requires
-row-count-requires c κs = search needs
+rows-lent-requires : tie.Need-rows-lent-requires
+rows-lent-requires c κs = search needs
 
 returns : tie.Need-returns
 unfolding sizeFits
-returns c = simp (c .before .width .ensures, c .row-count .ensures)
+returns c = simp (c .before .width .ensures, c .rows-lent .ensures)
 
 pub size-fits-spec : {M : Type 1} → statement M
-size-fits-spec = tie.close (tie.spec width-requires rem-result row-count-requires returns)
+size-fits-spec = tie.close (tie.spec width-requires rem-result rows-lent-requires returns)
