@@ -6,6 +6,9 @@ use furzeladle_tests::model::{self, Opening, Said};
 use furzeladle_tests::{file, spelled};
 use std::ffi::OsStr;
 use std::fs;
+use std::net::Shutdown;
+use std::os::fd::OwnedFd;
+use std::os::unix::net::UnixStream;
 use std::path::{Path, PathBuf};
 use std::process::{Command, Output, Stdio};
 
@@ -697,11 +700,15 @@ fn output_that_cannot_be_written() {
 }
 
 #[test]
-fn a_closed_pipe() {
-    let mut reader = Command::new("true").stdin(Stdio::piped()).spawn().unwrap();
-    let pipe = reader.stdin.take().unwrap();
-    reader.wait().unwrap();
-    let output = command().arg("--help").stdout(pipe).output().unwrap();
+fn a_closed_reader() {
+    // Shut down, not only dropped: a process that another test is starting may hold what is dropped for a moment.
+    let (reader, writer) = UnixStream::pair().unwrap();
+    reader.shutdown(Shutdown::Both).unwrap();
+    let output = command()
+        .arg("--help")
+        .stdout(OwnedFd::from(writer))
+        .output()
+        .unwrap();
     assert_eq!(output.status.code(), Some(3));
     assert!(words(&output).contains("cannot be written"));
 }
