@@ -29,35 +29,66 @@ enum furzeladle_refusal {
     FURZELADLE_BAD_COLUMN = 9,
     FURZELADLE_KIND = 10,
     FURZELADLE_SHORT_SLICE = 11,
-    FURZELADLE_WEIGHT = 12
+    FURZELADLE_WEIGHT = 12,
+    FURZELADLE_CARDS = 15
 };
 
-/* A strict file's `len` bytes, checked alone. `kind` is the wanted one: 1 field, 2 trim.
+/* The kinds of tables and of strict files. On the old card a shade is a and b, on the new one a, b and L. */
+enum furzeladle_kind {
+    FURZELADLE_FIELD = 1,
+    FURZELADLE_TRIM = 2,
+    FURZELADLE_NEW_FIELD = 3,
+    FURZELADLE_NEW_TRIM = 4
+};
+
+/* A card goes by the number of a shade's coordinates. */
+enum furzeladle_card { FURZELADLE_OLD_CARD = 2, FURZELADLE_NEW_CARD = 3 };
+
+/* A row's numbers on each card, its bytes in a strict file, the bytes of a file's header, and the rows of the longest
+ * table. */
+enum {
+    FURZELADLE_OLD_ROW = 4,
+    FURZELADLE_NEW_ROW = 5,
+    FURZELADLE_OLD_ROW_BYTES = 27,
+    FURZELADLE_NEW_ROW_BYTES = 33,
+    FURZELADLE_HEADER_BYTES = 13,
+    FURZELADLE_MOST_ROWS = 65535
+};
+
+/* A strict file's `len` bytes, checked alone. `kind` is the wanted one, FURZELADLE_FIELD to FURZELADLE_NEW_TRIM.
  * The row count (0 to 65,535), or minus the refusal. */
 int32_t furzeladle_check(const uint8_t *bytes, size_t len, int32_t kind);
 
-/* A strict file's rows, read into the front of `out`, which has room for `room` numbers: four to a row.
+/* A strict file's rows, read into the front of `out`, which has room for `room` numbers: FURZELADLE_OLD_ROW to a row of
+ * kind 1 or 2, FURZELADLE_NEW_ROW to a row of kind 3 or 4.
  * The row count, or minus (the refusal + 100 × its row; row 0 is the header, or none).
  * Numbers beyond the rows are left as they were, and after a refusal all are. */
 int32_t furzeladle_load(const uint8_t *bytes, size_t len, int32_t kind, int32_t *out, size_t room);
 
 /* ---- The join session
  *
- * A table is `len` numbers, four to a row: pattern number 1 to 999,999, score 0 to 9,999 (never above the row before),
- * a and b -12,800 to 12,700; at most 65,535 rows. f is the field table, t the trim table: the same two in every call.
+ * A table is `len` numbers, four to a row on the old card: pattern number 1 to 999,999, score 0 to 9,999 (never above
+ * the row before), a and b -12,800 to 12,700. On the new card a fifth follows, L, 0 to 10,000, and distance is over all
+ * three coordinates. At most 65,535 rows. f is the field table, t the trim table: the same two in every call.
  *
  * A score of 0 means that the pattern is withdrawn. Such a row is legal and is read, shown and checked like any other,
  * but no pair with it qualifies. Scores fall, so that all rows below it are withdrawn too: once one has been read, its
  * table counts as read out, and as empty if it is the first row. The whole block still counts in the depth.
  *
- * A query is `query_len` numbers: k (1 to 64), block (1 to 1,024), radius (0 to 40,000); then, if they are lent, the field
- * weight and the trim weight (1 to 9 each). A weight that is not lent is 1: k, block and radius alone ask for weights 1
- * and 1. A pair's sum is field weight × score of its field row + trim weight × score of its trim row, at most 179,982. */
-enum { FURZELADLE_QUERY_LEAST = 3, FURZELADLE_QUERY_MOST = 5 };
+ * A query is `query_len` numbers: k (1 to 64), block (1 to 1,024), radius (0 to 40,000); then, if they are lent, the
+ * field weight and the trim weight (1 to 9 each), and behind them the kinds of the field table (1 or 3) and of the trim
+ * table (2 or 4). A weight that is not lent is 1, a kind that is not lent the old card's: k, block and radius alone ask
+ * for weights 1 and 1 over tables of kinds 1 and 2. A pair's sum is field weight × score of its field row + trim weight
+ * × score of its trim row, at most 179,982.
+ *
+ * How many numbers it has at least, with both weights, and with both kinds. FURZELADLE_QUERY_MOST is from before there
+ * were kinds and stands: who lends a query of that size asks about the old card, as ever. */
+enum { FURZELADLE_QUERY_LEAST = 3, FURZELADLE_QUERY_MOST = 5, FURZELADLE_QUERY_ALL = 7 };
 
 /* A session's record is FURZELADLE_RECORD_SIZE numbers that belong to the caller. It may be kept, copied, stored and
- * taken up again later. Any numbers may come in: a record that no session can have is refused by 5. One of 204 numbers,
- * stored before there were weights, goes on once 1 and 1 are written behind them. */
+ * taken up again later. Any numbers may come in: a record that no session can have is refused by 5. One of 206 numbers,
+ * stored before there were cards, goes on once FURZELADLE_OLD_CARD is written behind them; one of 204, stored before
+ * there were weights, once 1, 1 and FURZELADLE_OLD_CARD are. */
 enum furzeladle_record {
     FURZELADLE_K = 0,           /* the query: list length, 1 to 64 */
     FURZELADLE_BLOCK_ROWS = 1,  /* block size in rows, 1 to 1,024 */
@@ -74,8 +105,12 @@ enum furzeladle_record {
     FURZELADLE_PAIRS = 12,      /* 64 places of three numbers each: sum, field row, trim row; zeros beyond those held */
     FURZELADLE_FIELD_WEIGHT = 204, /* the query's weights, 1 to 9 */
     FURZELADLE_TRIM_WEIGHT = 205,
-    FURZELADLE_RECORD_SIZE = 206
+    FURZELADLE_CARD = 206,         /* the card of both tables, 2 or 3 */
+    FURZELADLE_RECORD_SIZE = 207
 };
+
+/* The numbers of a pair and of a place, below. */
+enum { FURZELADLE_PAIR_SIZE = 3, FURZELADLE_PLACE_SIZE = 3 };
 
 /* What a call answers where it does not refuse. A refusal is minus its number. */
 enum furzeladle_answer {
@@ -87,24 +122,29 @@ enum furzeladle_answer {
 };
 
 /* Too short a slice (query, session, pair or place) is -11. It is looked at before anything else, because no record can
- * be seen then. A refused call changes nothing that is lent. Numbers behind those named here are never read or changed. */
+ * be seen then. A refused call changes nothing that is lent. Numbers behind those named here stay unread and unchanged.
+ */
 
-/* Opens a session of a query. Refused by 1, 2, 3, 12, 4, in this order: `session` is as it was, so that a record that
- * stood there is not lost, and one that was never written holds whatever the caller put there. */
+/* Opens a session of a query. Refused by 1, 2, 3, 12; by 10 where a kind is not the field table's or not the trim
+ * table's; by 4, each table counted by its own kind's row; by 15 where the two are on different cards; in this order.
+ * Then `session` is as it was, so that a record that stood there is not lost, and one that was never written holds
+ * whatever the caller put there. */
 int32_t furzeladle_open(const uint32_t *query, size_t query_len, const int32_t *f, size_t f_len, const int32_t *t,
                         size_t t_len, uint32_t *session, size_t session_len);
 
-/* Reads one block. Done, settled, or refused by 5, 4, 6, 7: then the record is as it was. */
+/* Reads one block. Done, settled, or refused by 5, 4, 6, 7: then the record is as it was. In this call and the next
+ * two the record's card says how many numbers a row has. */
 int32_t furzeladle_read(const int32_t *f, size_t f_len, const int32_t *t, size_t t_len, uint32_t *session,
                         size_t session_len);
 
-/* Takes the next pair. Given: `pair` gets its sum, field row and trim row (rows are numbered from 1), and it moves out of
- * the record. Not yet, finished, or refused by 5, 4, 6, 7: record and pair are as they were. */
+/* Takes the next pair. Given: `pair` gets its sum, field row and trim row (rows are numbered from 1), and it moves out
+ * of the record. Not yet, finished, or refused by 5, 4, 6, 7: record and pair are as they were. */
 int32_t furzeladle_take(const int32_t *f, size_t f_len, const int32_t *t, size_t t_len, uint32_t *session,
                         size_t session_len, uint32_t *pair, size_t pair_len);
 
-/* Shows the rows last read: `place` gets the table (1 field, 2 trim), the first row, numbered from 1, and how many. Three
- * zeros where nothing was read, or the record or a table does not fit (5, 4): no number goes with that. The answer is 0. */
+/* Shows the rows last read: `place` gets the table (1 field, 2 trim, on either card), the first row, numbered from 1,
+ * and how many. Three zeros where nothing was read, or the record or a table does not fit (5, 4): no number goes with
+ * that. The answer is 0. */
 int32_t furzeladle_show(const int32_t *f, size_t f_len, const int32_t *t, size_t t_len, const uint32_t *session,
                         size_t session_len, uint32_t *place, size_t place_len);
 
@@ -113,9 +153,9 @@ int32_t furzeladle_show(const int32_t *f, size_t f_len, const int32_t *t, size_t
  * `query` is as at opening. From the front of `out`: field rows read, trim rows read, block pairs joined; then six
  * numbers a pair, best first: sum, field row, trim row (from 1), field pattern number, trim pattern number, squared
  * distance. The answer is how many pairs there are (0 to 64), or minus the refusal: first 11, fewer than
- * FURZELADLE_QUERY_LEAST numbers of a query; 1, 2, 3, 12, 4 at opening; 6 or 7 of a row that was read; and 11 for the
- * place of the answer comes last, fewer than FURZELADLE_QUERY_SIZE lent. Refused, `out` is as it was; accepted, so are
- * the numbers behind the last pair. Rows that were not read were not looked at.
+ * FURZELADLE_QUERY_LEAST numbers of a query; 1, 2, 3, 12, 10, 4, 15 at opening; 6 or 7 of a row that was read; and 11
+ * for the place of the answer comes last, fewer than FURZELADLE_QUERY_SIZE lent. Refused, `out` is as it was; accepted,
+ * so are the numbers behind the last pair. Rows that were not read were not looked at.
  *
  * Who lends FURZELADLE_ROOTS_SIZE numbers or more gets each pair's distance as well, from number FURZELADLE_ROOTS on,
  * behind the places of 64 pairs: two numbers a pair, the root of the squared distance and the remainder (below). */
@@ -124,8 +164,8 @@ enum { FURZELADLE_QUERY_SIZE = 387, FURZELADLE_ROOTS = 387, FURZELADLE_ROOTS_SIZ
 int32_t furzeladle_query(const uint32_t *query, size_t query_len, const int32_t *f, size_t f_len, const int32_t *t,
                          size_t t_len, uint64_t *out, size_t out_len);
 
-/* The same query, its listing as the pairing program prints it, the weights left out: how many bytes, or minus the
- * refusal. 11 for the place of the answer, last, is fewer than FURZELADLE_LISTING_SIZE bytes lent. */
+/* The same query, its listing as the pairing program prints it, weights and kinds left out: how many bytes, or minus
+ * the refusal. 11 for the place of the answer, last, is fewer than FURZELADLE_LISTING_SIZE bytes lent. */
 enum { FURZELADLE_LISTING_SIZE = 2668 };
 
 int32_t furzeladle_listing(const uint32_t *query, size_t query_len, const int32_t *f, size_t f_len, const int32_t *t,

@@ -8,14 +8,14 @@ use crate::sweep::{spots, sweep, Spot};
 use furzeladle::Query;
 
 /// A block sorted by a, and its upper score.
-struct Block {
-    spots: Vec<Spot>,
+struct Block<const W: usize> {
+    spots: Vec<Spot<W>>,
     upper: u32,
 }
 
-impl Block {
-    fn of(t: &[i32], from: u32, to: u32) -> Block {
-        let rows = part(t, from, to);
+impl<const W: usize> Block<W> {
+    fn of(t: &[i32], from: u32, to: u32) -> Self {
+        let rows = part::<W>(t, from, to);
         Block {
             spots: spots(rows, from),
             upper: rows[1] as u32,
@@ -24,7 +24,12 @@ impl Block {
 }
 
 /// Joins a field block and a trim block unless their upper scores are within the bound: whether, and the tests.
-fn join(field: &Block, trim: &Block, radius: i32, held: &mut Held) -> (u64, u64) {
+fn join<const W: usize>(
+    field: &Block<W>,
+    trim: &Block<W>,
+    radius: i32,
+    held: &mut Held,
+) -> (u64, u64) {
     if (field.upper + trim.upper) as i32 <= held.bound() {
         return (0, 0);
     }
@@ -32,9 +37,9 @@ fn join(field: &Block, trim: &Block, radius: i32, held: &mut Held) -> (u64, u64)
     (1, tests)
 }
 
-pub fn swept(query: Query, field: &[i32], trim: &[i32]) -> Outcome {
-    let (mut reading, mut held) = start(query, field, trim);
-    let mut blocks: [Vec<Block>; 2] = [Vec::new(), Vec::new()];
+pub fn swept<const W: usize>(query: Query, field: &[i32], trim: &[i32]) -> Outcome {
+    let (mut reading, mut held) = start::<W>(query, field, trim);
+    let mut blocks: [Vec<Block<W>>; 2] = [Vec::new(), Vec::new()];
     let (mut joined, mut tests) = (0, 0);
     read_until_secured(
         &mut reading,

@@ -14,11 +14,14 @@ pub enum Checks {
     EachRowOnce,
 }
 
-pub struct Join<'a> {
+/// Over rows of W numbers.
+pub struct Join<'a, const W: usize> {
     pub query: Query,
     /// Of the field table, then of the trim table.
     pub weights: [u32; 2],
     pub tables: [&'a [i32]; 2],
+    /// The number of a shade's coordinates.
+    pub card: u32,
     pub rows: [u32; 2],
     pub depths: [u32; 2],
     pub last: u32,
@@ -29,13 +32,14 @@ pub struct Join<'a> {
     checks: Checks,
 }
 
-impl<'a> Join<'a> {
-    pub fn open(asked: Asked, field: &'a [i32], trim: &'a [i32], checks: Checks) -> Join<'a> {
+impl<'a, const W: usize> Join<'a, W> {
+    pub fn open(asked: Asked, field: &'a [i32], trim: &'a [i32], checks: Checks) -> Self {
         Join {
             query: asked.query,
             weights: [asked.field_weight.0, asked.trim_weight.0],
             tables: [field, trim],
-            rows: [count(field), count(trim)],
+            card: W as u32 - 2,
+            rows: [count::<W>(field), count::<W>(trim)],
             depths: [0; 2],
             last: 0,
             out: 0,
@@ -52,19 +56,20 @@ impl<'a> Join<'a> {
 
     /// What a row adds to a sum.
     fn worth(&self, i: usize, row: u32) -> u32 {
-        self.weights[i] * score(self.tables[i], row)
+        self.weights[i] * score::<W>(self.tables[i], row)
     }
 
     /// All rows are read, or a withdrawn one is, which the last row read then is too.
     fn read_out(&self, i: usize) -> bool {
         let depth = self.depths[i];
-        depth == self.rows[i] || (depth > 0 && score(self.tables[i], depth - 1) == 0)
+        depth == self.rows[i] || (depth > 0 && score::<W>(self.tables[i], depth - 1) == 0)
     }
 
     /// A table has no rows, or its first row is read and withdrawn.
     fn a_table_is_empty(&self) -> bool {
-        let empty =
-            |i: usize| self.rows[i] == 0 || (self.depths[i] > 0 && score(self.tables[i], 0) == 0);
+        let empty = |i: usize| {
+            self.rows[i] == 0 || (self.depths[i] > 0 && score::<W>(self.tables[i], 0) == 0)
+        };
         empty(0) || empty(1)
     }
 
@@ -104,11 +109,11 @@ impl<'a> Join<'a> {
     fn join(&mut self, [f, f_end]: [u32; 2], [t, t_end]: [u32; 2]) {
         let square = square(self.query);
         let [v, w] = self.weights.map(|weight| weight as i32);
-        let x = part(self.tables[0], f, f_end);
-        let y = part(self.tables[1], t, t_end);
-        for (i, r) in x.chunks_exact(4).enumerate() {
-            for (j, s) in y.chunks_exact(4).enumerate() {
-                if near(r, s, square) {
+        let x = part::<W>(self.tables[0], f, f_end);
+        let y = part::<W>(self.tables[1], t, t_end);
+        for (i, r) in x.chunks_exact(W).enumerate() {
+            for (j, s) in y.chunks_exact(W).enumerate() {
+                if near::<W>(r, s, square) {
                     let sum = (v * r[1] + w * s[1]) as u32;
                     let (field, trim) = (f + i as u32 + 1, t + j as u32 + 1);
                     self.held.put(Pair { sum, field, trim });
@@ -123,8 +128,8 @@ impl<'a> Join<'a> {
     /// for each table; a block pair without any is joined all the same.
     fn meet(&mut self, new: usize, from: u32, to: u32) {
         let old = 1 - new;
-        let new_end = live_end(self.tables[new], from, to);
-        let old_end = live_end(self.tables[old], 0, self.depths[old]);
+        let new_end = live_end::<W>(self.tables[new], from, to);
+        let old_end = live_end::<W>(self.tables[old], 0, self.depths[old]);
         let mut start = 0;
         while start < self.depths[old] {
             let end = (start + self.query.block).min(self.depths[old]);
@@ -153,7 +158,7 @@ impl<'a> Join<'a> {
         let new = self.next_table();
         let from = self.depths[new];
         let to = (from + self.query.block).min(self.rows[new]);
-        if !rows_legal(self.tables[new], from, to) {
+        if !rows_legal::<W>(self.tables[new], from, to) {
             return None;
         }
         self.meet(new, from, to);
@@ -172,8 +177,8 @@ impl<'a> Join<'a> {
     }
 }
 
-fn run(asked: Asked, field: &[i32], trim: &[i32], checks: Checks) -> Outcome {
-    let mut join = Join::open(asked, field, trim, checks);
+fn run<const W: usize>(asked: Asked, field: &[i32], trim: &[i32], checks: Checks) -> Outcome {
+    let mut join = Join::<W>::open(asked, field, trim, checks);
     while join.read() == Some(true) {}
     let mut sums = Vec::new();
     while let Some(pair) = join.take() {
@@ -187,10 +192,10 @@ fn run(asked: Asked, field: &[i32], trim: &[i32], checks: Checks) -> Outcome {
     }
 }
 
-pub fn same_checks(asked: Asked, field: &[i32], trim: &[i32]) -> Outcome {
-    run(asked, field, trim, Checks::EveryCall)
+pub fn same_checks<const W: usize>(asked: Asked, field: &[i32], trim: &[i32]) -> Outcome {
+    run::<W>(asked, field, trim, Checks::EveryCall)
 }
 
-pub fn rows_checked_once(asked: Asked, field: &[i32], trim: &[i32]) -> Outcome {
-    run(asked, field, trim, Checks::EachRowOnce)
+pub fn rows_checked_once<const W: usize>(asked: Asked, field: &[i32], trim: &[i32]) -> Outcome {
+    run::<W>(asked, field, trim, Checks::EachRowOnce)
 }

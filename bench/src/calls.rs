@@ -13,7 +13,7 @@ const QUERY: Query = Query {
     radius: 0,
 };
 /// The record's size in bytes.
-const RECORD: usize = 824;
+const RECORD: usize = 828;
 
 /// Nanoseconds of one of many calls, the least of several rounds.
 fn ns_a_call(mut call: impl FnMut()) -> f64 {
@@ -24,7 +24,7 @@ fn ns_a_call(mut call: impl FnMut()) -> f64 {
 pub fn run() {
     let mut ours = Session::open(QUERY, &ROW, &ROW).unwrap();
     while ours.read(&ROW, &ROW) == Ok(Progress::Read) {}
-    let mut plain = Join::open(QUERY.into(), &ROW, &ROW, Checks::EveryCall);
+    let mut plain = Join::<4>::open(QUERY.into(), &ROW, &ROW, Checks::EveryCall);
     while plain.read() == Some(true) {}
     let (from, mut to) = ([1u8; RECORD], [0u8; RECORD]);
     let library = ns_a_call(|| {

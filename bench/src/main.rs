@@ -60,7 +60,16 @@ fn queries(full: bool, seeds: u64, plot_to: &str) {
         "\n## All {} cases: the library's time over the other's\n",
         all.len()
     );
-    report::summary(&all);
+    report::summary("Beside", &all);
+    let new: Vec<Measured> = suite::new_card(full)
+        .iter()
+        .flat_map(|cases| section(cases, seeds))
+        .collect();
+    println!(
+        "\n## The {} cases on the new card: the library's time over the other's\n",
+        new.len()
+    );
+    report::summary("Beside, on the new card", &new);
 }
 
 fn main() {
@@ -75,7 +84,8 @@ fn main() {
         ["short", plot_to] => queries(false, 3, plot_to),
         ["full", plot_to] => queries(true, 5, plot_to),
         _ => {
-            eprintln!("usage: bench/run [short|full|files|calls|roots], or bench/run profile CONTENDER RADIUS K BLOCK RUNS");
+            eprintln!("usage: bench/run [short|full|files|calls|roots]");
+            eprintln!("   or: bench/run profile CONTENDER RADIUS K BLOCK RUNS [new]");
             std::process::exit(2);
         }
     }

@@ -122,7 +122,8 @@ fn assert_agreed(outcomes: &[Outcome]) {
 }
 
 fn seeded(case: &Case, seed: u64) -> Seeded {
-    let t = Weighed::new(case.asked, tables(case.shape, case.rows, seed));
+    let card = case.asked.field_card;
+    let t = Weighed::new(case.asked, tables(case.shape, card, case.rows, seed));
     let (ms, outcomes) = least_times(case.asked, &t);
     assert_agreed(&outcomes);
     let lent = judge::Tables {

@@ -11,18 +11,18 @@ use furzeladle::Query;
 const INFINITE: i32 = i32::MAX / 2;
 
 /// A reading by that rule, R being the field table and S the trim table.
-pub struct Reading<'a> {
+pub struct Reading<'a, const W: usize> {
     pub tables: [&'a [i32]; 2],
     pub depths: [u32; 2],
     rows: [u32; 2],
 }
 
-impl<'a> Reading<'a> {
-    pub fn new(field: &'a [i32], trim: &'a [i32]) -> Reading<'a> {
+impl<'a, const W: usize> Reading<'a, W> {
+    pub fn new(field: &'a [i32], trim: &'a [i32]) -> Self {
         Reading {
             tables: [field, trim],
             depths: [0; 2],
-            rows: [count(field), count(trim)],
+            rows: [count::<W>(field), count::<W>(trim)],
         }
     }
 
@@ -34,7 +34,7 @@ impl<'a> Reading<'a> {
     fn lowest(&self, i: usize) -> i32 {
         match self.depths[i] {
             0 => INFINITE,
-            depth => score(self.tables[i], depth - 1) as i32,
+            depth => score::<W>(self.tables[i], depth - 1) as i32,
         }
     }
 
@@ -61,7 +61,7 @@ impl<'a> Reading<'a> {
 
     /// Whether the threshold is down to the bound.
     pub fn secured(&self, held: &Held) -> bool {
-        let highest = |i: usize| score(self.tables[i], 0) as i32;
+        let highest = |i: usize| score::<W>(self.tables[i], 0) as i32;
         let threshold = (highest(0) + self.lowest(1)).max(self.lowest(0) + highest(1));
         threshold <= held.bound()
     }
@@ -77,11 +77,11 @@ impl<'a> Reading<'a> {
 }
 
 /// Reads by the rule until secured, `rows` at a time; `meet` joins what was just read and counts its tests.
-pub fn read_until_secured(
-    reading: &mut Reading,
+pub fn read_until_secured<const W: usize>(
+    reading: &mut Reading<W>,
     held: &mut Held,
     rows: u32,
-    mut meet: impl FnMut(&Reading, &mut Held, usize, (u32, u32)),
+    mut meet: impl FnMut(&Reading<W>, &mut Held, usize, (u32, u32)),
 ) {
     while reading.more_exist() {
         let new = reading.next_table();
@@ -94,6 +94,10 @@ pub fn read_until_secured(
 }
 
 /// A query with nothing held and nothing read.
-pub fn start<'a>(query: Query, field: &'a [i32], trim: &'a [i32]) -> (Reading<'a>, Held) {
+pub fn start<'a, const W: usize>(
+    query: Query,
+    field: &'a [i32],
+    trim: &'a [i32],
+) -> (Reading<'a, W>, Held) {
     (Reading::new(field, trim), Held::new(query.k))
 }

@@ -1,7 +1,7 @@
 //! What was measured, as Markdown tables: counts first, then times.
 use crate::contenders::{BLOCK_PRINTED, CONTENDERS, LIBRARY, SAME_CHECKS, SCORE_FIRST, SWEEP};
 use crate::measure::{Measured, Spread};
-use furzeladle::Asked;
+use furzeladle::{Asked, Card};
 
 /// With commas between thousands.
 pub fn grouped(n: u64) -> String {
@@ -54,16 +54,25 @@ fn weights(asked: Asked) -> String {
     }
 }
 
+/// The card, where it is not the old one.
+fn card(asked: Asked) -> &'static str {
+    match asked.field_card {
+        Card::Old => "",
+        Card::New => ", new card",
+    }
+}
+
 /// What every row of a table begins with.
 fn query(m: &Measured) -> Vec<String> {
     let (case, q) = (m.case, m.case.asked.query);
     let (f, t) = case.rows;
     let tables = format!(
-        "{}, {} × {}{}",
+        "{}, {} × {}{}{}",
         case.shape.name(),
         grouped(f.into()),
         grouped(t.into()),
-        weights(case.asked)
+        weights(case.asked),
+        card(case.asked)
     );
     let number = |n: u32| grouped(n.into());
     vec![tables, number(q.radius), number(q.k), number(q.block)]
@@ -131,10 +140,11 @@ pub fn times(measured: &[Measured]) {
     }
 }
 
-/// Each contender's ratios over all cases: the middle one, the lowest and the highest of the cases' medians.
-pub fn summary(measured: &[Measured]) {
+/// Each contender's ratios over these cases: the middle one, the lowest and the highest of the cases' medians.
+/// The first column's title is the group's.
+pub fn summary(beside: &str, measured: &[Measured]) {
     head(&[
-        "Beside",
+        beside,
         "Median",
         "Lowest",
         "Highest",

@@ -1,25 +1,26 @@
-//! Rows of a table as the baselines read them, numbered from 0 here.
+//! Rows of a table as the baselines read them, numbered from 0 here. W is how many numbers a row has: 4, or 5 on the
+//! new card.
 use furzeladle::Query;
 
-pub fn count(t: &[i32]) -> u32 {
-    (t.len() / 4) as u32
+pub fn count<const W: usize>(t: &[i32]) -> u32 {
+    (t.len() / W) as u32
 }
 
-pub fn score(t: &[i32], i: u32) -> u32 {
-    t[4 * i as usize + 1] as u32
+pub fn score<const W: usize>(t: &[i32], i: u32) -> u32 {
+    t[W * i as usize + 1] as u32
 }
 
 /// Rows from one number to before another.
-pub fn part(t: &[i32], from: u32, to: u32) -> &[i32] {
-    &t[4 * from as usize..4 * to as usize]
+pub fn part<const W: usize>(t: &[i32], from: u32, to: u32) -> &[i32] {
+    &t[W * from as usize..W * to as usize]
 }
 
 /// Where the withdrawn rows among these begin, or `to`. Scores fall, so that they stand last.
-pub fn live_end(t: &[i32], from: u32, to: u32) -> u32 {
-    if from == to || score(t, to - 1) > 0 {
+pub fn live_end<const W: usize>(t: &[i32], from: u32, to: u32) -> u32 {
+    if from == to || score::<W>(t, to - 1) > 0 {
         return to;
     }
-    let (rows, _) = part(t, from, to).as_chunks::<4>();
+    let (rows, _) = part::<W>(t, from, to).as_chunks::<W>();
     from + rows.partition_point(|r| r[1] > 0) as u32
 }
 
@@ -28,8 +29,9 @@ pub fn square(query: Query) -> i32 {
     (query.radius * query.radius) as i32
 }
 
+/// The shade is what stands behind number and score.
 #[inline]
-pub fn near(x: &[i32], y: &[i32], square: i32) -> bool {
-    let (da, db) = (x[2] - y[2], x[3] - y[3]);
-    da * da + db * db <= square
+pub fn near<const W: usize>(x: &[i32], y: &[i32], square: i32) -> bool {
+    let gap = |i: usize| x[i] - y[i];
+    (2..W).map(|i| gap(i) * gap(i)).sum::<i32>() <= square
 }

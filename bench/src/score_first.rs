@@ -7,7 +7,7 @@ use crate::rows::{near, part, square};
 use furzeladle::{Pair, Query};
 
 /// Probes a row against the other table's rows, best first, while a sum can still pass the bound: how many were tested.
-fn probe(
+fn probe<const W: usize>(
     row: &[i32],
     others: &[i32],
     square: i32,
@@ -16,13 +16,13 @@ fn probe(
 ) -> u64 {
     let mut tests = 0;
     let mut bound = held.bound();
-    for (j, other) in others.chunks_exact(4).enumerate() {
+    for (j, other) in others.chunks_exact(W).enumerate() {
         let sum = row[1] + other[1];
         if sum <= bound {
             break;
         }
         tests += 1;
-        if near(row, other, square) {
+        if near::<W>(row, other, square) {
             held.put(pair(sum as u32, j as u32 + 1));
             bound = held.bound();
         }
@@ -30,8 +30,8 @@ fn probe(
     tests
 }
 
-pub fn scan(query: Query, field: &[i32], trim: &[i32]) -> Outcome {
-    let (mut reading, mut held) = start(query, field, trim);
+pub fn scan<const W: usize>(query: Query, field: &[i32], trim: &[i32]) -> Outcome {
+    let (mut reading, mut held) = start::<W>(query, field, trim);
     let square = square(query);
     let mut tests = 0;
     read_until_secured(
@@ -39,9 +39,9 @@ pub fn scan(query: Query, field: &[i32], trim: &[i32]) -> Outcome {
         &mut held,
         1,
         |reading, held, new, (from, to)| {
-            let row = part(reading.tables[new], from, to);
-            let others = part(reading.tables[1 - new], 0, reading.depths[1 - new]);
-            tests += probe(row, others, square, held, |sum, other| match new {
+            let row = part::<W>(reading.tables[new], from, to);
+            let others = part::<W>(reading.tables[1 - new], 0, reading.depths[1 - new]);
+            tests += probe::<W>(row, others, square, held, |sum, other| match new {
                 0 => Pair {
                     sum,
                     field: to,

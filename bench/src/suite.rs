@@ -1,7 +1,7 @@
 //! Which cases a mode measures: one thing varied around a middle query, or in full every combination.
 use crate::measure::Case;
 use crate::tables::Shape;
-use furzeladle::{Asked, FieldWeight, Query, TrimWeight};
+use furzeladle::{Asked, Card, FieldWeight, Query, TrimWeight};
 
 const ARCHIVE: (u32, u32) = (38_000, 12_000);
 const RADII: [u32; 6] = [3, 13, 26, 128, 255, 1_000];
@@ -17,6 +17,15 @@ const MIDDLE: Query = Query {
     k: 10,
     block: 128,
     radius: 26,
+};
+/// On the new card, the radii at which as many pairs qualify as at those above: a ball in place of a disc, L over its
+/// range. A short run leaves out two of them, and has fewer blocks.
+const NEW_RADII: [u32; 6] = [41, 108, 172, 497, 787, 1_957];
+const FEW_NEW_RADII: [u32; 4] = [108, 172, 787, 1_957];
+const FEW_BLOCKS: [u32; 2] = [1, 16];
+const NEW_MIDDLE: Query = Query {
+    radius: 172,
+    ..MIDDLE
 };
 
 pub struct Section {
@@ -37,11 +46,11 @@ fn radii(shape: Shape, radii: &[u32]) -> Vec<Case> {
     radii.iter().map(case).collect()
 }
 
-/// List lengths and blocks around the middle query, which stands among the radii.
-fn lengths_and_blocks() -> Vec<Case> {
-    let lengths = LENGTHS.iter().map(|&k| Query { k, ..MIDDLE });
-    let blocks = BLOCKS.iter().map(|&block| Query { block, ..MIDDLE });
-    let others = lengths.chain(blocks).filter(|query| *query != MIDDLE);
+/// List lengths and blocks around a middle query, which stands among the radii.
+fn lengths_and_blocks(middle: Query, lengths: &[u32], blocks: &[u32]) -> Vec<Case> {
+    let lengths = lengths.iter().map(|&k| Query { k, ..middle });
+    let blocks = blocks.iter().map(|&block| Query { block, ..middle });
+    let others = lengths.chain(blocks).filter(|query| *query != middle);
     others.map(|query| archive(Shape::Uniform, query)).collect()
 }
 
@@ -60,11 +69,11 @@ fn combinations() -> Vec<Case> {
     cases
 }
 
-fn growth(sizes: &[u32]) -> Vec<Case> {
+fn growth(middle: Query, sizes: &[u32]) -> Vec<Case> {
     let case = |&rows| Case {
         shape: Shape::Uniform,
         rows: (rows, rows),
-        asked: MIDDLE.into(),
+        asked: middle.into(),
     };
     sizes.iter().map(case).collect()
 }
@@ -96,7 +105,7 @@ pub fn sections(full: bool) -> Vec<Section> {
         (combinations(), RADII.as_slice(), GROWTH.as_slice())
     } else {
         (
-            lengths_and_blocks(),
+            lengths_and_blocks(MIDDLE, &LENGTHS, &BLOCKS),
             FEW_RADII.as_slice(),
             FEW_GROWTH.as_slice(),
         )
@@ -108,8 +117,43 @@ pub fn sections(full: bool) -> Vec<Section> {
         section("List length and block", others),
         section("Clustered shades", radii(Shape::Clustered, chosen)),
         section("Adversarial scores", adversarial),
-        section("Growth at a fixed share of qualifying pairs", growth(sizes)),
+        section(
+            "Growth at a fixed share of qualifying pairs",
+            growth(MIDDLE, sizes),
+        ),
         section("Weights", weights()),
         section("Withdrawn rows", withdrawn(full)),
+    ]
+}
+
+/// The group on the new card.
+pub fn new_card(full: bool) -> Vec<Section> {
+    let section = |title, mut cases: Vec<Case>| {
+        cases
+            .iter_mut()
+            .for_each(|case| case.asked = case.asked.on(Card::New));
+        Section { title, cases }
+    };
+    if full {
+        return vec![
+            section("New card, radius", radii(Shape::Uniform, &NEW_RADII)),
+            section(
+                "New card, list length and block",
+                lengths_and_blocks(NEW_MIDDLE, &LENGTHS, &BLOCKS),
+            ),
+            section(
+                "New card, clustered shades",
+                radii(Shape::Clustered, &NEW_RADII),
+            ),
+            section("New card, growth", growth(NEW_MIDDLE, &GROWTH)),
+        ];
+    }
+    vec![
+        section("New card, radius", radii(Shape::Uniform, &FEW_NEW_RADII)),
+        section(
+            "New card, block",
+            lengths_and_blocks(NEW_MIDDLE, &[], &FEW_BLOCKS),
+        ),
+        section("New card, growth", growth(NEW_MIDDLE, &GROWTH[..1])),
     ]
 }

@@ -1,10 +1,9 @@
 //! The tables that are joined, always the same ones from the same seed.
-use crate::rows::{count, live_end, part};
-use furzeladle::Asked;
+use furzeladle::{Asked, Card};
 use furzeladle_tests::cases::Dice;
 
-const LOWEST_SHADE: i32 = -12_800;
-const HIGHEST_SHADE: i32 = 12_700;
+/// Lowest and highest a, b and, on the new card, L.
+const RANGES: [(i32, i32); 3] = [(-12_800, 12_700), (-12_800, 12_700), (0, 10_000)];
 const CLUSTERS: usize = 40;
 /// How far a shade may lie from its cluster's middle, on each axis: three throws of this, added.
 const CLUSTER_REACH: i32 = 400;
@@ -12,7 +11,7 @@ const CLUSTER_REACH: i32 = 400;
 /// How shades and scores are spread.
 #[derive(Clone, Copy, Debug, PartialEq, Eq)]
 pub enum Shape {
-    /// Shades uniform over the plane, scores over their range.
+    /// Shades uniform over their card, scores over their range.
     Uniform,
     /// Shades around 40 places that both tables share.
     Clustered,
@@ -59,75 +58,94 @@ pub struct Weighed {
 
 impl Weighed {
     pub fn new(asked: Asked, scores: Tables) -> Weighed {
+        let wide = asked.field_card.width();
         let worth = Tables {
-            field: times(&scores.field, asked.field_weight.0),
-            trim: times(&scores.trim, asked.trim_weight.0),
+            field: times(&scores.field, wide, asked.field_weight.0),
+            trim: times(&scores.trim, wide, asked.trim_weight.0),
         };
         Weighed { scores, worth }
     }
 }
 
-/// The live rows of a table with their scores multiplied.
-fn times(t: &[i32], weight: u32) -> Vec<i32> {
-    let mut t = part(t, 0, live_end(t, 0, count(t))).to_vec();
-    t.chunks_exact_mut(4)
+/// The live rows of a table with their scores multiplied; a row is so many numbers wide.
+fn times(t: &[i32], wide: usize, weight: u32) -> Vec<i32> {
+    let live = t.chunks_exact(wide).take_while(|row| row[1] > 0).count();
+    let mut t = t[..wide * live].to_vec();
+    t.chunks_exact_mut(wide)
         .for_each(|row| row[1] *= weight as i32);
     t
 }
 
-fn anywhere(dice: &mut Dice) -> [i32; 2] {
-    [(); 2].map(|()| dice.between(LOWEST_SHADE, HIGHEST_SHADE))
+/// A shade: as many of these as its card has.
+type Place = [i32; 3];
+
+fn anywhere(dice: &mut Dice, ranges: &[(i32, i32)]) -> Place {
+    let mut place = [0; 3];
+    for (axis, &(low, high)) in place.iter_mut().zip(ranges) {
+        *axis = dice.between(low, high);
+    }
+    place
 }
 
-fn around(dice: &mut Dice, middle: [i32; 2]) -> [i32; 2] {
-    middle.map(|axis| {
+fn around(dice: &mut Dice, ranges: &[(i32, i32)], middle: Place) -> Place {
+    let mut place = middle;
+    for (axis, &(low, high)) in place.iter_mut().zip(ranges) {
         let off: i32 = (0..3)
             .map(|_| dice.between(-CLUSTER_REACH, CLUSTER_REACH))
             .sum();
-        (axis + off).clamp(LOWEST_SHADE, HIGHEST_SHADE)
-    })
+        *axis = (*axis + off).clamp(low, high);
+    }
+    place
 }
 
 /// A legal table; its shades lie around these places, or anywhere if there are none.
-fn table(dice: &mut Dice, rows: u32, (low, high): (i32, i32), middles: &[[i32; 2]]) -> Vec<i32> {
+fn table(
+    dice: &mut Dice,
+    rows: u32,
+    (low, high): (i32, i32),
+    ranges: &[(i32, i32)],
+    middles: &[Place],
+) -> Vec<i32> {
     let mut scores: Vec<i32> = (0..rows).map(|_| dice.between(low, high)).collect();
     scores.sort_unstable_by_key(|score| -score);
-    let mut numbers = Vec::with_capacity(4 * rows as usize);
+    let mut numbers = Vec::with_capacity((2 + ranges.len()) * rows as usize);
     for (i, score) in scores.into_iter().enumerate() {
-        let [a, b] = match middles {
-            [] => anywhere(dice),
+        let place = match middles {
+            [] => anywhere(dice, ranges),
             _ => {
                 let middle = dice.pick(middles);
-                around(dice, middle)
+                around(dice, ranges, middle)
             }
         };
-        numbers.extend([i as i32 + 1, score, a, b]);
+        numbers.extend([i as i32 + 1, score]);
+        numbers.extend(&place[..ranges.len()]);
     }
     numbers
 }
 
 /// Withdraws the last tenth of a table.
-fn withdraw(t: &mut [i32]) {
-    let live = count(t) - count(t) / 10;
-    t.chunks_exact_mut(4)
-        .skip(live as usize)
+fn withdraw(t: &mut [i32], wide: usize) {
+    let rows = t.len() / wide;
+    t.chunks_exact_mut(wide)
+        .skip(rows - rows / 10)
         .for_each(|row| row[1] = 0);
 }
 
-pub fn tables(shape: Shape, (m, n): (u32, u32), seed: u64) -> Tables {
+pub fn tables(shape: Shape, card: Card, (m, n): (u32, u32), seed: u64) -> Tables {
     let mut dice = Dice::new(seed);
+    let ranges = &RANGES[..card.width() - 2];
     let clusters = if shape == Shape::Clustered {
         CLUSTERS
     } else {
         0
     };
-    let middles: Vec<[i32; 2]> = (0..clusters).map(|_| anywhere(&mut dice)).collect();
+    let middles: Vec<Place> = (0..clusters).map(|_| anywhere(&mut dice, ranges)).collect();
     let [of_field, of_trim] = shape.scores();
-    let mut field = table(&mut dice, m, of_field, &middles);
-    let mut trim = table(&mut dice, n, of_trim, &middles);
+    let mut field = table(&mut dice, m, of_field, ranges, &middles);
+    let mut trim = table(&mut dice, n, of_trim, ranges, &middles);
     if shape == Shape::Withdrawn {
-        withdraw(&mut field);
-        withdraw(&mut trim);
+        withdraw(&mut field, card.width());
+        withdraw(&mut trim, card.width());
     }
     Tables { field, trim }
 }

@@ -1,16 +1,20 @@
 //! The archive's command: beside the pairing program's stored cases, beside its own with weights, and beyond 512 rows
-//! beside the model.
-use furzeladle::{Asked, FieldWeight, Query, TrimWeight};
-use furzeladle_tests::cases::{table, Dice, Spread};
-use furzeladle_tests::model::{self, Said};
+//! and on the new card beside the model.
+use furzeladle::{Asked, Card, FieldWeight, Query, TrimWeight};
+use furzeladle_tests::cases::{table, Dice, Light, Spread};
+use furzeladle_tests::model::{self, Opening, Said};
 use furzeladle_tests::{file, spelled};
 use std::ffi::OsStr;
 use std::fs;
+use std::net::Shutdown;
+use std::os::fd::OwnedFd;
+use std::os::unix::net::UnixStream;
 use std::path::{Path, PathBuf};
 use std::process::{Command, Output, Stdio};
 
-/// Above this a file is too long for the program, not for the command.
-const PROGRAM_BYTES: u64 = 13_837;
+/// Above this a file is too long for the program, not for the command: of kinds 1 and 2, and of kinds 3 and 4.
+const PROGRAM_BYTES: usize = 13_837;
+const NEW_PROGRAM_BYTES: usize = 16_909;
 
 fn command() -> Command {
     Command::new(env!("CARGO_BIN_EXE_furzeladle"))
@@ -62,13 +66,11 @@ fn modelled(asked: Asked, f: &[i32], t: &[i32]) -> Vec<u8> {
     let Query { k, block, radius } = asked.query;
     let mut text = format!("{k:>6}{block:>6}{radius:>6}\n");
     let mut rank = 1;
+    let wide = model::wide(asked.field_card);
     while let Said::Given(pair) = model::take(f, t, &mut record) {
-        let (x, y) = (
-            &f[4 * pair.field as usize - 4..],
-            &t[4 * pair.trim as usize - 4..],
-        );
-        let (da, db) = (i64::from(x[2] - y[2]), i64::from(x[3] - y[3]));
-        let square = (da * da + db * db) as u64;
+        let x = f.chunks(wide).nth(pair.field as usize - 1).unwrap();
+        let y = t.chunks(wide).nth(pair.trim as usize - 1).unwrap();
+        let square = model::squared_distance(x, y);
         let s = square.isqrt();
         text += &format!(
             "{rank:>6}{:>6}{:>6}{:>6}{s:>8}{:>8}\n",
@@ -97,10 +99,25 @@ fn query_numbers(stdin: &[u8]) -> Option<Vec<String>> {
         .then(|| numbers.to_vec())
 }
 
-/// The first refusal of the two files and where it is, by the reader that shares nothing with the library.
+/// The kind that a file is read as, the field's or the trim's on the old card being given.
+fn kind(bytes: &[u8], old: i32) -> i32 {
+    match (old, bytes) {
+        (1, [_, _, _, _, _, _, b' ', b' ', b' ', b' ', b' ', b'3', ..]) => 3,
+        (2, [_, _, _, _, _, _, b' ', b' ', b' ', b' ', b' ', b'4', ..]) => 4,
+        _ => old,
+    }
+}
+
+/// The rows of a file read as that kind, by the reader that shares nothing with the library.
+fn read(path: &Path, old: i32) -> Result<Vec<Vec<i32>>, (u32, u32)> {
+    let bytes = fs::read(path).unwrap();
+    spelled::rows(&bytes, kind(&bytes, old))
+}
+
+/// The first refusal of the two files and where it is, by that reader.
 fn file_refusal(files: &[PathBuf; 2]) -> Option<(u32, String)> {
-    files.iter().zip([1, 2]).find_map(|(path, kind)| {
-        let (number, row) = spelled::rows(&fs::read(path).unwrap(), kind).err()?;
+    files.iter().zip([1, 2]).find_map(|(path, old)| {
+        let (number, row) = read(path, old).err()?;
         let name = path.file_name().unwrap().to_str().unwrap();
         let place = match (number, row) {
             (9, 0) => ", header".to_string(),
@@ -116,11 +133,27 @@ fn beyond_the_program(output: &Output, files: &[PathBuf; 2], numbers: &[String],
     if let Some((number, place)) = file_refusal(files) {
         return assert_refused(output, number, &place, what);
     }
-    let rows = |i: usize| spelled::rows(&fs::read(&files[i]).unwrap(), i as i32 + 1).unwrap();
+    let rows = |i: usize| read(&files[i], i as i32 + 1).unwrap().concat();
+    let is_new = |i: usize| kind(&fs::read(&files[i]).unwrap(), i as i32 + 1) > 2;
+    let card = |i: usize| if is_new(i) { Card::New } else { Card::Old };
     let number = |i: usize| numbers[i].parse().unwrap();
-    let asked = query(number(0), number(1), number(2)).into();
-    let listing = modelled(asked, &rows(0).concat(), &rows(1).concat());
-    assert_listed(output, &listing, what);
+    let asked = Asked::from(query(number(0), number(1), number(2))).cards(card(0), card(1));
+    let (said, _) = model::open(asked, &rows(0), &rows(1));
+    if let Said::Refused(number) = said {
+        return assert_refused(output, number, "query: ", what);
+    }
+    assert_listed(output, &modelled(asked, &rows(0), &rows(1)), what);
+}
+
+/// Whether the program, which takes 512 rows, does not take this file.
+fn is_too_long(path: &Path, old: i32) -> bool {
+    let bytes = fs::read(path).unwrap();
+    let most = if kind(&bytes, old) > 2 {
+        NEW_PROGRAM_BYTES
+    } else {
+        PROGRAM_BYTES
+    };
+    bytes.len() > most
 }
 
 /// How a stored case was used.
@@ -168,8 +201,7 @@ fn answered(case: &Path, numbers: &[String]) -> Used {
         assert_listed(&output, &stdout, &what);
         return Used::Listed;
     }
-    let too_long = |f: &PathBuf| fs::metadata(f).unwrap().len() > PROGRAM_BYTES;
-    if files.iter().any(too_long) {
+    if is_too_long(&files[0], 1) || is_too_long(&files[1], 2) {
         beyond_the_program(&output, &files, numbers, &what);
         return Used::TooLongForTheProgram;
     }
@@ -245,15 +277,22 @@ impl Drop for Folder {
     }
 }
 
+/// A file of a kind with rows of these numbers, four or five each by the kind.
 fn strict(kind: u32, t: &[i32]) -> Vec<u8> {
-    let rows: Vec<[i32; 4]> = t.chunks(4).map(|r| [r[0], r[1], r[2], r[3]]).collect();
-    file(kind, &rows)
+    match kind {
+        3 | 4 => file(kind, &rows::<5>(t)),
+        _ => file(kind, &rows::<4>(t)),
+    }
 }
 
-fn numbers(asked: Asked) -> [String; 5] {
-    let Query { k, block, radius } = asked.query;
-    let (FieldWeight(v), TrimWeight(w)) = (asked.field_weight, asked.trim_weight);
-    [k, block, radius, v, w].map(|n| n.to_string())
+fn rows<const N: usize>(t: &[i32]) -> Vec<[i32; N]> {
+    t.chunks(N).map(|row| row.try_into().unwrap()).collect()
+}
+
+/// The command's numbers: three and the weights.
+fn numbers(asked: Asked) -> Vec<String> {
+    let lent = Opening::from(asked).numbers();
+    lent[..5].iter().map(|n| n.to_string()).collect()
 }
 
 fn query(k: u32, block: u32, radius: u32) -> Query {
@@ -262,10 +301,12 @@ fn query(k: u32, block: u32, radius: u32) -> Query {
 
 /// The command's listing is the model's, and has pairs.
 fn listed_as_modelled(folder: &Folder, f: &[i32], t: &[i32], asked: Asked) -> Vec<u8> {
-    let field = folder.file("FIELD.TAB", &strict(1, f));
-    let trim = folder.file("TRIM.TAB", &strict(2, t));
+    let [field_kind, trim_kind] = Opening::from(asked).kind;
+    let field = folder.file("FIELD.TAB", &strict(field_kind, f));
+    let trim = folder.file("TRIM.TAB", &strict(trim_kind, t));
     let output = pair(&field, &trim, &numbers(asked));
-    let what = format!("{} and {} rows", f.len() / 4, t.len() / 4);
+    let wide = model::wide(asked.field_card);
+    let what = format!("{} and {} rows of {wide}", f.len() / wide, t.len() / wide);
     assert_listed(&output, &modelled(asked, f, t), &what);
     assert!(
         output.stdout.split(|b| *b == b'\n').count() > 3,
@@ -281,16 +322,29 @@ fn beside_the_model(folder: &Folder, (m, n): (u32, u32), spread: Spread, asked: 
     listed_as_modelled(folder, &f, &t, asked.into());
 }
 
+/// Scores that fall evenly, shades all over the old card.
+const STEEP: Spread = Spread {
+    top: 9_999,
+    step: 1,
+    plateau: false,
+    shades: 12_700,
+    extreme: false,
+    light: None,
+};
+
+/// The same on the new card, L all over its range.
+const STEEP_WITH_L: Spread = Spread {
+    light: Some(Light {
+        ground: 5_000,
+        alone: false,
+    }),
+    ..STEEP
+};
+
 #[test]
 fn more_rows_than_the_program_takes() {
     let folder = Folder::new("rows");
-    let steep = Spread {
-        top: 9_999,
-        step: 1,
-        plateau: false,
-        shades: 12_700,
-        extreme: false,
-    };
+    let steep = STEEP;
     let near = Spread {
         shades: 60,
         ..steep
@@ -326,16 +380,9 @@ fn more_rows_than_the_program_takes() {
 #[test]
 fn withdrawn_rows_far_down() {
     let folder = Folder::new("withdrawn");
-    let spread = Spread {
-        top: 9_999,
-        step: 1,
-        plateau: false,
-        shades: 12_700,
-        extreme: false,
-    };
     let mut dice = Dice::new(1);
     let [f, t] = [3_000, 2_000].map(|rows| {
-        let mut t = table(&mut dice, rows, spread);
+        let mut t = table(&mut dice, rows, STEEP);
         let live = 2 * rows as usize / 3;
         t.chunks_mut(4).skip(live).for_each(|row| row[1] = 0);
         t
@@ -344,6 +391,176 @@ fn withdrawn_rows_far_down() {
     let joined = 21 * 14;
     let last = format!("\n  2100  1400{joined:>12}\n");
     assert!(listing.ends_with(last.as_bytes()));
+}
+
+#[test]
+fn tables_on_the_new_card() {
+    let folder = Folder::new("card");
+    let new = |query: Query| query.on(Card::New);
+    let alone = Spread {
+        shades: 5_000,
+        light: Some(Light {
+            ground: 5_000,
+            alone: true,
+        }),
+        ..STEEP
+    };
+    let near = Spread {
+        shades: 60,
+        ..STEEP_WITH_L
+    };
+    beside_the_model(&folder, (1, 1), near, new(query(1, 1, 40_000)));
+    beside_the_model(&folder, (512, 512), STEEP_WITH_L, new(query(10, 16, 2_000)));
+    beside_the_model(&folder, (513, 300), alone, new(query(10, 16, 3)));
+    beside_the_model(
+        &folder,
+        (38_000, 12_000),
+        STEEP_WITH_L,
+        new(query(10, 128, 400)),
+    );
+    beside_the_model(&folder, (65_535, 65_535), near, new(query(64, 1_024, 5)));
+    let weighted = query(64, 7, 9).weights(FieldWeight(2), TrimWeight(3));
+    beside_the_model(&folder, (6_000, 700), near, weighted.on(Card::New));
+}
+
+/// The listing of field and trim files that are named so and hold these bytes.
+fn paired(folder: &Folder, field: &[u8], trim: &[u8], numbers: &[&str]) -> Output {
+    let field = folder.file("FIELD.TAB", field);
+    let trim = folder.file("TRIM.TAB", trim);
+    let numbers: Vec<String> = numbers.iter().map(|word| word.to_string()).collect();
+    pair(&field, &trim, &numbers)
+}
+
+/// 15 comes after the files' refusals and the query's, also where a file has no rows.
+#[test]
+fn files_on_different_cards() {
+    let folder = Folder::new("cards");
+    let ask = |kinds: [u32; 2], rows: [&[i32]; 2], numbers: &[&str]| {
+        let [field, trim] = [0, 1].map(|i| strict(kinds[i], rows[i]));
+        paired(&folder, &field, &trim, numbers)
+    };
+    let (old, new) = (&[1, 5, 0, 0][..], &[1, 5, 0, 0, 9][..]);
+    let good = ["1", "1", "0"];
+    for (kinds, rows) in [
+        ([3, 2], [new, old]),
+        ([1, 4], [old, new]),
+        ([3, 2], [&[], old]),
+        ([1, 4], [old, &[]]),
+        ([3, 2], [&[], &[]]),
+        ([1, 4], [&[1, 5, 0, 0, 1, 5, 0, 0], new]),
+    ] {
+        let output = ask(kinds, rows, &good);
+        assert_refused(&output, 15, "query: ", &format!("{kinds:?}"));
+        assert_eq!(
+            words(&output),
+            "furzeladle: query: refused by 15, cards: the two tables are on different cards\n"
+        );
+        for (numbers, number) in [
+            (&["0", "1", "0"][..], 1),
+            (&["1", "0", "0"], 2),
+            (&["1", "1", "40001"], 3),
+            (&["1", "1", "0", "10", "1"], 12),
+        ] {
+            assert_refused(&ask(kinds, rows, numbers), number, "query: ", "before 15");
+        }
+    }
+    let bad = [1, 5, 0, 0, 10_001];
+    assert_refused(
+        &ask([1, 4], [old, &bad], &good),
+        6,
+        "TRIM.TAB, row 1: ",
+        "L",
+    );
+    assert_refused(
+        &ask([3, 2], [&bad, old], &good),
+        6,
+        "FIELD.TAB, row 1: ",
+        "L",
+    );
+}
+
+/// A file is read on the new card only where it names its own table's kind, just so; whatever else is wrong with it.
+#[test]
+fn what_a_file_names() {
+    let folder = Folder::new("named");
+    let (row, new_row) = (
+        "   101    90      0    300\n",
+        "   101    90      0    300   700\n",
+    );
+    let cases = [
+        // the kind of the other table, or none
+        (format!("     1     4\n{new_row}"), 10, ""),
+        (format!("     1     2\n{row}"), 10, ""),
+        (format!("     1     5\n{row}"), 10, ""),
+        (format!("     1    33\n{new_row}"), 10, ""),
+        // not just so
+        (format!("     1    03\n{new_row}"), 9, ", header"),
+        (format!("     1    3 \n{new_row}"), 9, ", header"),
+        (format!("     1\t    3\n{new_row}"), 9, ", header"),
+        // just so, and something else is wrong
+        (format!("    01     3\n{new_row}"), 9, ", header"),
+        (format!("     1     3 {new_row}"), 9, ", header"),
+        (format!("     1     3\n{row}"), 8, ""),
+        (format!("     2     3\n{new_row}"), 8, ""),
+        (format!(" 65536     3\n{new_row}"), 4, ""),
+        ("     1     3".to_string(), 8, ""),
+        ("     1     ".to_string(), 8, ""),
+        (String::new(), 8, ""),
+        // rows
+        (
+            format!("     1     3\n{}", new_row.replace("   700", "    -0")),
+            9,
+            ", row 1",
+        ),
+        (
+            format!("     1     3\n{}", new_row.replace("   700", " 10001")),
+            6,
+            ", row 1",
+        ),
+        (
+            format!("     2     3\n{new_row}{}", new_row.replace("90", "91")),
+            7,
+            ", row 2",
+        ),
+        (format!("     1     1\n{new_row}"), 8, ""),
+    ];
+    for (bytes, number, place) in cases {
+        let output = paired(
+            &folder,
+            bytes.as_bytes(),
+            b"     0     4\n",
+            &["1", "1", "0"],
+        );
+        assert_refused(&output, number, &format!("FIELD.TAB{place}: "), &bytes);
+        let files = [folder.0.join("FIELD.TAB"), folder.0.join("TRIM.TAB")];
+        assert_eq!(file_refusal(&files).unwrap().0, number, "{bytes}");
+    }
+    let trim = format!("     1     3\n{new_row}");
+    let output = paired(
+        &folder,
+        b"     0     3\n",
+        trim.as_bytes(),
+        &["1", "1", "0"],
+    );
+    assert_refused(&output, 10, "TRIM.TAB: ", "a field file as trim");
+}
+
+/// The longest file of the new card, and a byte more.
+#[test]
+fn the_longest_file_of_the_new_card() {
+    let folder = Folder::new("longest");
+    let mut field = strict(3, &[1, 5, 0, 0, 10_000].repeat(65_535));
+    let trim = strict(4, &[2, 4, 0, 0, 10_000]);
+    let listing =
+        "     1     1     0\n     1     9     1     2       0       0\n     1     1           1\n";
+    let output = paired(&folder, &field, &trim, &["1", "1", "0"]);
+    assert_listed(&output, listing.as_bytes(), "65,535 rows");
+    field.push(b'\n');
+    let output = paired(&folder, &field, &trim, &["1", "1", "0"]);
+    assert_refused(&output, 8, "FIELD.TAB: ", "a byte more");
+    let field = strict(3, &[1, 5, 0, 0, 10_000].repeat(65_536));
+    let output = paired(&folder, &field, &trim, &["1", "1", "0"]);
+    assert_refused(&output, 4, "FIELD.TAB: ", "65,536 rows");
 }
 
 /// Of equal sums those come out that were read: rows 2 and 1, not 1 and 2.
@@ -483,11 +700,15 @@ fn output_that_cannot_be_written() {
 }
 
 #[test]
-fn a_closed_pipe() {
-    let mut reader = Command::new("true").stdin(Stdio::piped()).spawn().unwrap();
-    let pipe = reader.stdin.take().unwrap();
-    reader.wait().unwrap();
-    let output = command().arg("--help").stdout(pipe).output().unwrap();
+fn a_closed_reader() {
+    // Shut down, not only dropped: a process that another test is starting may hold what is dropped for a moment.
+    let (reader, writer) = UnixStream::pair().unwrap();
+    reader.shutdown(Shutdown::Both).unwrap();
+    let output = command()
+        .arg("--help")
+        .stdout(OwnedFd::from(writer))
+        .output()
+        .unwrap();
     assert_eq!(output.status.code(), Some(3));
     assert!(words(&output).contains("cannot be written"));
 }

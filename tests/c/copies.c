@@ -1,8 +1,8 @@
-/* How often a call copies the session's record: the linker hands every memcpy and memmove of the library to the counters
- * below (--wrap). A record is 824 bytes, its pair places 768, their keys 512; nothing else that is copied is as long. It
- * prints the counts; exit status 0: some were counted, and none is above what is written here. A call copies the record
- * once as it comes in and once as it goes back, whatever it does between; laying it out flat for C, where it changed, is
- * a third copy. */
+/* How often a call copies the session's record: the linker hands every memcpy and memmove of the library to the
+ * counters below (--wrap). A record is 832 bytes, its pair places 768, their keys 512; nothing else that is copied is
+ * as long. It prints the counts; exit status 0: some were counted, and none is above what is written here. A call
+ * copies the record once as it comes in and once as it goes back, whatever it does between; laying it out flat for C,
+ * where it changed, is a third copy. The counts are the same on both cards. */
 #include <stdio.h>
 #include <string.h>
 
@@ -29,7 +29,11 @@ void *__wrap_memmove(void *to, const void *from, size_t n)
 
 static int failures;
 static uint32_t record[FURZELADLE_RECORD_SIZE];
-static int32_t field[4 * ROWS], trim[4 * ROWS];
+static int32_t field[FURZELADLE_NEW_ROW * ROWS], trim[FURZELADLE_NEW_ROW * ROWS];
+
+/* The card that the calls below are on: its kinds, a row's numbers, and a table's. */
+static uint32_t field_kind, trim_kind;
+static size_t wide, len;
 
 static void expect(const char *call, int32_t answer, int32_t wanted, int most)
 {
@@ -46,27 +50,33 @@ static void expect(const char *call, int32_t answer, int32_t wanted, int most)
 static void fill(int apart)
 {
     for (int i = 0; i < ROWS; i++) {
-        const int32_t row[4] = {i + 1, 9999 - i, 0, 0}, other[4] = {i + 1, 9999 - i, apart, 0};
-        memcpy(field + 4 * i, row, sizeof row);
-        memcpy(trim + 4 * i, other, sizeof other);
+        const int32_t row[5] = {i + 1, 9999 - i, 0, 0, 50}, other[5] = {i + 1, 9999 - i, apart, 0, 50};
+        memcpy(field + wide * i, row, wide * sizeof *row);
+        memcpy(trim + wide * i, other, wide * sizeof *other);
     }
 }
 
 static int32_t open(void)
 {
-    const uint32_t query[3] = {10, BLOCK, 5};
-    return furzeladle_open(query, 3, field, 4 * ROWS, trim, 4 * ROWS, record, FURZELADLE_RECORD_SIZE);
+    const uint32_t query[FURZELADLE_QUERY_ALL] = {10, BLOCK, 5, 1, 1, field_kind, trim_kind};
+    return furzeladle_open(query, FURZELADLE_QUERY_ALL, field, len, trim, len, record, FURZELADLE_RECORD_SIZE);
 }
 
-static int32_t read(size_t len)
+static int32_t read(size_t f_len)
 {
-    return furzeladle_read(field, len, trim, 4 * ROWS, record, FURZELADLE_RECORD_SIZE);
+    return furzeladle_read(field, f_len, trim, len, record, FURZELADLE_RECORD_SIZE);
 }
 
 static int32_t take(void)
 {
-    uint32_t pair[3];
-    return furzeladle_take(field, 4 * ROWS, trim, 4 * ROWS, record, FURZELADLE_RECORD_SIZE, pair, 3);
+    uint32_t pair[FURZELADLE_PAIR_SIZE];
+    return furzeladle_take(field, len, trim, len, record, FURZELADLE_RECORD_SIZE, pair, FURZELADLE_PAIR_SIZE);
+}
+
+static int32_t show(void)
+{
+    uint32_t place[FURZELADLE_PLACE_SIZE];
+    return furzeladle_show(field, len, trim, len, record, FURZELADLE_RECORD_SIZE, place, FURZELADLE_PLACE_SIZE);
 }
 
 /* A new session over tables that lie `apart`, after some reads. */
@@ -75,30 +85,38 @@ static void reads(int apart, int n)
     fill(apart);
     open();
     while (n-- > 0)
-        read(4 * ROWS);
+        read(len);
     copies = 0;
+}
+
+static void calls(void)
+{
+    reads(6, 0);
+    expect("open", open(), FURZELADLE_DONE, 0);
+    expect("read: the first block", read(len), FURZELADLE_DONE, 3);
+    expect("read: a block meets 1, no pair is near", read(len), FURZELADLE_DONE, 3);
+    reads(6, 62);
+    expect("read: a block meets 31, no pair is near", read(len), FURZELADLE_DONE, 3);
+    expect("read: refused by 4", read(wide), -FURZELADLE_TABLE_SIZE, 2);
+    expect("take: not yet", take(), FURZELADLE_NOT_YET, 2);
+    reads(3, 1);
+    expect("read: a block meets 1, 16 pairs are near", read(len), FURZELADLE_DONE, 3);
+    reads(3, ROWS);
+    expect("read: settled", read(len), FURZELADLE_SETTLED, 2);
+    expect("show", show(), FURZELADLE_DONE, 1);
+    expect("take: a pair", take(), FURZELADLE_GIVEN, 3);
+    record[FURZELADLE_K] = 0;
+    expect("read: refused by 5", read(len), -FURZELADLE_RECORD, 2);
 }
 
 int main(void)
 {
-    uint32_t place[3];
-
-    reads(6, 0);
-    expect("open", open(), FURZELADLE_DONE, 0);
-    expect("read: the first block", read(4 * ROWS), FURZELADLE_DONE, 3);
-    expect("read: a block meets 1, no pair is near", read(4 * ROWS), FURZELADLE_DONE, 3);
-    reads(6, 62);
-    expect("read: a block meets 31, no pair is near", read(4 * ROWS), FURZELADLE_DONE, 3);
-    expect("read: refused by 4", read(4), -FURZELADLE_TABLE_SIZE, 2);
-    expect("take: not yet", take(), FURZELADLE_NOT_YET, 2);
-    reads(3, 1);
-    expect("read: a block meets 1, 16 pairs are near", read(4 * ROWS), FURZELADLE_DONE, 3);
-    reads(3, ROWS);
-    expect("read: settled", read(4 * ROWS), FURZELADLE_SETTLED, 2);
-    expect("show", furzeladle_show(field, 4 * ROWS, trim, 4 * ROWS, record, FURZELADLE_RECORD_SIZE, place, 3), FURZELADLE_DONE, 1);
-    expect("take: a pair", take(), FURZELADLE_GIVEN, 3);
-    record[FURZELADLE_K] = 0;
-    expect("read: refused by 5", read(4 * ROWS), -FURZELADLE_RECORD, 2);
+    field_kind = FURZELADLE_FIELD, trim_kind = FURZELADLE_TRIM;
+    wide = FURZELADLE_OLD_ROW, len = wide * ROWS;
+    calls();
+    field_kind = FURZELADLE_NEW_FIELD, trim_kind = FURZELADLE_NEW_TRIM;
+    wide = FURZELADLE_NEW_ROW, len = wide * ROWS;
+    calls();
     if (all == 0) {
         printf("no copy was counted\n");
         failures++;

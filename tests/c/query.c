@@ -1,5 +1,5 @@
-/* furzeladle_query from C: the rules' worked query, at other weights too, the refusals that a whole query can give, the
- * roots, and what is left alone. */
+/* furzeladle_query from C: the rules' worked query, at other weights and on the new card too, the refusals that a whole
+ * query can give, the roots, and what is left alone. */
 #include "furzeladle.h"
 
 #include <stdio.h>
@@ -17,7 +17,8 @@ static void expect(const char *what, long got, long want) {
     }
 }
 
-static int32_t ask(uint32_t k, uint32_t block, uint32_t radius, const int32_t *f, size_t m, uint64_t *out, size_t room) {
+static int32_t ask(uint32_t k, uint32_t block, uint32_t radius, const int32_t *f, size_t m, uint64_t *out,
+                   size_t room) {
     uint32_t q[3] = {k, block, radius};
     return furzeladle_query(q, 3, f, m, T, 20, out, room);
 }
@@ -54,10 +55,63 @@ static void weights(void) {
     expect("left alone", memcmp(out, by_trim, sizeof by_trim), 0);
 }
 
+/* The worked query's shades with some of a and b moved into L, and the same pairs. */
+static const int32_t NEW_F[] = {101, 90, 0, 0, 0,     102, 80, 100, 0, 0,     103, 60, 0, 300, 0,
+                                104, 40, 500, 500, 7, 105, 10, 0, 0, 10000};
+static const int32_t NEW_T[] = {201, 70, 400, 0, 0, 202, 50, 0, 0, 5,       203, 30, 100, 3, 4,
+                                204, 20, 0, 300, 6, 205, 15, 500, 500, 10000};
+
+/* The worked query over tables of these kinds: the answer of both exports, which is the same refusal, or pairs. */
+static int32_t on_cards(uint32_t field_kind, uint32_t trim_kind, size_t m, size_t n, uint64_t *out) {
+    const uint32_t q[FURZELADLE_QUERY_ALL] = {2, 1, 5, 1, 1, field_kind, trim_kind};
+    uint8_t text[FURZELADLE_LISTING_SIZE];
+    const int32_t listed = furzeladle_listing(q, FURZELADLE_QUERY_ALL, NEW_F, m, NEW_T, n, text, sizeof text);
+    const int32_t found = furzeladle_query(q, FURZELADLE_QUERY_ALL, NEW_F, m, NEW_T, n, out, FURZELADLE_QUERY_SIZE);
+    expect("both refuse", listed < 0 ? listed : 0, found < 0 ? found : 0);
+    return found;
+}
+
+static void cards(void) {
+    static const uint64_t worked[15] = {4, 4, 10, 140, 1, 2, 101, 202, 25, 110, 2, 3, 102, 203, 25};
+    static const uint32_t bad[8][2] = {{0, 2}, {2, 2}, {4, 4}, {5, 4}, {1, 0}, {1, 1}, {3, 3}, {3, 5}};
+    static const uint32_t old[7] = {2, 1, 5, 1, 1, FURZELADLE_FIELD, FURZELADLE_TRIM};
+    uint64_t out[FURZELADLE_QUERY_SIZE];
+
+    expect("kinds 1 and 2", furzeladle_query(old, 7, F, 20, T, 20, out, FURZELADLE_QUERY_SIZE), 2);
+    expect("as three numbers", memcmp(out, worked, sizeof worked), 0);
+    expect("field kind 1", furzeladle_query(old, 6, F, 20, T, 20, out, FURZELADLE_QUERY_SIZE), 2);
+    expect("as three numbers", memcmp(out, worked, sizeof worked), 0);
+    memset(out, 0xab, sizeof out);
+    expect("new card", on_cards(3, 4, 25, 25, out), 2);
+    expect("its pairs", memcmp(out, worked, sizeof worked), 0);
+    for (int i = 0; i < 8; i++) expect("kind, before 4", on_cards(bad[i][0], bad[i][1], 24, 24, out), -FURZELADLE_KIND);
+    expect("not rows of five", on_cards(3, 4, 24, 25, out), -FURZELADLE_TABLE_SIZE);
+    expect("nor these", on_cards(3, 4, 25, 24, out), -FURZELADLE_TABLE_SIZE);
+    expect("4 before 15", on_cards(1, 4, 25, 25, out), -FURZELADLE_TABLE_SIZE);
+    expect("cards", on_cards(1, 4, 20, 20, out), -FURZELADLE_CARDS);
+    expect("cards", on_cards(3, 2, 20, 20, out), -FURZELADLE_CARDS);
+    expect("cards, without rows", on_cards(3, 2, 25, 0, out), -FURZELADLE_CARDS);
+    expect("left alone", memcmp(out, worked, sizeof worked), 0);
+}
+
+/* L alone at both ends of its range: 10,000 apart. */
+static void lightness(void) {
+    static const int32_t dark[5] = {1, 9, 0, 0, 0}, light[5] = {2, 8, 0, 0, 10000};
+    static const uint64_t want[2] = {10000, 0};
+    uint32_t q[7] = {1, 1, 9999, 1, 1, 3, 4};
+    uint64_t out[FURZELADLE_ROOTS_SIZE];
+    expect("too far", furzeladle_query(q, 7, dark, 5, light, 5, out, FURZELADLE_ROOTS_SIZE), 0);
+    q[2] = 10000;
+    expect("near", furzeladle_query(q, 7, dark, 5, light, 5, out, FURZELADLE_ROOTS_SIZE), 1);
+    expect("its square", (long)out[8], 100000000);
+    expect("its root", memcmp(out + FURZELADLE_ROOTS, want, sizeof want), 0);
+}
+
 /* A row of the highest score each: 9 times 9,999, twice. */
 static void highest(void) {
     static const int32_t row[4] = {1, 9999, 0, 0};
-    static const char listing[] = "     1     1     0\n     1179982     1     1       0       0\n     1     1           1\n";
+    static const char listing[] = "     1     1     0\n     1179982     1     1       0       0\n"
+                                  "     1     1           1\n";
     static const uint32_t q[5] = {1, 1, 0, 9, 9};
     uint8_t text[FURZELADLE_LISTING_SIZE];
     expect("highest", furzeladle_listing(q, 5, row, 4, row, 4, text, sizeof text), (long)strlen(listing));
@@ -142,13 +196,15 @@ int main(void) {
     uint8_t text[FURZELADLE_LISTING_SIZE];
     const uint32_t q[3] = {2, 1, 5};
     memset(text, 'x', sizeof text);
-    expect("text room", furzeladle_listing(q, 3, F, 20, T, 20, text, FURZELADLE_LISTING_SIZE - 1), -FURZELADLE_SHORT_SLICE);
-    expect("text query", furzeladle_listing(two, 2, F, 19, T, 20, text, FURZELADLE_LISTING_SIZE), -FURZELADLE_SHORT_SLICE);
+    expect("text room", furzeladle_listing(q, 3, F, 20, T, 20, text, sizeof text - 1), -FURZELADLE_SHORT_SLICE);
+    expect("text query", furzeladle_listing(two, 2, F, 19, T, 20, text, sizeof text), -FURZELADLE_SHORT_SLICE);
     expect("text left alone", text[0], 'x');
     expect("listing", furzeladle_listing(q, 3, F, 20, T, 20, text, FURZELADLE_LISTING_SIZE), (long)strlen(listing));
     expect("text", memcmp(text, listing, strlen(listing)), 0);
     expect("text behind", text[strlen(listing)], 'x');
     weights();
+    cards();
+    lightness();
     highest();
     roots();
     each_root();

@@ -1,5 +1,5 @@
-/* The rules' worked query through the C functions, at other weights too, a withdrawn first row, and calls that must be
- * refused. Exit status 0: all as it must be. */
+/* The rules' worked query through the C functions, at other weights and on the new card too, a withdrawn first row, and
+ * calls that must be refused. Exit status 0: all as it must be. */
 #include <stdio.h>
 #include <string.h>
 
@@ -107,6 +107,13 @@ static void damaged(void)
         s[i] = 10;
         refused("weight 10", s, field, 20, -FURZELADLE_RECORD);
     }
+    for (i = 0; i < 4; i++) {
+        memcpy(s, good, sizeof s);
+        s[FURZELADLE_CARD] = (const uint32_t[]){0, 1, 4, 0xffffffff}[i];
+        refused("neither card", s, field, 20, -FURZELADLE_RECORD);
+    }
+    s[FURZELADLE_CARD] = FURZELADLE_NEW_CARD;
+    refused("four rows on the other card", s, field, 20, -FURZELADLE_TABLE_SIZE);
     memcpy(s, good, sizeof s);
     s[FURZELADLE_PAIRS] = 179983;
     refused("held sum", s, field, 20, -FURZELADLE_RECORD);
@@ -156,10 +163,11 @@ static void listed(const char *what, const uint32_t *numbers, size_t count, cons
     expect(what, s[FURZELADLE_JOINED], wanted[4]);
 }
 
-/* A weight that is not lent is 1. */
+/* A weight that is not lent is 1, and a kind that is not lent the old card's. */
 static void weighted(void)
 {
     const uint32_t ones[FURZELADLE_QUERY_MOST] = {2, 1, 5, 1, 1};
+    const uint32_t all[FURZELADLE_QUERY_ALL] = {2, 1, 5, 1, 1, FURZELADLE_FIELD, FURZELADLE_TRIM};
     const uint32_t field_more[5] = {2, 1, 5, 3, 1}, trim_more[5] = {2, 1, 5, 1, 3};
     const uint32_t plainly[5] = {140, 110, 4, 4, 10};
     const uint32_t by_field[5] = {320, 270, 3, 5, 8}, by_trim[5] = {240, 170, 5, 4, 12};
@@ -167,6 +175,8 @@ static void weighted(void)
 
     listed("three numbers", query, FURZELADLE_QUERY_LEAST, plainly);
     listed("weights 1 and 1", ones, FURZELADLE_QUERY_MOST, plainly);
+    listed("field kind 1", all, 6, plainly);
+    listed("kinds 1 and 2", all, FURZELADLE_QUERY_ALL, plainly);
     listed("weights 3 and 1", field_more, 5, by_field);
     listed("weight 3", field_more, 4, by_field);
     listed("weights 1 and 3", trim_more, 5, by_trim);
@@ -174,9 +184,124 @@ static void weighted(void)
     furzeladle_open(query, 3, field, 20, trim, 20, three, SIZE);
     furzeladle_open(ones, 5, field, 20, trim, 20, five, SIZE);
     expect("the same record", memcmp(three, five, sizeof three), 0);
+    furzeladle_open(all, FURZELADLE_QUERY_ALL, field, 20, trim, 20, five, SIZE);
+    expect("and again", memcmp(three, five, sizeof three), 0);
+    expect("the old card", three[FURZELADLE_CARD], FURZELADLE_OLD_CARD);
     furzeladle_open(field_more, 5, field, 20, trim, 20, five, SIZE);
     expect("field weight", five[FURZELADLE_FIELD_WEIGHT], 3);
     expect("trim weight", five[FURZELADLE_TRIM_WEIGHT], 1);
+}
+
+/* The worked query with some of its shades moved into L: field row 1 and trim row 2 lie 5 apart by L alone, rows 2 and
+ * 3 by b and L; rows 3 and 4, which are in one place on the old card, 6 apart. */
+static const int32_t new_field[25] = {101, 90, 0, 0, 0,     102, 80, 100, 0, 0,     103, 60, 0, 300, 0,
+                                      104, 40, 500, 500, 7, 105, 10, 0, 0, 10000};
+static const int32_t new_trim[25] = {201, 70, 400, 0, 0, 202, 50, 0, 0, 5,       203, 30, 100, 3, 4,
+                                     204, 20, 0, 300, 6, 205, 15, 500, 500, 10000};
+static const uint32_t new_query[FURZELADLE_QUERY_ALL] = {2, 1, 5, 1, 1, FURZELADLE_NEW_FIELD, FURZELADLE_NEW_TRIM};
+
+/* The same reads, pairs, depths and block pairs as on the old card. */
+static void on_the_new_card(void)
+{
+    uint32_t s[SIZE + 1], pair[FURZELADLE_PAIR_SIZE] = {7, 7, 7}, place[FURZELADLE_PLACE_SIZE];
+    int i;
+
+    memset(s, 0x55, sizeof s);
+    expect("open", furzeladle_open(new_query, 7, new_field, 25, new_trim, 25, s, SIZE + 1), FURZELADLE_DONE);
+    expect("rows", s[FURZELADLE_FIELD_ROWS], 5);
+    expect("card", s[FURZELADLE_CARD], FURZELADLE_NEW_CARD);
+    expect("behind the record", s[SIZE], 0x55555555);
+    for (i = 0; i < 5; i++)
+        expect("read", furzeladle_read(new_field, 25, new_trim, 25, s, SIZE), FURZELADLE_DONE);
+    expect("show", furzeladle_show(new_field, 25, new_trim, 25, s, SIZE, place, 3), FURZELADLE_DONE);
+    expect_pair("its row", place, 1, 3, 1);
+    expect("first", furzeladle_take(new_field, 25, new_trim, 25, s, SIZE, pair, 3), FURZELADLE_GIVEN);
+    expect_pair("first pair", pair, 140, 1, 2);
+    while (furzeladle_read(new_field, 25, new_trim, 25, s, SIZE) == FURZELADLE_DONE)
+        ;
+    expect("second", furzeladle_take(new_field, 25, new_trim, 25, s, SIZE, pair, 3), FURZELADLE_GIVEN);
+    expect_pair("second pair", pair, 110, 2, 3);
+    expect("finished", furzeladle_take(new_field, 25, new_trim, 25, s, SIZE, pair, 3), FURZELADLE_FINISHED);
+    expect("field depth", s[FURZELADLE_FIELD_DEPTH], 4);
+    expect("trim depth", s[FURZELADLE_TRIM_DEPTH], 4);
+    expect("joined", s[FURZELADLE_JOINED], 10);
+}
+
+/* A session on the new card lent other tables, and rows whose L is out of range. */
+static void refused_on_the_new_card(void)
+{
+    const int32_t bad_l[2] = {-1, 10001};
+    uint32_t s[SIZE], before[SIZE], place[3];
+    int32_t table[25];
+    int i;
+
+    furzeladle_open(new_query, 7, new_field, 25, new_trim, 25, s, SIZE);
+    furzeladle_read(new_field, 25, new_trim, 25, s, SIZE);
+    memcpy(before, s, sizeof s);
+    expect("rows of four", furzeladle_read(field, 20, new_trim, 25, s, SIZE), -FURZELADLE_TABLE_SIZE);
+    expect("rows of four", furzeladle_read(new_field, 25, trim, 20, s, SIZE), -FURZELADLE_TABLE_SIZE);
+    for (i = 0; i < 2; i++) {
+        memcpy(table, new_field, sizeof table);
+        table[4] = bad_l[i];
+        expect("L", furzeladle_read(table, 25, new_trim, 25, s, SIZE), -FURZELADLE_ROW_LIMIT);
+        memcpy(table, new_trim, sizeof table);
+        table[4] = bad_l[i];
+        expect("L of the new block", furzeladle_read(new_field, 25, table, 25, s, SIZE), -FURZELADLE_ROW_LIMIT);
+    }
+    expect("nothing changed", memcmp(s, before, sizeof s), 0);
+    expect("no place", furzeladle_show(field, 20, trim, 20, s, SIZE, place, 3), FURZELADLE_DONE);
+    expect_pair("zeros", place, 0, 0, 0);
+}
+
+/* An opening of these kinds over so many numbers. */
+static int32_t opens(uint32_t field_kind, uint32_t trim_kind, size_t f_len, size_t t_len, uint32_t *s)
+{
+    const uint32_t q[FURZELADLE_QUERY_ALL] = {2, 1, 5, 1, 1, field_kind, trim_kind};
+    return furzeladle_open(q, FURZELADLE_QUERY_ALL, new_field, f_len, new_trim, t_len, s, SIZE);
+}
+
+/* 10 after 12 and before 4, 4 of each table by its own kind, then 15; nothing changes. */
+static void kinds_refused(void)
+{
+    const uint32_t bad[8][2] = {{0, 2}, {2, 2}, {4, 4}, {5, 4}, {1, 0}, {1, 1}, {3, 3}, {3, 5}};
+    const uint32_t heavy[7] = {2, 1, 5, 10, 1, 0, 0}, half[6] = {2, 1, 5, 1, 1, 3};
+    uint32_t s[SIZE] = {0}, zeros[SIZE] = {0}, other[SIZE];
+    int i;
+
+    for (i = 0; i < 8; i++) {
+        expect("kind", opens(bad[i][0], bad[i][1], 20, 20, s), -FURZELADLE_KIND);
+        expect("before 4", opens(bad[i][0], bad[i][1], 19, 19, s), -FURZELADLE_KIND);
+    }
+    expect("after 12", furzeladle_open(heavy, 7, field, 20, trim, 20, s, SIZE), -FURZELADLE_WEIGHT);
+    expect("not rows of five", opens(3, 4, 24, 25, s), -FURZELADLE_TABLE_SIZE);
+    expect("nor these", opens(3, 4, 25, 24, s), -FURZELADLE_TABLE_SIZE);
+    expect("each by its own", opens(1, 4, 24, 25, s), -FURZELADLE_CARDS);
+    expect("each by its own", opens(3, 2, 25, 24, s), -FURZELADLE_CARDS);
+    expect("4 before 15", opens(1, 4, 25, 25, s), -FURZELADLE_TABLE_SIZE);
+    expect("4 before 15", opens(3, 2, 25, 25, s), -FURZELADLE_TABLE_SIZE);
+    expect("without rows", opens(1, 4, 0, 0, s), -FURZELADLE_CARDS);
+    expect("without rows", opens(3, 2, 0, 0, s), -FURZELADLE_CARDS);
+    expect("the field kind alone", furzeladle_open(half, 6, field, 20, trim, 20, s, SIZE), -FURZELADLE_CARDS);
+    expect("left alone", memcmp(s, zeros, sizeof s), 0);
+    expect("four rows of five", opens(3, 4, 20, 20, other), FURZELADLE_DONE);
+    expect("are four", other[FURZELADLE_FIELD_ROWS], 4);
+    expect("five rows of four", opens(1, 2, 20, 20, other), FURZELADLE_DONE);
+    expect("are five", other[FURZELADLE_FIELD_ROWS], 5);
+}
+
+/* The 206 numbers of a record from before there were cards, and the old card behind them. */
+static void stored_before_cards(void)
+{
+    uint32_t s[SIZE], stored[SIZE] = {0}, pair[3];
+
+    furzeladle_open(query, 3, field, 20, trim, 20, s, SIZE);
+    while (reads(s) == FURZELADLE_DONE)
+        ;
+    memcpy(stored, s, FURZELADLE_CARD * sizeof *s);
+    expect("no card", takes(stored, pair), -FURZELADLE_RECORD);
+    stored[FURZELADLE_CARD] = FURZELADLE_OLD_CARD;
+    expect("goes on", takes(stored, pair), FURZELADLE_GIVEN);
+    expect_pair("its pair", pair, 140, 1, 2);
 }
 
 /* 12 after 3 and before 4; nothing changes. */
@@ -243,6 +368,10 @@ int main(void)
     worked();
     weighted();
     weights_refused();
+    on_the_new_card();
+    refused_on_the_new_card();
+    kinds_refused();
+    stored_before_cards();
     withdrawn();
     survives();
     damaged();

@@ -32,8 +32,19 @@ def column(raw, signed):
     return -int(m[2]) if m[1] else int(m[2])
 
 
+def on_new_card(kind):
+    return kind in (3, 4)
+
+
+def read_as(raw, old):
+    """The kind that a file is read as: the new card's where columns 7-12 are five spaces and that digit."""
+    new = old + 2
+    return new if raw[6:12] == b"     %d" % new else old
+
+
 def load(raw, kind):
-    if len(raw) > 13837:
+    width, limit = (33, 16909) if on_new_card(kind) else (27, 13837)
+    if len(raw) > limit:
         raise Refused(4)
     if len(raw) < 13:
         raise Refused(8)
@@ -44,16 +55,20 @@ def load(raw, kind):
         raise Refused(10)
     if count > 65535:
         raise Refused(4)
-    if len(raw) != 13 + 27 * count:
+    if len(raw) != 13 + width * count:
         raise Refused(8)
     rows = []
     for i in range(count):
-        r = raw[13 + 27 * i:40 + 27 * i]
+        r = raw[13 + width * i:13 + width * (i + 1)]
         row = (column(r[0:6], False), column(r[6:12], False), column(r[12:19], True), column(r[19:26], True))
-        if r[26:27] != b"\n":
+        if on_new_card(kind):
+            row += (column(r[26:32], False),)
+        if r[-1:] != b"\n":
             raise Refused(9)
-        number, score, a, b = row
+        number, score, a, b, *lightness = row
         if not (1 <= number <= 999999 and 0 <= score <= 9999 and -12800 <= a <= 12700 and -12800 <= b <= 12700):
+            raise Refused(6)
+        if any(not 0 <= x <= 10000 for x in lightness):
             raise Refused(6)
         if rows and score > rows[-1][1]:
             raise Refused(7)
@@ -68,7 +83,8 @@ def whole_root(square):
 
 
 def distance(x, y):
-    return (x[2] - y[2]) ** 2 + (x[3] - y[3]) ** 2
+    """The squared distance over a and b, and on the new card L."""
+    return sum((p - q) ** 2 for p, q in zip(x[2:], y[2:]))
 
 
 def withdrawn(x):
@@ -110,7 +126,8 @@ def arguments(raw):
 
 
 def query(field, trim, raw, numbers):
-    f, t = load(field, 1), load(trim, 2)
+    field_kind, trim_kind = read_as(field, 1), read_as(trim, 2)
+    f, t = load(field, field_kind), load(trim, trim_kind)
     k, block, radius, wf, wt = numbers(raw)
     if not 1 <= k <= 64:
         raise Refused(1)
@@ -120,6 +137,8 @@ def query(field, trim, raw, numbers):
         raise Refused(3)
     if not (1 <= wf <= 9 and 1 <= wt <= 9):
         raise Refused(12)
+    if on_new_card(field_kind) != on_new_card(trim_kind):
+        raise Refused(15)
 
     def total(x, y):
         """The sum of a field row and a trim row."""
@@ -196,8 +215,13 @@ def printed(field, trim, raw, numbers):
 
 # ---- The cases
 
+def line(row):
+    """A row of four numbers, or of five on the new card."""
+    return b"%6d%6d%7d%7d" % row[:4] + b"".join(b"%6d" % x for x in row[4:]) + b"\n"
+
+
 def table(kind, rows, count=None):
-    return b"%6d%6d\n" % (len(rows) if count is None else count, kind) + b"".join(b"%6d%6d%7d%7d\n" % r for r in rows)
+    return b"%6d%6d\n" % (len(rows) if count is None else count, kind) + b"".join(map(line, rows))
 
 
 def ask(k, block, radius):
@@ -222,16 +246,24 @@ class Dice:
         scores = sorted((self.below(top + 1) for _ in range(n)), reverse=True)
         return [(1 + self.below(999999), s, self.below(2 * spread + 1) - spread, self.below(2 * spread + 1) - spread) for s in scores]
 
+    def new_rows(self, n, top, spread, light):
+        """Rows on the new card, L up to a highest one."""
+        return [row + (self.below(light + 1),) for row in self.rows(n, top, spread)]
+
 
 FIELDS = [(101, 90, 0, 0), (102, 80, 100, 0), (103, 60, 0, 300), (104, 40, 500, 500), (105, 10, 0, 0)]
 TRIMS = [(201, 70, 400, 0), (202, 50, 3, 4), (203, 30, 100, 5), (204, 20, 0, 300), (205, 15, 500, 500)]
 F, T, Q = table(1, FIELDS), table(2, TRIMS), ask(2, 1, 5)
+# the same on the new card: the shades of both pairs lie 12 apart in L, so 13 in all
+NEW_FIELDS = [row + (x,) for row, x in zip(FIELDS, (5000, 6000, 0, 10000, 5000))]
+NEW_TRIMS = [row + (x,) for row, x in zip(TRIMS, (5000, 5012, 5988, 0, 10000))]
+NF, NT, NQ = table(3, NEW_FIELDS), table(4, NEW_TRIMS), ask(2, 1, 13)
 
 
 def with_row(kind, rows, i, raw):
-    whole = table(kind, rows)
-    assert len(raw) == 27
-    return whole[:13 + 27 * i] + raw + whole[40 + 27 * i:]
+    whole, width = table(kind, rows), len(line(rows[i]))
+    assert len(raw) == width
+    return whole[:13 + width * i] + raw + whole[13 + width * (i + 1):]
 
 
 def cases():
@@ -317,6 +349,10 @@ def cases():
         q = ask(1 + dice.below(64), 1 + dice.below(12), dice.below(spread + 2))
         yield "random-%d" % i, table(1, dice.rows(n, top, spread)), table(2, dice.rows(m, top, spread)), q
     yield from withdrawn_cases()
+    yield from new_card_cases()
+    yield from new_card_refusals()
+    yield from peek_cases()
+    yield from unlike_card_cases()
 
 
 def scored(kind, *scores):
@@ -356,6 +392,169 @@ def withdrawn_cases():
     yield "live-extreme-shades", table(1, [(1, 9999, -12800, -12800), (2, 1, 12700, 12700)]), table(2, [(3, 9999, 12700, 12700), (4, 1, -12800, -12800)]), ask(64, 1, 40000)
 
 
+def light(kind, *rows):
+    """A table on the new card: scores fall from 90, each row's a, b and L are given."""
+    return table(kind, [(100 * kind + i, 90 - i) + row for i, row in enumerate(rows)])
+
+
+def new_card_cases():
+    """Listings."""
+    yield "card-worked", NF, NT, NQ
+    yield "card-k-above-pairs", NF, NT, ask(64, 2, 13)
+    # the first two pairs are 5 apart in a and b alone, and 13 with L
+    yield "card-worked-radius-12", NF, NT, ask(2, 1, 12)
+    # only L decides: 20 and 21 apart, above and below
+    around = [(7, 7, x) for x in (5021, 5020, 4979, 4980)]
+    yield "card-only-l", light(3, (7, 7, 5000)), light(4, *around), ask(64, 1, 20)
+    # a 3 and b 4 apart at radius 5, and L 0 or 1
+    yield "card-l-one-more", light(3, (0, 0, 9)), light(4, (3, 4, 9), (3, 4, 10), (3, 4, 8), (-3, -4, 9)), ask(64, 2, 5)
+    # at 0 the places are equal in all three
+    yield "card-radius-zero", light(3, (1, 1, 1), (2, 2, 2)), light(4, (1, 1, 2), (2, 2, 2), (1, 1, 1)), ask(4, 1, 0)
+    # L from end to end, 10,000 apart
+    ends = light(3, (0, 0, 0), (0, 0, 10000)), light(4, (0, 0, 10000), (0, 0, 0))
+    yield "card-l-ends", *ends, ask(64, 1, 10000)
+    yield "card-l-ends-beyond", *ends, ask(64, 1, 9999)
+    # the largest square, 1,400,500,000, whose root is 37,423 and a rest
+    corners = light(3, (-12800, -12800, 0)), light(4, (12700, 12700, 10000))
+    yield "card-corners", *corners, ask(1, 1, 37424)
+    yield "card-corners-beyond", *corners, ask(1, 1, 37423)
+    yield "card-six-digits", table(3, [(999999, 9999, 12700, 12700, 10000), (999998, 9999, -12800, 12700, 10000)]), \
+        table(4, [(999999, 9999, 12700, -12800, 10000), (100000, 9998, -12800, -12800, 10000)]), ask(64, 1024, 40000)
+    yield "card-empty-field", table(3, []), NT, NQ
+    yield "card-empty-trim", NF, table(4, []), NQ
+    yield "card-empty-both", table(3, []), table(4, []), NQ
+    # a score of 0 withdraws a row here too, L or none
+    gone = [(300 + i, 0, 0, 0, 5000) for i in range(5)]
+    yield "card-withdrawn", table(3, NEW_FIELDS + gone), table(4, NEW_TRIMS + gone), ask(64, 2, 13)
+    yield "card-withdrawn-field-first", table(3, gone), NT, NQ
+    dice = Dice(10)
+    # 512 rows, 16,909 bytes
+    full = [dice.new_rows(512, 9999, 12700, 10000) for _ in range(2)]
+    yield "card-rows-512", table(3, full[0]), table(4, full[1]), ask(64, 16, 1500)
+    yield "card-rows-512-ties", table(3, dice.new_rows(512, 20, 30, 60)), table(4, dice.new_rows(512, 20, 30, 60)), \
+        ask(64, 1, 5)
+    for i in range(6):
+        n, m = dice.below(40), dice.below(40)
+        top = (3, 30, 300, 9999)[dice.below(4)]
+        spread, highest = ((2, 2), (20, 20), (2, 20), (20, 2), (200, 10000), (12700, 10000))[i]
+        q = ask(1 + dice.below(64), 1 + dice.below(12), dice.below(max(spread, highest) + 2))
+        yield "card-random-%d" % i, table(3, dice.new_rows(n, top, spread, highest)), \
+            table(4, dice.new_rows(m, top, spread, highest)), q
+
+
+def new_card_refusals():
+    """A row's and a file's refusals by the new card."""
+
+    def trim(i, raw):
+        return NF, with_row(4, NEW_TRIMS, i, raw), NQ
+
+    # 6 covers L: a number of six digits is well formed
+    yield "no-6-card-l", with_row(3, NEW_FIELDS, 4, b"   105    10      0      0 10001\n"), NT, NQ
+    yield "no-6-card-l-six-digits", *trim(0, b"   201    70    400      0999999\n")
+    yield "no-6-card-b", *trim(4, b"   205    15    500  12701 10000\n")
+    # in a row 9, 6, 7; then the next row
+    yield "no-6-card-l-before-7", *trim(1, b"   202    71      3      4 10001\n")
+    yield "no-7-card-order", *trim(1, b"   202    71      3      4  5012\n")
+    beyond = [(3, 5, 0, 0, 10001)]
+    yield "no-7-card-before-6-below", table(3, [(1, 5, 0, 0, 0), (2, 6, 0, 0, 0)] + beyond), NT, NQ
+    yield "no-6-card-before-9-below", table(3, beyond, 2) + b"     4     5      0      0    -1\n", NT, NQ
+    yield "no-9-card-before-6", *trim(1, b"     0    71      3      4    -1\n")
+    # 9: L has six columns and no minus
+    for name, column_of_l in (
+            ("minus", b"    -1"), ("minus-full", b"-10000"), ("minus-zero", b"    -0"), ("plus", b"    +1"),
+            ("leading-zero", b"  0512"), ("zeros", b"    00"), ("blank", b"      "), ("left", b"5012  "),
+            ("tab", b"\t 5012")):
+        yield "no-9-card-l-" + name, *trim(1, b"   202    50      3      4" + column_of_l + b"\n")
+    yield "no-9-card-field-l", with_row(3, NEW_FIELDS, 0, b"   101    90      0      0   -12\n"), NT, NQ
+    yield "no-9-card-feed", *trim(4, b"   205    15    500    500 10000 ")
+    yield "no-9-card-feed-before-l", *trim(4, b"   205    15    500    500\n10000\n")
+    # 8: rows of the other width. 11 rows of 27 bytes are as long as 9 of 33: there the first row's LF or L is 9
+    yield "no-8-card-27-a-row", table(3, FIELDS), NT, NQ
+    yield "no-8-card-27-a-row-trim", NF, table(4, TRIMS), NQ
+    yield "no-8-33-a-row", table(1, NEW_FIELDS), T, Q
+    yield "no-9-card-11-as-9", table(3, [FIELDS[0]] * 11, 9), NT, NQ
+    yield "no-9-9-as-11", table(1, [NEW_FIELDS[0]] * 9, 11), T, Q
+    yield "no-8-card-cut", NF[:-1], NT, NQ
+    yield "no-8-card-longer", NF, NT + b"\n", NQ
+    # 4: more than 16,909 bytes, before any other check; a count above 65,535
+    big = [(1 + i, 512 - i, 0, 0, i) for i in range(512)]
+    yield "no-4-card-size-field", table(3, big) + b"x", NT, NQ
+    yield "no-4-card-size-trim", NF, table(4, big) + b"x", NQ
+    yield "no-4-card-rows-513", table(3, big + [(513, 0, 0, 0, 0)]), NT, NQ
+    yield "no-4-card-size-before-header", b"?????" + table(3, big)[5:12] + b"?" * 16898, NT, NQ
+    yield "no-4-card-count", table(3, NEW_FIELDS, 65536), NT, NQ
+    yield "no-8-card-count-513", table(3, big, 513), NT, NQ
+
+
+def peek_cases():
+    """Which kind a file is read as: columns 7-12 alone decide, before its size is looked at."""
+    long_rows = [(1 + i, 512 - i, 0, 0, i) for i in range(419)]
+    assert len(table(3, long_rows)) == 13840
+
+    def header(kind_column, rows=NEW_FIELDS):
+        return b"%6d" % len(rows) + kind_column + table(3, rows)[12:]
+
+    # in a file of at most 13,837 bytes an odd column is 9, and another number 10; in a longer one both are 4
+    odd = ("zero", b"    03"), ("left", b"3     "), ("tab", b"\t    3"), ("minus", b"    -3")
+    for name, kind_column in odd:
+        yield "no-9-peek-" + name, header(kind_column), NT, NQ
+    yield "no-9-peek-zero-trim", NF, header(b"    04", NEW_TRIMS), NQ
+    yield "no-10-peek-13", header(b"    13"), NT, NQ
+    for name, kind_column in odd[:2] + (("13", b"    13"),):
+        yield "no-4-peek-" + name, header(kind_column, long_rows), NT, NQ
+    # the other tables' kinds
+    yield "no-10-peek-field-4", table(4, NEW_FIELDS), NT, NQ
+    yield "no-10-peek-field-2", table(2, NEW_FIELDS), NT, NQ
+    yield "no-10-peek-trim-3", NF, table(3, NEW_TRIMS), NQ
+    yield "no-10-peek-trim-1", NF, table(1, NEW_TRIMS), NQ
+    yield "no-10-peek-swapped", NT, NF, NQ
+    yield "no-10-peek-field-5", table(5, NEW_FIELDS), NT, NQ
+    yield "no-4-peek-field-4", table(4, long_rows), NT, NQ
+    yield "no-4-peek-field-2", table(2, long_rows), NT, NQ
+    yield "no-4-peek-trim-3", NF, table(3, long_rows), NQ
+    yield "no-4-peek-trim-1", NF, table(1, long_rows), NQ
+    # the old kinds have the old limit, though 512 rows of 33 bytes stand there
+    old = [(1 + i, 512 - i, 0, 0) for i in range(512)]
+    yield "no-4-peek-field-1", table(1, [row + (0,) for row in old]), T, Q
+    yield "no-4-peek-trim-2", F, table(2, old) + b"\n", Q
+    # a short file, a bad count or LF play no part in it
+    yield "no-8-peek-header-cut", NF[:12], NT, NQ
+    yield "no-8-peek-trim-header-cut", NF, NT[:12], NQ
+    yield "no-8-peek-in-kind", NF[:11], NT, NQ
+    yield "no-9-peek-count", b"    05" + NF[6:], NT, NQ
+    yield "no-9-peek-feed", NF[:12] + b" " + NF[13:], NT, NQ
+    yield "no-9-peek-feed-alone", NF[:12] + b"3", NT, NQ
+    long_file = table(3, long_rows)
+    yield "no-9-peek-long-count", b"    0?" + long_file[6:], NT, NQ
+    yield "no-9-peek-long-feed", NF, b"   419     4\r" + long_file[13:], NQ
+    yield "no-8-peek-long-count-513", table(3, long_rows, 513), NT, NQ
+    yield "no-4-peek-long-count-65536", table(3, long_rows, 65536), NT, NQ
+
+
+def unlike_card_cases():
+    """15 at opening, behind the refusals of both files, of the input and of the query's numbers."""
+    for name, field, trim in ("3-and-2", NF, T), ("1-and-4", F, NT):
+        yield "no-15-" + name, field, trim, Q
+    # no rows make no exception
+    yield "no-15-3-empty", table(3, []), T, Q
+    yield "no-15-4-empty", F, table(4, []), Q
+    yield "no-15-1-empty", table(1, []), NT, Q
+    yield "no-15-2-empty", NF, table(2, []), Q
+    yield "no-15-both-empty", table(3, []), table(2, []), Q
+    yield "no-15-widest-query", NF, T, ask(64, 1024, 40000)
+    for name, field, trim in ("", NF, T), ("-other-way", F, NT):
+        yield "no-8-before-15" + name, field, trim, Q[:-1]
+        yield "no-9-before-15" + name, field, trim, b"     2    01     5\n"
+        yield "no-1-before-15" + name, field, trim, ask(0, 1, 5)
+        yield "no-2-before-15" + name, field, trim, ask(2, 1025, 5)
+        yield "no-3-before-15" + name, field, trim, ask(2, 1, 40001)
+    # a file's own refusal comes first
+    yield "no-8-trim-missing-before-15", NF, None, Q
+    yield "no-6-trim-before-15", NF, with_row(2, TRIMS, 4, b"   205    15  12701    500\n"), Q
+    yield "no-7-field-before-15", with_row(3, NEW_FIELDS, 1, b"   102    91    100      0  6000\n"), T, Q
+    yield "no-10-trim-before-15", NF, table(1, TRIMS), Q
+
+
 def weighted_cases():
     yield "field-counts-more", F, T, weigh(2, 1, 5, 3, 1)
     yield "trim-counts-more", F, T, weigh(2, 1, 5, 1, 3)
@@ -380,6 +579,12 @@ def weighted_cases():
     yield "no-12-zero", F, T, weigh(2, 1, 5, 0, 1)
     yield "no-12-ten", F, T, weigh(2, 1, 5, 1, 10)
     yield "no-3-before-12", F, T, weigh(2, 1, 40001, 0, 10)
+    # the new card
+    yield "card-field-counts-more", NF, NT, weigh(2, 1, 13, 3, 1)
+    rows = [dice.new_rows(40, 300, 20, 20) for _ in range(2)]
+    yield "card-random-unlike", table(3, rows[0]), table(4, rows[1]), weigh(12, 3, 6, 7, 2)
+    yield "no-15-unlike-cards", NF, T, weigh(2, 1, 5, 2, 3)
+    yield "no-12-before-15", F, NT, weigh(2, 1, 5, 1, 10)
 
 
 def stored():
@@ -387,6 +592,10 @@ def stored():
     for home, name_of_input, numbers, all_cases in (HERE, "stdin", columns, cases()), (WEIGHTS, "args", arguments, weighted_cases()):
         for name, field, trim, raw in all_cases:
             files = {"FIELD.TAB": field, "TRIM.TAB": trim, name_of_input: raw, "stdout": printed(field, trim, raw, numbers)}
+            # a name says its refusal, and was chosen without the model
+            told = re.match(r"no-(\d+)-", name)
+            assert bool(told) == (len(files["stdout"]) == 7) or name.startswith("order-"), name
+            assert not told or files["stdout"] == b"%6d\n" % int(told[1]), name
             yield os.path.join(home, name), files
 
 

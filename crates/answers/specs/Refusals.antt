@@ -1,28 +1,27 @@
 -- Every number that a call of the session is refused by is one of the table's. Assumes nothing.
 use mathlib.Core.Bool.{Bool, true, false, cond, _&&_}
-use mathlib.Core.List.{List, [], _∷_}
+use mathlib.Core.List.{[], _∷_}
 use Prim.Native.Nat.{ℕ, zero, suc, _+_}
 use native.Mathlib.Omega.{arith}
 use lib.Dec.{eqb, leb}
-use lib.IntN.{ℤ}
 use Rattle.rules.specs.declared.Answer.the-variants.{Refused, Opened, Read, Settled, Given, NotYet, Finished}
 use Rattle.rules.specs.declared.Query.{Query}
 use Rattle.rules.specs.declared.Session.{Session}
 use Rattle.rules.specs.declared.Step.{Step}
-use Rattle.rules.specs.Tables.{rowCount, rowInRange, rowInOrder, sizeFits}
-use Rattle.rules.specs.Session.{opened, zeros, settled}
+use Rattle.rules.specs.Tables.{Table, rowCount, rowInRange, rowInOrder, sizeFits}
+use Rattle.rules.specs.Session.{twoTables, opened, zeros, settled}
 use Rattle.rules.specs.Read.{readBlock}
 use Rattle.rules.specs.Take.{firstHeld, movedOut, givesPair, finished}
 use Rattle.rules.specs.Numbers.{listLength, blockSize, radiusRange, weightRange, tableSize, badRecord, rowLimit}
-use Rattle.rules.specs.Numbers.{rowOrder, IsRefusal, first, said, refusal}
-use Rattle.rules.specs.Calls.{step, between, queryCode, sizeCode, sameSizeCode, rowCode, rowsCode, recordFits}
-use Rattle.rules.specs.Calls.{recordCode, lentCode, callCode, newBlockCodeBy, newBlockCode, openCode, openCall}
-use Rattle.rules.specs.Calls.{readCallBy, readCall, takeCallBy, takeCall}
+use Rattle.rules.specs.Numbers.{rowOrder, wrongKind, otherCard, IsRefusal, first, said, refusal}
+use Rattle.rules.specs.Calls.{step, between, isCard, queryCode, sizeCode, sameSizeCode, rowCode, rowsCode, recordFits}
+use Rattle.rules.specs.Calls.{recordCode, lentCode, callCode, newBlockCodeBy, newBlockCode, kindCode, cardsCode}
+use Rattle.rules.specs.Calls.{openCode, openCall, readCallBy, readCall, takeCallBy, takeCall}
 use Rattle.rules.specs.Checks.{unless-refusal, first-refusal}
 
 -- ---- The codes
 
--- of two, three and five checks
+-- of two, three, five and six checks
 first-of-two : (c d : ℕ) → IsRefusal c → IsRefusal d → IsRefusal (first (c ∷ d ∷ []))
 first-of-two c d h k = first-refusal c (d ∷ []) h k
 
@@ -34,6 +33,11 @@ first-of-five : (c d e f g : ℕ) → IsRefusal c → IsRefusal d → IsRefusal 
 first-of-five c d e f g h k l m n =
     first-refusal c (d ∷ e ∷ f ∷ g ∷ []) h (first-refusal d (e ∷ f ∷ g ∷ []) k (first-of-three e f g l m n))
 
+first-of-six : (c d e f g i : ℕ) → IsRefusal c → IsRefusal d → IsRefusal e → IsRefusal f → IsRefusal g → IsRefusal i
+    → IsRefusal (first (c ∷ d ∷ e ∷ f ∷ g ∷ i ∷ []))
+first-of-six c d e f g i h k l m n o =
+    first-refusal c (d ∷ e ∷ f ∷ g ∷ i ∷ []) h (first-of-five d e f g i k l m n o)
+
 query-refusal : (q : Query) → IsRefusal (queryCode q)
 unfolding queryCode
 query-refusal q =
@@ -44,31 +48,46 @@ query-refusal q =
     (unless-refusal (between 1 9 (q .weights .field .0)) weightRange (omega arith))
     (unless-refusal (between 1 9 (q .weights .trim .0)) weightRange (omega arith))
 
-size-refusal : (t : List ℤ) → IsRefusal (sizeCode t)
+size-refusal : (t : Table) → IsRefusal (sizeCode t)
 unfolding sizeCode
 size-refusal t = unless-refusal (sizeFits t) tableSize (omega arith)
 
-open-code : (q : Query) (f t : List ℤ) → IsRefusal (openCode q f t)
-unfolding openCode
-open-code q f t = first-of-three _ _ _ (query-refusal q) (size-refusal f) (size-refusal t)
+kind-refusal : (t : Table) → IsRefusal (kindCode t)
+unfolding kindCode
+kind-refusal t = unless-refusal (isCard (t .coordinates)) wrongKind (omega arith)
 
-row-refusal : (t : List ℤ) (i : ℕ) → IsRefusal (rowCode t i)
+cards-refusal : (f t : Table) → IsRefusal (cardsCode f t)
+unfolding cardsCode
+cards-refusal f t = unless-refusal (eqb (f .coordinates) (t .coordinates)) otherCard (omega arith)
+
+open-code : (q : Query) (f t : Table) → IsRefusal (openCode q f t)
+unfolding openCode
+open-code q f t =
+    first-of-six _ _ _ _ _ _
+    (query-refusal q)
+    (kind-refusal f)
+    (kind-refusal t)
+    (size-refusal f)
+    (size-refusal t)
+    (cards-refusal f t)
+
+row-refusal : (t : Table) (i : ℕ) → IsRefusal (rowCode t i)
 unfolding rowCode
 row-refusal t i =
     first-of-two _ _
     (unless-refusal (rowInRange t i) rowLimit (omega arith))
     (unless-refusal (rowInOrder t i) rowOrder (omega arith))
 
-rows-refusal : (t : List ℤ) (a n : ℕ) → IsRefusal (rowsCode t a n)
+rows-refusal : (t : Table) (a n : ℕ) → IsRefusal (rowsCode t a n)
 unfolding rowsCode
 rows-refusal t a zero = omega arith
 rows-refusal t a (suc n) = first-of-two _ _ (rows-refusal t a n) (row-refusal t (a + n))
 
-same-size-refusal : (rows : ℕ) (t : List ℤ) → IsRefusal (sameSizeCode rows t)
+same-size-refusal : (rows : ℕ) (t : Table) → IsRefusal (sameSizeCode rows t)
 unfolding sameSizeCode
 same-size-refusal rows t = unless-refusal (sizeFits t && eqb (rowCount t) rows) tableSize (omega arith)
 
-lent-refusal : (f t : List ℤ) (s : Session) → IsRefusal (lentCode f t s)
+lent-refusal : (f t : Table) (s : Session) → IsRefusal (lentCode f t s)
 unfolding lentCode recordCode
 lent-refusal f t s =
     first-of-three _ _ _
@@ -76,7 +95,7 @@ lent-refusal f t s =
     (same-size-refusal (s .rows .field .0) f)
     (same-size-refusal (s .rows .trim .0) t)
 
-call-refusal : (f t : List ℤ) (s : Session) → IsRefusal (callCode f t s)
+call-refusal : (f t : Table) (s : Session) → IsRefusal (callCode f t s)
 unfolding callCode
 call-refusal f t s =
     first-of-three _ _ _
@@ -84,7 +103,7 @@ call-refusal f t s =
     (rows-refusal f 0 (s .depth .field .0))
     (rows-refusal t 0 (s .depth .trim .0))
 
-block-refusal : (f t : List ℤ) (s : Session) → IsRefusal (newBlockCode f t s)
+block-refusal : (f t : Table) (s : Session) → IsRefusal (newBlockCode f t s)
 unfolding newBlockCodeBy
 block-refusal f t s = rows-refusal _ _ _
 
@@ -98,13 +117,13 @@ either : (b : Bool) (x y : Step) → Numbered x → Numbered y → Numbered (con
 either true x y h k = h
 either false x y h k = k
 
-pub open-refusal : (q : Query) (f t : List ℤ) → Numbered (openCall q f t)
+pub open-refusal : (q : Query) (f t : Table) → Numbered (openCall q f t)
 unfolding openCall
 open-refusal q f t =
-    let accepted = step Opened (opened q (record { 0 = rowCount f }) (record { 0 = rowCount t })) in
+    let accepted = step Opened (opened q (twoTables f t)) in
     either (eqb (openCode q f t) 0) accepted (step (Refused (openCode q f t)) zeros) (omega arith) (open-code q f t)
 
-pub read-refusal : (f t : List ℤ) (s : Session) → Numbered (readCall f t s)
+pub read-refusal : (f t : Table) (s : Session) → Numbered (readCall f t s)
 unfolding readCallBy
 read-refusal f t s =
     let new = step (Refused (newBlockCode f t s)) s in
@@ -115,7 +134,7 @@ read-refusal f t s =
     (either (eqb (newBlockCode f t s) 0) (step Read (readBlock f t s)) new (omega arith) (block-refusal f t s)))
     (call-refusal f t s)
 
-pub take-refusal : (f t : List ℤ) (s : Session) → Numbered (takeCall f t s)
+pub take-refusal : (f t : Table) (s : Session) → Numbered (takeCall f t s)
 unfolding takeCallBy
 take-refusal f t s =
     let none = cond (finished f t s) (step Finished s) (step NotYet s) in

@@ -4,27 +4,26 @@ use Prim.Native.Nat.{ℕ, zero, suc, _+_, _*_, _≤_, _<_}
 use mathlib.Core.Path.{_≡_}
 use mathlib.Core.Bool.{Bool, true, cond}
 use mathlib.Core.List.{List, _++_}
-use lib.IntN.{ℤ}
 use lib.ListN.{length, take}
 use Rattle.lists.specs.Lists.{ins, sort}
 use Rattle.lists.specs.Words.{Ordered}
 use Rattle.rules.specs.declared.Pair.{Pair}
-use Rattle.rules.specs.Tables.{Terms, mostRows, rowInRange, Block, row, withdrawn, pairAt, qualifying, width}
-use Rattle.rules.specs.Tables.{ahead, rowCount}
+use Rattle.rules.specs.Tables.{Table, Terms, mostRows, rowInRange, Block, row, withdrawn, pairAt, qualifying}
+use Rattle.rules.specs.Tables.{ahead, width, rowCount}
 use Rattle.keys.specs.Held.{Keyed}
 
 -- a part of a table, a rows standing before it
-abbrev pub at : ℕ → List ℤ → Block
+abbrev pub at : ℕ → Table → Block
 at a rows = record { start = a; rows = rows }
 
 -- below a withdrawn row all are: scores fall
-abbrev pub Below : List ℤ → Type 0
+abbrev pub Below : Table → Type 0
 Below rows =
     (i j : ℕ) → i ≤ j → j < rowCount rows → withdrawn (row rows i) ≡ true → withdrawn (row rows j) ≡ true
 
 -- a part of n whole rows within a table's 65,535, each of which passed 6 and 7
-pub record Rows (a : ℕ) (rows : List ℤ) : Type 0 where
-  pub whole : width * rowCount rows ≡ length rows
+pub record Rows (a : ℕ) (rows : Table) : Type 0 where
+  pub whole : width (rows .coordinates) * rowCount rows ≡ length (rows .numbers)
   pub few : a + rowCount rows ≤ mostRows
   pub range : (i : ℕ) → i < rowCount rows → rowInRange rows i ≡ true
   pub below : Below rows

@@ -6,14 +6,13 @@ use mathlib.Core.List.{List, [], _∷_, _++_, map}
 use Prim.Native.Nat.{ℕ, zero, suc, _+_, _≤_, _<_}
 use native.Mathlib.Omega.{arith}
 use lib.Dec.{eqb, ltb}
-use lib.IntN.{ℤ}
 use borrow.Author.Tests.{eqb-true, eqb-false, ltb-true, ltb-false}
 use Rattle.lists.specs.Lists.{consIf, keep, range, each}
 use Rattle.lists.specs.Appends.{keep-append, each-append, range-end}
 use Rattle.lists.specs.Bools.{and-false, or-none-out}
 use Rattle.rules.specs.declared.Pair.{Pair}
 use Rattle.rules.specs.declared.Query.{Query}
-use Rattle.rules.specs.Tables.{qualifies, withdrawn, rowsQualify, Terms, terms, Block, Row, row, rowCount}
+use Rattle.rules.specs.Tables.{Table, qualifies, withdrawn, rowsQualify, Terms, terms, Block, Row, row, rowCount}
 use Rattle.rules.specs.Tables.{pairAt, qualifying}
 
 -- the terms of a query by places alone: a withdrawn row qualifies as any other
@@ -26,12 +25,12 @@ placed q =
     }
 
 -- row i + 1 of x and one of the first rows of y
-unfoldable pub rowNear : Terms → List ℤ → List ℤ → ℕ → ℕ → Bool
+unfoldable pub rowNear : Terms → Table → Table → ℕ → ℕ → Bool
 rowNear w x y i zero = false
 rowNear w x y i (suc j) = rowNear w x y i j || w .near (row x i) (row y j)
 
 -- one of the first rows of x and a row of y
-unfoldable pub anyNear : Terms → List ℤ → List ℤ → ℕ → Bool
+unfoldable pub anyNear : Terms → Table → Table → ℕ → Bool
 anyNear w x y zero = false
 anyNear w x y (suc i) = anyNear w x y i || rowNear w x y i (rowCount y)
 
@@ -74,7 +73,7 @@ unfolding rowsQualify
 near-placed q x y h =
     rw h (ap (λ b. not (withdrawn x) && b) (and-false (not (withdrawn y))) ∙ and-false (not (withdrawn x)))
 
-row-placed : (q : Query) (x y : List ℤ) (i n : ℕ) → rowNear (placed q) x y i n ≡ false
+row-placed : (q : Query) (x y : Table) (i n : ℕ) → rowNear (placed q) x y i n ≡ false
     → rowNear (terms q) x y i n ≡ false
 unfolding rowNear
 row-placed q x y i zero h = refl
@@ -82,7 +81,7 @@ row-placed q x y i (suc n) h =
     let both = or-none-out (rowNear (placed q) x y i n) (placed q .near (row x i) (row y n)) h in
     ap₂ (λ a b. a || b) (row-placed q x y i n (both .0)) (near-placed q (row x i) (row y n) (both .1))
 
-any-placed : (q : Query) (x y : List ℤ) (n : ℕ) → anyNear (placed q) x y n ≡ false → anyNear (terms q) x y n ≡ false
+any-placed : (q : Query) (x y : Table) (n : ℕ) → anyNear (placed q) x y n ≡ false → anyNear (terms q) x y n ≡ false
 unfolding anyNear
 any-placed q x y zero h = refl
 any-placed q x y (suc n) h =
@@ -94,17 +93,17 @@ pub none-placed : (q : Query) (x y : Block) → anyNear (placed q) (x .rows) (y 
 none-placed q x y h = none-qualify (terms q) x y (any-placed q (x .rows) (y .rows) (rowCount (x .rows)) h)
 
 -- none of y's rows from row j to before row r lies near row i of x, rows counted from 0
-abbrev pub NoneNear : Terms → List ℤ → ℕ → List ℤ → ℕ → ℕ → Type 0
+abbrev pub NoneNear : Terms → Table → ℕ → Table → ℕ → ℕ → Type 0
 NoneNear w x i y j r = (k : ℕ) → j ≤ k → k < r → w .near (row x i) (row y k) ≡ false
 
 -- r is the first of y's first n rows from row j on that lies near row i of x, or n
-pub record NextNear (w : Terms) (x : List ℤ) (i : ℕ) (y : List ℤ) (n j r : ℕ) : Type 0 where
+pub record NextNear (w : Terms) (x : Table) (i : ℕ) (y : Table) (n j r : ℕ) : Type 0 where
   pub from : j ≤ r
   pub upto : r ≤ n
   pub none-before : NoneNear w x i y j r
   pub found : r < n → w .near (row x i) (row y r) ≡ true
 
-module _ (w : Terms) (x : List ℤ) (i : ℕ) (y : List ℤ) (j r : ℕ) (none : NoneNear w x i y j r) where
+module _ (w : Terms) (x : Table) (i : ℕ) (y : Table) (j r : ℕ) (none : NoneNear w x i y j r) where
   -- one row more that does not lie near
   pub none-more : w .near (row x i) (row y r) ≡ false → NoneNear w x i y j (r + 1)
   none-more here k h l = go (eqb k r) refl

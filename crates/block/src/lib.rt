@@ -1,12 +1,12 @@
 // The block join: the qualifying pairs of a field block and a trim block, each a part of its table, are put among the
-// pairs held.
+// pairs held. Both tables' shades have n coordinates.
 use rules::Pair;
 use rules::Query;
 ghost use mathlib.Core.Path.{_≡_};
 ghost use mathlib.Core.Bool.{true, false};
 ghost use Prim.Native.Nat.{_+_, _≤_, _<_, _%_};
 ghost use lib.ListN.{length};
-ghost use Rattle.rules.specs.Tables.{mostRows, rowInRange, row, withdrawn, terms, pairAt, HasRow, rowCount};
+ghost use Rattle.rules.specs.Tables.{table, mostRows, rowInRange, row, withdrawn, terms, pairAt, HasRow, rowCount};
 ghost use Rattle.session_laws.specs.Record.{QueryFits};
 ghost use Rattle.keys.specs.Held.{Narrow};
 ghost use Rattle.block.specs.Block.{at, Rows, Below, Joined};
@@ -14,26 +14,41 @@ ghost use Rattle.block.specs.Live.{Live};
 ghost use Rattle.block.specs.Small.{SmallPairs};
 ghost use Rattle.block.specs.Near.{placed, rowNear, anyNear, NoneNear, NextNear};
 
-// Whether row i + 1 of x and row j + 1 of y lie within the radius, withdrawn or not.
-fn near(q: Query, x: &[i32], i: usize, y: &[i32], j: usize) -> bool
-    requires { ⌜ HasRow (now x) i × HasRow (now y) j ⌝ }
-    ensures { λ r. ⌜ r ≡ placed q .near (row (now (x .entry)) i) (row (now (y .entry)) j) ⌝ }
+fn near_at(n: u32, q: Query, x: &[i32], i: usize, y: &[i32], j: usize) -> bool
+    requires { ⌜ HasRow (table n (now x)) i × HasRow (table n (now y)) j ⌝ }
+    ensures { λ r. ⌜ r ≡ placed q .near (row (table n (now (x .entry))) i) (row (table n (now (y .entry))) j) ⌝ }
 {
-    let first = tables::shade(x, i);
-    let second = tables::shade(y, j);
+    let first = tables::shade(n, x, i);
+    let second = tables::shade(n, y, j);
     distance::qualifies(q.radius, first, second)
 }
 
-// Whether row i + 1 of x lies near any row of y. It looks at all of them: no branch stands in the loop.
-fn row_near(q: Query, x: &[i32], i: usize, y: &[i32]) -> bool
-    requires { ⌜ HasRow (now x) i ⌝ }
-    ensures { λ r. ⌜ r ≡ rowNear (placed q) (now (x .entry)) (now (y .entry)) i (rowCount (now (y .entry))) ⌝ }
+// Whether row i + 1 of x and row j + 1 of y lie within the radius, withdrawn or not. The code is chosen by n, so that
+// the compiler knows how many numbers a row has; it makes the choice outside the loops.
+fn near(n: u32, q: Query, x: &[i32], i: usize, y: &[i32], j: usize) -> bool
+    requires { ⌜ HasRow (table n (now x)) i × HasRow (table n (now y)) j ⌝ }
+    ensures { λ r. ⌜ r ≡ placed q .near (row (table n (now (x .entry))) i) (row (table n (now (y .entry))) j) ⌝ }
 {
-    let n = tables::row_count(y);
+    if n == 2 {
+        return near_at(2, q, x, i, y, j);
+    }
+    if n == 3 {
+        return near_at(3, q, x, i, y, j);
+    }
+    near_at(n, q, x, i, y, j)
+}
+
+// Whether row i + 1 of x lies near any row of y. It looks at all of them: no branch stands in the loop.
+fn row_near(n: u32, q: Query, x: &[i32], i: usize, y: &[i32]) -> bool
+    requires { ⌜ HasRow (table n (now x)) i ⌝ }
+    ensures { λ r. ⌜ r ≡ rowNear (placed q) (table n (now (x .entry))) (table n (now (y .entry))) i
+        (rowCount (table n (now (y .entry)))) ⌝ }
+{
+    let m = tables::row_count(n, y);
     let mut seen = false;
     let mut j: usize = 0;
-    while j < n {
-        let here = near(q, x, i, y, j);
+    while j < m {
+        let here = near(n, q, x, i, y, j);
         seen = seen | here;
         j += 1;
     }
@@ -41,14 +56,15 @@ fn row_near(q: Query, x: &[i32], i: usize, y: &[i32]) -> bool
 }
 
 // Whether any row of x lies near any row of y.
-pub fn any_near(q: Query, x: &[i32], y: &[i32]) -> bool
-    ensures { λ r. ⌜ r ≡ anyNear (placed q) (now (x .entry)) (now (y .entry)) (rowCount (now (x .entry))) ⌝ }
+pub fn any_near(n: u32, q: Query, x: &[i32], y: &[i32]) -> bool
+    ensures { λ r. ⌜ r ≡ anyNear (placed q) (table n (now (x .entry))) (table n (now (y .entry)))
+        (rowCount (table n (now (x .entry)))) ⌝ }
 {
-    let m = tables::row_count(x);
+    let m = tables::row_count(n, x);
     let mut seen = false;
     let mut i: usize = 0;
     while i < m {
-        let here = row_near(q, x, i, y);
+        let here = row_near(n, q, x, i, y);
         seen = seen | here;
         i += 1;
     }
@@ -57,14 +73,15 @@ pub fn any_near(q: Query, x: &[i32], y: &[i32]) -> bool
 
 // The pair of row i + 1 of x and row j + 1 of y, each score by its table's weight; a and c rows stand before x and y in
 // their tables. Two weighted scores of rows that passed 6 add up to a small sum.
-fn pair_at(q: Query, x: &[i32], a: usize, i: usize, y: &[i32], c: usize, j: usize) -> Pair
-    requires { ⌜ QueryFits q × (rowInRange (now x) i ≡ true) × (rowInRange (now y) j ≡ true) ⌝ }
-    requires { ⌜ HasRow (now x) i × HasRow (now y) j
+fn pair_at(n: u32, q: Query, x: &[i32], a: usize, i: usize, y: &[i32], c: usize, j: usize) -> Pair
+    requires { ⌜ QueryFits q × (rowInRange (table n (now x)) i ≡ true) × (rowInRange (table n (now y)) j ≡ true) ⌝ }
+    requires { ⌜ HasRow (table n (now x)) i × HasRow (table n (now y)) j
         × (a + i < mostRows) × (c + j < mostRows) ⌝ }
-    ensures { λ r. ⌜ (r ≡ pairAt (terms q) (at a (now (x .entry))) (at c (now (y .entry))) i j) × Narrow r ⌝ }
+    ensures { λ r. ⌜ (r ≡ pairAt (terms q) (at a (table n (now (x .entry)))) (at c (table n (now (y .entry)))) i j)
+        × Narrow r ⌝ }
 {
-    let s = tables::weighted(q.weights.field.0, x, i);
-    let t = tables::weighted(q.weights.trim.0, y, j);
+    let s = tables::weighted(q.weights.field.0, n, x, i);
+    let t = tables::weighted(q.weights.trim.0, n, y, j);
     Pair {
         sum: (s + t) as u32,
         field: (a + i + 1) as u32,
@@ -73,78 +90,97 @@ fn pair_at(q: Query, x: &[i32], a: usize, i: usize, y: &[i32], c: usize, j: usiz
 }
 
 // How many rows of x are not withdrawn: withdrawn rows stand at the end.
-fn live_rows(x: &[i32]) -> usize
-    requires { ⌜ Below (now x) ⌝ }
-    ensures { λ r. ⌜ Live (now (x .entry)) r ⌝ }
+fn live_rows(n: u32, x: &[i32]) -> usize
+    requires { ⌜ Below (table n (now x)) ⌝ }
+    ensures { λ r. ⌜ Live (table n (now (x .entry))) r ⌝ }
 {
-    let mut n = tables::row_count(x);
-    while 0 < n {
-        if !tables::is_withdrawn(x, n - 1) {
-            return n;
+    let mut m = tables::row_count(n, x);
+    while 0 < m {
+        if !tables::is_withdrawn(n, x, m - 1) {
+            return m;
         }
-        n -= 1;
+        m -= 1;
     }
-    n
+    m
+}
+
+fn near_by_at(n: u32, q: Query, x: &[i32], i: usize, y: &[i32], j: usize) -> bool
+    requires { ⌜ HasRow (table n (now x)) i × HasRow (table n (now y)) j ⌝ }
+    requires { ⌜ (withdrawn (row (table n (now x)) i) ≡ false) × (withdrawn (row (table n (now y)) j) ≡ false) ⌝ }
+    requires { ⌜ SmallPairs (q .radius) (table n (now x)) (table n (now y)) ⌝ }
+    ensures { λ r. ⌜ r ≡ terms q .near (row (table n (now (x .entry))) i) (row (table n (now (y .entry))) j) ⌝ }
+{
+    let first = tables::shade(n, x, i);
+    let second = tables::shade(n, y, j);
+    distance::near_small(q.radius, first, second)
 }
 
 // Whether row i + 1 of x and row j + 1 of y, neither of them withdrawn, lie within the radius: at 32 bits, as rows that
-// passed 6 allow.
-fn near_by(q: Query, x: &[i32], i: usize, y: &[i32], j: usize) -> bool
-    requires { ⌜ HasRow (now x) i × HasRow (now y) j ⌝ }
-    requires { ⌜ (withdrawn (row (now x) i) ≡ false) × (withdrawn (row (now y) j) ≡ false) ⌝ }
-    requires { ⌜ SmallPairs (q .radius) (now x) (now y) ⌝ }
-    ensures { λ r. ⌜ r ≡ terms q .near (row (now (x .entry)) i) (row (now (y .entry)) j) ⌝ }
+// passed 6 allow. The code is chosen by n.
+fn near_by(n: u32, q: Query, x: &[i32], i: usize, y: &[i32], j: usize) -> bool
+    requires { ⌜ HasRow (table n (now x)) i × HasRow (table n (now y)) j ⌝ }
+    requires { ⌜ (withdrawn (row (table n (now x)) i) ≡ false) × (withdrawn (row (table n (now y)) j) ≡ false) ⌝ }
+    requires { ⌜ SmallPairs (q .radius) (table n (now x)) (table n (now y)) ⌝ }
+    ensures { λ r. ⌜ r ≡ terms q .near (row (table n (now (x .entry))) i) (row (table n (now (y .entry))) j) ⌝ }
 {
-    let first = tables::shade(x, i);
-    let second = tables::shade(y, j);
-    distance::near_small(q.radius, first, second)
+    if n == 2 {
+        return near_by_at(2, q, x, i, y, j);
+    }
+    if n == 3 {
+        return near_by_at(3, q, x, i, y, j);
+    }
+    near_by_at(n, q, x, i, y, j)
 }
 
 // Whether none of the eight rows of y from row k + 1 on lies near row i + 1 of x, live rows all; no, too, where k is
 // not a multiple of 8 or fewer are left. So it looks at no row twice.
-fn eight_far(q: Query, x: &[i32], i: usize, y: &[i32], n: usize, k: usize) -> bool
-    requires { ⌜ HasRow (now x) i × (withdrawn (row (now x) i) ≡ false) × Live (now y) n × (k ≤ n) ⌝ }
-    requires { ⌜ SmallPairs (q .radius) (now x) (now y) ⌝ }
-    ensures { λ r. ⌜ (r ≡ true → (k + 8 ≤ n) × NoneNear (terms q) (now (x .entry)) i (now (y .entry)) k (k + 8)) ⌝ }
+fn eight_far(n: u32, q: Query, x: &[i32], i: usize, y: &[i32], m: usize, k: usize) -> bool
+    requires { ⌜ HasRow (table n (now x)) i × (withdrawn (row (table n (now x)) i) ≡ false)
+        × Live (table n (now y)) m × (k ≤ m) ⌝ }
+    requires { ⌜ SmallPairs (q .radius) (table n (now x)) (table n (now y)) ⌝ }
+    ensures { λ r. ⌜ (r ≡ true → (k + 8 ≤ m)
+        × NoneNear (terms q) (table n (now (x .entry))) i (table n (now (y .entry))) k (k + 8)) ⌝ }
 {
-    if !((k % 8 == 0) & (k + 8 <= n)) {
+    if !((k % 8 == 0) & (k + 8 <= m)) {
         return false;
     }
     let mut seen = false;
     let mut b: usize = 0;
     while b < 8 {
-        let here = near_by(q, x, i, y, k + b);
+        let here = near_by(n, q, x, i, y, k + b);
         seen = seen | here;
         b += 1;
     }
     !seen
 }
 
-// The first of y's n live rows from row j + 1 on that lies near row i + 1 of x, a live row too, counted from 0; n where
+// The first of y's m live rows from row j + 1 on that lies near row i + 1 of x, a live row too, counted from 0; m where
 // none does. No score is looked at.
-fn next_near(q: Query, x: &[i32], i: usize, y: &[i32], n: usize, j: usize) -> usize
-    requires { ⌜ HasRow (now x) i × (withdrawn (row (now x) i) ≡ false) × Live (now y) n × (j ≤ n) ⌝ }
-    requires { ⌜ SmallPairs (q .radius) (now x) (now y) ⌝ }
-    ensures { λ r. ⌜ NextNear (terms q) (now (x .entry)) i (now (y .entry)) n j r ⌝ }
+fn next_near(n: u32, q: Query, x: &[i32], i: usize, y: &[i32], m: usize, j: usize) -> usize
+    requires { ⌜ HasRow (table n (now x)) i × (withdrawn (row (table n (now x)) i) ≡ false)
+        × Live (table n (now y)) m × (j ≤ m) ⌝ }
+    requires { ⌜ SmallPairs (q .radius) (table n (now x)) (table n (now y)) ⌝ }
+    ensures { λ r. ⌜ NextNear (terms q) (table n (now (x .entry))) i (table n (now (y .entry))) m j r ⌝ }
 {
     let mut k = j;
-    while k < n {
-        if eight_far(q, x, i, y, n, k) {
+    while k < m {
+        if eight_far(n, q, x, i, y, m, k) {
             k += 8;
         } else {
-            if near_by(q, x, i, y, k) {
+            if near_by(n, q, x, i, y, k) {
                 return k;
             }
             k += 1;
         }
     }
-    n
+    m
 }
 
 // The block join: of the pairs held and the qualifying pairs of x and y the best-ranked, at most room: how many are
 // held then. It goes from one near pair of live rows to the next; where the room is used up, a pair that would fall off
 // is not put.
 pub fn join(
+    n: u32,
     q: Query,
     room: usize,
     x: &[i32],
@@ -155,20 +191,20 @@ pub fn join(
     held: usize,
 ) -> usize
     requires { ⌜ (held ≤ room) × (room ≤ 64) × (length (now keys) ≡ 64) ⌝ }
-    requires { ⌜ QueryFits q × Rows a (now x) × Rows c (now y) ⌝ }
-    ensures { λ r. ⌜ Joined (terms q) room (at a (now (x .entry))) (at c (now (y .entry))) held
+    requires { ⌜ QueryFits q × (n ≤ 3) × Rows a (table n (now x)) × Rows c (table n (now y)) ⌝ }
+    ensures { λ r. ⌜ Joined (terms q) room (at a (table n (now (x .entry)))) (at c (table n (now (y .entry)))) held
         (now (keys .entry)) r (now (keys .exit)) ⌝ }
 {
-    let m = live_rows(x);
-    let n = live_rows(y);
+    let l = live_rows(n, x);
+    let m = live_rows(n, y);
     let last = (room + 63) % 64;
     let mut g = held;
     let mut i: usize = 0;
     let mut j: usize = 0;
-    while i < m {
-        let k = next_near(q, x, i, y, n, j);
-        if k < n {
-            let p = pair_at(q, x, a, i, y, c, k);
+    while i < l {
+        let k = next_near(n, q, x, i, y, m, j);
+        if k < m {
+            let p = pair_at(n, q, x, a, i, y, c, k);
             let key = keys::key(p);
             if !((g == room) & (keys[last] < key)) {
                 g = keys::put(keys, g, room, p);

@@ -1,60 +1,84 @@
 // Calls of the session, and the list of those that must be refused and change nothing: with harmed records, harmed
-// tables, queries out of range. Each of these answers its number, or 0 if it was not refused by it or changed a thing.
+// tables, wrong openings. Each of these answers its number, or 0 if it was not refused by it or changed a thing.
 use crate::dice;
 use crate::due;
 use crate::due::Case;
 use crate::judge;
+use crate::openings;
+use crate::plain;
 use crate::plain::Sums;
 use crate::plain::Table;
 use crate::plain::pair;
 use rules::Counts;
-use rules::FieldWeight;
+use rules::FieldKind;
+use rules::Kinds;
 use rules::Pair;
 use rules::Query;
 use rules::Session;
 use rules::Step;
-use rules::TrimWeight;
-use rules::Weights;
+use rules::TrimKind;
 use std::num::wrapping_add_u32;
 use std::num::wrapping_add_u64;
 use std::num::wrapping_sub_u32;
 
-// Two tables, and how many numbers of each are lent.
+// Two tables on a card of so many coordinates, and how many numbers of each are lent.
 pub struct Lent {
     pub field: Table,
     pub trim: Table,
     pub fields: u32,
     pub trims: u32,
+    pub card: u32,
 }
 
 // The first rows of two tables.
-pub fn first_rows(field: Table, trim: Table, rows: Counts) -> Lent {
+pub fn first_rows(card: u32, field: Table, trim: Table, rows: Counts) -> Lent {
     Lent {
         field,
         trim,
-        fields: 4 * (rows.field.0 % 13),
-        trims: 4 * (rows.trim.0 % 13),
+        fields: plain::numbers(card, rows.field.0),
+        trims: plain::numbers(card, rows.trim.0),
+        card,
     }
 }
 
-// The first numbers of a table.
-fn part(t: &Table, n: u32) -> &[i32] {
-    let all = &t[..];
-    &all[0..(n % 53) as usize]
+// The first numbers of a slice; all, if there are not so many.
+pub fn first(t: &[i32], n: u32) -> &[i32] {
+    let end = n as usize;
+    if end <= t.len() {
+        return &t[..end];
+    }
+    t
+}
+
+pub fn kinds(field: u32, trim: u32) -> Kinds {
+    Kinds {
+        field: FieldKind(field),
+        trim: TrimKind(trim),
+    }
+}
+
+// The kinds of two tables on a card.
+pub fn kinds_on(card: u32) -> Kinds {
+    if card == 3 { kinds(3, 4) } else { kinds(1, 2) }
+}
+
+// An opening that is told these kinds.
+pub fn open_as(l: Lent, kinds: Kinds, query: Query) -> Step {
+    let f = l.field;
+    let t = l.trim;
+    opening::start(query, kinds, first(&f, l.fields), first(&t, l.trims))
 }
 
 pub fn open(l: Lent, query: Query) -> Step {
-    let f = l.field;
-    let t = l.trim;
-    opening::start(query, part(&f, l.fields), part(&t, l.trims))
+    open_as(l, kinds_on(l.card), query)
 }
 
 // A read or a take.
 pub fn call(l: Lent, s: Session, is_read: bool) -> Step {
     let f = l.field;
     let t = l.trim;
-    let fields = part(&f, l.fields);
-    let trims = part(&t, l.trims);
+    let fields = first(&f, l.fields);
+    let trims = first(&t, l.trims);
     if is_read {
         return reading::read(fields, trims, s);
     }
@@ -65,8 +89,8 @@ pub fn call(l: Lent, s: Session, is_read: bool) -> Step {
 pub fn shown(l: Lent, s: Session) -> u32 {
     let f = l.field;
     let t = l.trim;
-    let rows = showing::show(part(&f, l.fields), part(&t, l.trims), s);
-    (rows.len() % 53) as u32
+    let rows = showing::show(first(&f, l.fields), first(&t, l.trims), s);
+    (rows.len() % 66) as u32
 }
 
 // The number, if the call was answered by it and gave back this record; else 0.
@@ -81,7 +105,7 @@ pub fn kept(step: Step, s: Session, code: u32) -> u32 {
 const NONE: u32 = 40;
 
 // Kinds of harm to a record.
-pub const HARMS: u32 = 24;
+pub const HARMS: u32 = 27;
 
 // A record that 5 refuses, made of one that it does not. The first pair place is harmed whether a pair is held there or
 // none is; a harm that needs a longer block, a second row or a held pair is another where there is none.
@@ -111,6 +135,9 @@ pub fn harmed(s: Session, kind: u32) -> Session {
         20 => r.pairs[1] = held_twice(s),
         21 => r.query.weights.field.0 = 0,
         22 => r.query.weights.trim.0 = 10,
+        23 => r.rows.card = 0,
+        24 => r.rows.card = 1,
+        25 => r.rows.card = 4,
         _ => r.pairs[63] = pair(20000, 0, 0),
     }
     r
@@ -142,34 +169,56 @@ fn harmed_record(l: Lent, s: Session, kind: u32, is_read: bool) -> u32 {
     judge::when(shown(l, h) == 0, code, 0)
 }
 
-// How much less than 4 more a size is made: one less, one more, a row less, a row more.
-const LESS: [u32; 4] = [5, 3, 8, 0];
-
-// Another size than n.
-fn other_size(n: u32, kind: u32) -> u32 {
-    let other = wrapping_sub_u32(wrapping_add_u32(n, 4), LESS[(kind % 8 / 2) as usize]);
-    judge::when(n < 4, 4, other)
+// As many numbers as the same rows have on the other card.
+pub fn turned(card: u32, n: u32) -> u32 {
+    if card == 3 {
+        n - n / 5
+    } else {
+        wrapping_add_u32(n, n / 4)
+    }
 }
 
-fn resized(l: Lent, kind: u32) -> Lent {
+// Another size than n: one less, one more, a row less, a row more, the same rows on the other card.
+fn other_size(card: u32, n: u32, kind: u32) -> u32 {
+    let row = plain::width(card);
+    if n < row {
+        return row;
+    }
+    match kind % 5 {
+        0 => wrapping_sub_u32(n, 1),
+        1 => wrapping_add_u32(n, 1),
+        2 => wrapping_sub_u32(n, row),
+        3 => wrapping_add_u32(n, row),
+        _ => turned(card, n),
+    }
+}
+
+fn resized(l: Lent, of_field: bool, kind: u32) -> Lent {
     let mut r = l;
-    if kind % 2 == 0 {
-        r.fields = other_size(l.fields, kind);
+    if of_field {
+        r.fields = other_size(l.card, l.fields, kind);
     } else {
-        r.trims = other_size(l.trims, kind);
+        r.trims = other_size(l.card, l.trims, kind);
     }
     r
 }
 
-// Where a number of a row stands.
-fn place(row: u32, column: u32) -> usize {
-    (4 * (wrapping_add_u32(row, 12) % 13) + column % 4) as usize
+// The record is on the other card: the slices do not fit it, unless both are empty.
+fn harmed_card(l: Lent, s: Session, is_read: bool) -> u32 {
+    if (l.fields == 0) & (l.trims == 0) {
+        return NONE;
+    }
+    let other = wrapping_sub_u32(5, l.card);
+    let mut h = s;
+    h.rows.card = other;
+    let code = kept(call(l, h, is_read), h, 4);
+    judge::when(shown(l, h) == 0, code, 0)
 }
 
 // The tables with another number in a row of one of them.
 fn with_number(l: Lent, of_field: bool, row: u32, column: u32, x: i32) -> Lent {
     let mut r = l;
-    let at = place(row, column) % 52;
+    let at = plain::place(l.card, row, column) % 65;
     if of_field {
         r.field[at] = x;
     } else {
@@ -183,7 +232,7 @@ fn can_rise(l: Lent, of_field: bool, row: u32) -> bool {
     if row < 2 {
         return false;
     }
-    let at = place(row - 1, 1) % 52;
+    let at = plain::place(l.card, row - 1, 1) % 65;
     if of_field {
         l.field[at] < 9999
     } else {
@@ -196,24 +245,35 @@ fn was_read(d: Counts, of_field: bool, row: u32) -> bool {
 }
 
 // Numbers that no row has, two for each column.
-const BAD: [i32; 8] = [0, 1000000, -1, 10000, -12801, 12701, -12801, 12701];
+const BAD: [i32; 10] = [
+    0,
+    1000000,
+    -1,
+    10000,
+    -12801,
+    12701,
+    -12801,
+    12701,
+    -1,
+    10001,
+];
 
 // A row that was read has a number out of range.
-fn harmed_range(l: Lent, s: Session, kind: u32, row: u32, is_read: bool) -> u32 {
-    if !was_read(s.depth, kind < 8, row) {
+fn harmed_range(l: Lent, s: Session, of_field: bool, kind: u32, row: u32, is_read: bool) -> u32 {
+    if !was_read(s.depth, of_field, row) {
         return NONE;
     }
-    let x = BAD[(kind % 8) as usize];
-    let h = with_number(l, kind < 8, row, kind % 8 / 2, x);
+    let bad = if l.card == 3 { kind % 10 } else { kind % 8 };
+    let h = with_number(l, of_field, row, bad / 2, BAD[(bad % 10) as usize]);
     kept(call(h, s, is_read), s, 6)
 }
 
 // A row that was read has a score above the row before.
-fn harmed_order(l: Lent, s: Session, kind: u32, row: u32, is_read: bool) -> u32 {
-    if !(was_read(s.depth, kind < 8, row) & can_rise(l, kind < 8, row)) {
+fn harmed_order(l: Lent, s: Session, of_field: bool, row: u32, is_read: bool) -> u32 {
+    if !(was_read(s.depth, of_field, row) & can_rise(l, of_field, row)) {
         return NONE;
     }
-    let h = with_number(l, kind < 8, row, 1, 9999);
+    let h = with_number(l, of_field, row, 1, 9999);
     kept(call(h, s, is_read), s, 7)
 }
 
@@ -234,90 +294,26 @@ fn harmed_block(c: Case, m: &Sums, l: Lent, s: Session, kind: u32) -> u32 {
     if (kind % 2 == 0) & (can_rise(l, true, i) & can_rise(l, false, j)) {
         return with_both(l, s, i, j, 1, 9999, 7);
     }
+    if (kind % 3 == 0) & (l.card == 3) {
+        return with_both(l, s, i, j, 4, 10001, 6);
+    }
     with_both(l, s, i, j, 0, 0, 6)
-}
-
-// The record of a refused opening.
-fn zeros() -> Session {
-    due::opened(weighing(0, 0, query(0, 0, 0)), due::counts(0, 0))
-}
-
-// A query with these weights.
-fn weighing(field: u32, trim: u32, q: Query) -> Query {
-    let weights = Weights {
-        field: FieldWeight(field),
-        trim: TrimWeight(trim),
-    };
-    let mut r = q;
-    r.weights = weights;
-    r
-}
-
-// A query of weights 1 and 1.
-pub fn query(k: u32, block: u32, radius: u32) -> Query {
-    let weights = Weights {
-        field: FieldWeight(1),
-        trim: TrimWeight(1),
-    };
-    Query {
-        k,
-        block,
-        radius,
-        weights,
-    }
-}
-
-// An opening that must be refused by a number, and its record by 5.
-fn opening(l: Lent, q: Query, code: u32) -> u32 {
-    let z = zeros();
-    let next = kept(call(l, z, true), z, 5);
-    judge::when(next == 5, kept(open(l, q), z, code), 0)
-}
-
-// An opening with a number of the query out of range, or a table of a part of a row; some with two, the first of which
-// it is refused by.
-fn harmed_opening(l: Lent, q: Query, kind: u32) -> u32 {
-    let mut part = l;
-    match kind {
-        0 => opening(l, query(0, q.block, q.radius), 1),
-        1 => opening(l, query(65, q.block, q.radius), 1),
-        2 => opening(l, query(q.k, 0, q.radius), 2),
-        3 => opening(l, query(q.k, 1025, q.radius), 2),
-        4 => opening(l, weighing(0, 10, query(q.k, q.block, 40001)), 3),
-        5 => {
-            part.fields = 7;
-            opening(part, q, 4)
-        }
-        6 => {
-            part.trims = 7;
-            opening(part, weighing(10, 1, q), 12)
-        }
-        7 => opening(l, weighing(1, 0, q), 12),
-        _ => {
-            part.trims = 7;
-            opening(part, q, 4)
-        }
-    }
 }
 
 // The list of calls that must be refused: one of them, chosen by the seed.
 pub fn some(c: Case, m: &Sums, l: Lent, s: Session, seed: u64, place: u64) -> u32 {
     let is_read = dice::one_in(seed, wrapping_add_u64(place, 40000), 2);
-    let any = dice::below(seed, wrapping_add_u64(place, 10000), 720);
-    let kind = any % 16;
+    let of_field = dice::one_in(seed, wrapping_add_u64(place, 50000), 2);
+    let kind = dice::below(seed, wrapping_add_u64(place, 10000), 2160);
     let row = wrapping_add_u32(dice::below(seed, wrapping_add_u64(place, 20000), 12), 1);
-    match dice::below(seed, wrapping_add_u64(place, 30000), 8) {
-        0 | 1 => harmed_record(l, s, any % HARMS, is_read),
-        2 => kept(call(resized(l, kind), s, is_read), s, 4),
-        3 => harmed_range(l, s, kind, row, is_read),
-        4 | 5 => harmed_order(l, s, kind, row, is_read),
+    match dice::below(seed, wrapping_add_u64(place, 30000), 10) {
+        0 | 1 => harmed_record(l, s, kind % HARMS, is_read),
+        2 => kept(call(resized(l, of_field, kind), s, is_read), s, 4),
+        3 => harmed_range(l, s, of_field, kind, row, is_read),
+        4 | 5 => harmed_order(l, s, of_field, row, is_read),
         6 => harmed_block(c, m, l, s, kind),
-        _ => harmed_opening(l, s.query, kind % 9),
+        7 => openings::harmed(l, s.query, kind % 11),
+        8 => openings::unlike(l, s.query, kind % 24),
+        _ => harmed_card(l, s, is_read),
     }
-}
-
-// An opening with a table of 65,536 rows, which must be refused by 4.
-pub fn too_long(q: Query, long: &[i32; 262144]) -> u32 {
-    let t = [1i32; 4];
-    kept(opening::start(q, long, &t), zeros(), 4)
 }

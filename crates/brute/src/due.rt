@@ -8,6 +8,7 @@ use rules::Pair;
 use rules::Query;
 use rules::Session;
 use rules::TrimRows;
+use rules::TwoTables;
 use std::num::wrapping_add_u32;
 use std::num::wrapping_add_u64;
 use std::num::wrapping_sub_u32;
@@ -53,13 +54,18 @@ pub fn counts(field: u32, trim: u32) -> Counts {
     }
 }
 
-// The record of an opening.
-pub fn opened(query: Query, rows: Counts) -> Session {
+// The record of an opening on a card.
+pub fn opened(query: Query, card: u32, rows: Counts) -> Session {
     let z = plain::pair(0, 0, 0);
     let depth = counts(0, 0);
+    let tables = TwoTables {
+        field: FieldRows(rows.field.0),
+        trim: TrimRows(rows.trim.0),
+        card,
+    };
     Session {
         query,
-        rows,
+        rows: tables,
         depth,
         last: 0,
         out: 0,

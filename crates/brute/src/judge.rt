@@ -6,6 +6,7 @@ use crate::plain::Sums;
 use rules::Counts;
 use rules::Pair;
 use rules::Session;
+use rules::TwoTables;
 use std::num::wrapping_add_u32;
 
 // Faults; 0 is none.
@@ -80,6 +81,11 @@ fn same_counts(a: Counts, b: Counts) -> bool {
     (a.field.0 == b.field.0) & (a.trim.0 == b.trim.0)
 }
 
+fn same_tables(a: TwoTables, b: TwoTables) -> bool {
+    let rows = (a.field.0 == b.field.0) & (a.trim.0 == b.trim.0);
+    rows & (a.card == b.card)
+}
+
 fn same_pair(a: Pair, b: Pair) -> bool {
     (a.sum == b.sum) & ((a.field == b.field) & (a.trim == b.trim))
 }
@@ -101,7 +107,7 @@ pub fn differs(a: Session, b: Session) -> u32 {
     let w = b.query.weights;
     let weights = (v.field.0 == w.field.0) & (v.trim.0 == w.trim.0);
     let query = (a.query.k == b.query.k) & (sizes & weights);
-    let kept = query & (same_counts(a.rows, b.rows) & (a.out == b.out));
+    let kept = query & (same_tables(a.rows, b.rows) & (a.out == b.out));
     let read = same_counts(a.depth, b.depth) & (a.last == b.last);
     let held = (a.held == b.held) & same_pairs(p, q);
     let joined = when(a.joined != b.joined, JOINED, when(held, 0, HELD));

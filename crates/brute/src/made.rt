@@ -1,4 +1,5 @@
-// Tables and queries made from a seed: ties, plateaus, zero scores, empty tables, extreme shades.
+// Tables and queries made from a seed: ties, plateaus, zero scores, empty tables, extreme shades; on the new card many
+// that only L tells apart.
 use crate::dice;
 use crate::plain;
 use crate::plain::Table;
@@ -19,9 +20,21 @@ pub struct Spread {
     // How many of the small shades there are beside the first.
     pub shades: u32,
     pub extreme: bool,
+    // How many of the lights there are beside the first.
+    pub lights: u32,
+    pub card: u32,
 }
 
-fn spread_of(seed: u64) -> Spread {
+// On the new card every second table has a and b 0 throughout.
+fn shades(seed: u64, card: u32) -> u32 {
+    if card == 3 {
+        dice::pick(seed, 4, [0, 0, 0, 0, 1, 3, 7, 11])
+    } else {
+        dice::pick(seed, 4, [0, 1, 3, 3, 5, 7, 9, 11])
+    }
+}
+
+fn spread_of(seed: u64, card: u32) -> Spread {
     let least = dice::pick(seed, 14, [0, 0, 0, 1, 1, 1, 1, 1]);
     let top = dice::pick(seed, 1, [0, 1, 3, 8, 20, 60, 400, 9999]);
     Spread {
@@ -29,13 +42,24 @@ fn spread_of(seed: u64) -> Spread {
         fall: dice::pick(seed, 2, [1, 1, 2, 2, 5, 5, 60, 1000]),
         least,
         plateau: dice::one_in(seed, 3, 3),
-        shades: dice::pick(seed, 4, [0, 1, 3, 3, 5, 7, 9, 11]),
+        shades: shades(seed, card),
         extreme: dice::one_in(seed, 5, 6),
+        lights: dice::pick(seed, 15, [0, 1, 1, 3, 5, 7, 9, 11]),
+        card,
+    }
+}
+
+// On the new card also just less than L's range, and all of it.
+fn radius(seed: u64, card: u32) -> u32 {
+    if card == 3 {
+        dice::pick(seed, 8, [0, 1, 5, 13, 40, 9999, 10000, 25500])
+    } else {
+        dice::pick(seed, 8, [0, 1, 2, 5, 13, 40, 25500, 40000])
     }
 }
 
 // Equal weights often, so that ties are; and some that make ties of unlike scores.
-pub fn query(seed: u64) -> Query {
+pub fn query(seed: u64, card: u32) -> Query {
     let field = dice::pick(seed, 12, [1, 1, 1, 1, 2, 3, 9, 9]);
     let trim = dice::pick(seed, 13, [1, 1, 1, 2, 3, 4, 9, 9]);
     let weights = Weights {
@@ -45,7 +69,7 @@ pub fn query(seed: u64) -> Query {
     Query {
         k: dice::pick(seed, 6, [1, 2, 3, 4, 5, 8, 8, 64]),
         block: dice::pick(seed, 7, [1, 1, 2, 2, 3, 4, 4, 1024]),
-        radius: dice::pick(seed, 8, [0, 1, 2, 5, 13, 40, 25500, 40000]),
+        radius: radius(seed, card),
         weights,
     }
 }
@@ -53,6 +77,8 @@ pub fn query(seed: u64) -> Query {
 const EXTREME: [i32; 5] = [-12800, 12700, -12800, 12700, 0];
 
 const SMALL: [i32; 12] = [0, 0, 1, -1, 2, -2, 3, 4, -5, 9, -13, 40];
+
+const LIGHTS: [i32; 12] = [0, 10000, 1, 9999, 2, 5, 13, 40, 41, 9960, 5000, 3];
 
 fn shade(seed: u64, place: u64, w: Spread) -> i32 {
     if w.extreme {
@@ -74,21 +100,29 @@ fn score(seed: u64, i: u32, w: Spread, s: u32) -> u32 {
     plain::higher(s - fall, w.least)
 }
 
+fn light(seed: u64, place: u64, w: Spread) -> i32 {
+    let i = dice::below(seed, place, wrapping_add_u32(w.lights, 1));
+    LIGHTS[(i % 12) as usize]
+}
+
 // Sets row i + 1.
 fn put_row(t: &mut Table, seed: u64, i: u32, w: Spread, s: u32) {
     let place = (i % 12) as u64;
     let n = dice::pick(seed, place + 100, [0, 0, 1, 2, 77, 500000, 999997, 999998]);
-    let at = (4 * (i % 12)) as usize;
+    let at = plain::numbers(w.card, i % 12) as usize % 56;
     t[at] = (n % 999999 + 1) as i32;
     t[at + 1] = (s % 10000) as i32;
     t[at + 2] = shade(seed, place + 200, w);
     t[at + 3] = shade(seed, place + 300, w);
+    if w.card == 3 {
+        t[at + 4] = light(seed, place + 400, w);
+    }
 }
 
 // A legal table of 12 rows.
-pub fn table(seed: u64) -> Table {
-    let w = spread_of(seed);
-    let mut t = [0i32; 52];
+pub fn table(seed: u64, card: u32) -> Table {
+    let w = spread_of(seed, card);
+    let mut t = [0i32; 65];
     let mut s = w.top;
     for i in 0u32..12 {
         s = score(seed, i, w, s);

@@ -8,25 +8,37 @@ mod dice;
 mod due;
 mod judge;
 mod made;
+mod openings;
 mod plain;
 mod play;
 mod tally;
 mod wrong;
 
-// A case: its session is played, and counted.
+// A case: its session is played, and counted. The first 4,000 are on the old card, the others on the new.
 fn case(seed: u64, tally: &mut [u64; 48]) {
-    let field = made::table(seed);
-    let trim = made::table(std::num::wrapping_add_u64(seed, 1000000));
+    let card = judge::when(seed < 4000, 2, 3);
+    let field = made::table(seed, card);
+    let trim = made::table(std::num::wrapping_add_u64(seed, 1000000), card);
     let rows = due::counts(dice::below(seed, 10, 13), dice::below(seed, 11, 13));
-    let query = made::query(seed);
-    let sums = plain::sums(query, &field, &trim);
+    let query = made::query(seed, card);
+    let sums = plain::sums(query, card, &field, &trim);
     let live = due::counts(
-        plain::live(&field, rows.field.0),
-        plain::live(&trim, rows.trim.0),
+        plain::live(card, &field, rows.field.0),
+        plain::live(card, &trim, rows.trim.0),
     );
     let c = due::case_of(query, rows, live, &sums);
-    let seen = play::whole(c, &sums, calls::first_rows(field, trim, rows), seed, tally);
+    let lent = calls::first_rows(card, field, trim, rows);
+    let seen = play::whole(c, &sums, lent, seed, tally);
     counted(c, seen.said, seen.fault, seen.session.depth, tally);
+    let apart = plain::kept_apart(query, card, &field, &trim, rows);
+    counted_on(card, apart, tally);
+}
+
+// By card, and by how many pairs L alone keeps apart.
+fn counted_on(card: u32, apart: u32, tally: &mut [u64; 48]) {
+    tally::count_if(tally, card == 2, tally::OLD_CARD);
+    tally::count_if(tally, card == 3, tally::NEW_CARD);
+    tally::count_if(tally, 0 < apart, tally::BY_LIGHT);
 }
 
 fn counted(c: Case, said: u32, fault: u32, d: Counts, tally: &mut [u64; 48]) {
@@ -44,9 +56,15 @@ fn counted(c: Case, said: u32, fault: u32, d: Counts, tally: &mut [u64; 48]) {
 }
 
 fn all_cases(tally: &mut [u64; 48]) {
-    for seed in 0u64..4000 {
+    for seed in 0u64..8000 {
         case(seed, tally);
     }
+}
+
+// Tables of 65,536 rows on either card.
+fn too_long(long: &[i32], tally: &mut [u64; 48]) {
+    tally::count(tally, openings::too_long(2, calls::first(long, 262144)));
+    tally::count(tally, openings::too_long(3, long));
 }
 
 fn line(tally: [u64; 48], i: u32, name: &[u8]) {
@@ -59,6 +77,9 @@ fn line(tally: [u64; 48], i: u32, name: &[u8]) {
 
 fn totals(a: [u64; 48]) {
     line(a, tally::CASES, b"cases: ");
+    line(a, tally::OLD_CARD, b"on the old card: ");
+    line(a, tally::NEW_CARD, b"on the new card: ");
+    line(a, tally::BY_LIGHT, b"with pairs that L alone keeps apart: ");
     line(a, tally::EMPTY, b"with an empty table: ");
     line(a, tally::WITHDRAWN, b"with a withdrawn row: ");
     line(a, due::READ, b"blocks read: ");
@@ -89,7 +110,9 @@ fn refusals(a: [u64; 48]) {
     refused(a, 5);
     refused(a, 6);
     refused(a, 7);
+    refused(a, 10);
     refused(a, 12);
+    refused(a, 15);
     line(a, 0, b"not refused so, or changed: ");
 }
 
@@ -97,8 +120,8 @@ fn main() {
     wrong::all();
     let mut tally = [0u64; 48];
     all_cases(&mut tally);
-    let long = [0i32; 262144];
-    tally::count(&mut tally, calls::too_long(made::query(0), &long));
+    let long = [0i32; 327680];
+    too_long(&long, &mut tally);
     totals(tally);
     refusals(tally);
     line(tally, tally::UNFINISHED, b"never finished: ");

@@ -6,8 +6,8 @@ use rules::Query;
 use std::num::wrapping_add_u32;
 use std::num::wrapping_add_u64;
 
-// Room for 12 rows, and for one more that no legal call is lent.
-pub type Table = [i32; 52];
+// Room for 12 rows of up to 5 numbers, and for one more that no legal call is lent.
+pub type Table = [i32; 65];
 
 // What the double loop says of each pair: twice its sum, and one more if it qualifies. Row 0 stands for none.
 pub type Sums = [u32; 169];
@@ -44,33 +44,61 @@ fn raised(x: i32) -> u32 {
     0
 }
 
-// Number c of a row, raised.
-fn number(t: &Table, row: u32, c: u32) -> u32 {
-    let i = wrapping_add_u32(row, 12) % 13;
-    raised(t[(4 * i + c % 4) as usize])
+// How many numbers a row has on a card of 2 or 3 coordinates: pattern, score, a, b and, of 3, L.
+pub fn width(card: u32) -> u32 {
+    wrapping_add_u32(card, 2)
 }
 
-// A row's score by its table's weight.
-fn weighted(weight: u32, t: &Table, row: u32) -> u32 {
-    (product(weight, apart(number(t, row, 1), 20000)) % 4294967296) as u32
+// How many numbers so many rows have.
+pub fn numbers(card: u32, rows: u32) -> u32 {
+    (product(width(card), rows) % 66) as u32
+}
+
+// Where number c of a row stands.
+pub fn place(card: u32, row: u32, c: u32) -> usize {
+    let before = product(width(card), wrapping_add_u32(row, 12) % 13);
+    wrapping_add_u64(before, c as u64) as usize
+}
+
+// Number c of a row, raised.
+fn number(card: u32, t: &Table, row: u32, c: u32) -> u32 {
+    raised(t[place(card, row, c) % 65])
+}
+
+// A row's score and shade, raised; on the old card L is 0.
+struct Row {
+    pub score: u32,
+    pub a: u32,
+    pub b: u32,
+    pub light: u32,
+}
+
+fn row_at(card: u32, t: &Table, i: u32) -> Row {
+    let light = if card == 3 { number(card, t, i, 4) } else { 0 };
+    Row {
+        score: number(card, t, i, 1),
+        a: number(card, t, i, 2),
+        b: number(card, t, i, 3),
+        light,
+    }
+}
+
+// A score, told raised, by its table's weight.
+fn weighted(weight: u32, score: u32) -> u32 {
+    (product(weight, apart(score, 20000)) % 4294967296) as u32
 }
 
 // The sum of a pair.
-fn sum(query: Query, f: &Table, i: u32, t: &Table, j: u32) -> u32 {
-    let field = weighted(query.weights.field.0, f, i);
-    wrapping_add_u32(field, weighted(query.weights.trim.0, t, j))
-}
-
-// Whether a row is withdrawn.
-fn is_withdrawn(t: &Table, row: u32) -> bool {
-    number(t, row, 1) == 20000
+fn sum(query: Query, x: Row, y: Row) -> u32 {
+    let field = weighted(query.weights.field.0, x.score);
+    wrapping_add_u32(field, weighted(query.weights.trim.0, y.score))
 }
 
 // How many of the rows stand above the first that is withdrawn.
-pub fn live(t: &Table, rows: u32) -> u32 {
+pub fn live(card: u32, t: &Table, rows: u32) -> u32 {
     let mut n = 0;
     for i in 0u32..12 {
-        if (n == i) & ((i < rows) & !is_withdrawn(t, i + 1)) {
+        if (n == i) & ((i < rows) & (number(card, t, i + 1, 1) != 20000)) {
             n = i + 1;
         }
     }
@@ -78,30 +106,53 @@ pub fn live(t: &Table, rows: u32) -> u32 {
 }
 
 // Whether a pair qualifies.
-fn qualifies(query: Query, f: &Table, i: u32, t: &Table, j: u32) -> bool {
-    let gone = is_withdrawn(f, i) | is_withdrawn(t, j);
-    let a = square(apart(number(f, i, 2), number(t, j, 2)));
-    let b = square(apart(number(f, i, 3), number(t, j, 3)));
-    !gone & (wrapping_add_u64(a, b) <= square(query.radius))
+fn qualifies(query: Query, x: Row, y: Row) -> bool {
+    let gone = (x.score == 20000) | (y.score == 20000);
+    let a = square(apart(x.a, y.a));
+    let b = square(apart(x.b, y.b));
+    let light = square(apart(x.light, y.light));
+    !gone & (wrapping_add_u64(wrapping_add_u64(a, b), light) <= square(query.radius))
 }
 
 // Puts in a pair.
-fn put(m: &mut Sums, query: Query, f: &Table, i: u32, t: &Table, j: u32) {
+fn put(m: &mut Sums, query: Query, card: u32, f: &Table, i: u32, t: &Table, j: u32) {
     if (i == 0) | (j == 0) {
         return;
     }
-    let s = sum(query, f, i, t, j);
-    let fits = qualifies(query, f, i, t, j) as u32;
+    let x = row_at(card, f, i);
+    let y = row_at(card, t, j);
+    let s = sum(query, x, y);
+    let fits = qualifies(query, x, y) as u32;
     m[(13 * (i % 13) + j % 13) as usize] = wrapping_add_u32(wrapping_add_u32(s, s), fits);
 }
 
 // Every row with every row.
-pub fn sums(query: Query, f: &Table, t: &Table) -> Sums {
+pub fn sums(query: Query, card: u32, f: &Table, t: &Table) -> Sums {
     let mut m = [0u32; 169];
     for x in 0u32..169 {
-        put(&mut m, query, f, x / 13, t, x % 13);
+        put(&mut m, query, card, f, x / 13, t, x % 13);
     }
     m
+}
+
+// Whether a pair is near by a and b, and L alone keeps it apart.
+fn apart_by_light(query: Query, x: Row, y: Row) -> bool {
+    let mut z = y;
+    z.light = x.light;
+    qualifies(query, x, z) & !qualifies(query, x, y)
+}
+
+// How many pairs of so many rows L alone keeps apart.
+pub fn kept_apart(query: Query, card: u32, f: &Table, t: &Table, rows: Counts) -> u32 {
+    let mut n = 0;
+    for x in 0u32..144 {
+        let i = x / 12 + 1;
+        let j = x % 12 + 1;
+        let lent = (i <= rows.field.0) & (j <= rows.trim.0);
+        let by_light = apart_by_light(query, row_at(card, f, i), row_at(card, t, j));
+        n = wrapping_add_u32(n, (lent & by_light) as u32);
+    }
+    n
 }
 
 fn entry_at(m: &Sums, i: u32, j: u32) -> u32 {

@@ -6,6 +6,7 @@ use crate::due;
 use crate::due::Case;
 use crate::judge;
 use crate::judge::Seen;
+use crate::plain;
 use crate::plain::Sums;
 use crate::tally;
 use rules::Answer;
@@ -29,7 +30,7 @@ pub fn record_fault(
     let fault = judge::differs(due::record(c, m, s, said, given), r);
     let field = wrapping_sub_u32(r.depth.field.0, s.depth.field.0);
     let rows = wrapping_add_u32(field, wrapping_sub_u32(r.depth.trim.0, s.depth.trim.0));
-    let shows = calls::shown(l, r) == 4 * (rows % 13);
+    let shows = calls::shown(l, r) == plain::numbers(l.card, rows);
     let hidden = judge::when((said == due::READ) & !shows, judge::SHOWN, 0);
     judge::or(fault, hidden)
 }
@@ -61,7 +62,7 @@ fn compared(c: Case, m: &Sums, seen: Seen, due: u32, record: u32) -> Seen {
 
 // A session just opened.
 fn opened(c: Case, m: &Sums, l: Lent) -> Seen {
-    let s = due::opened(c.query, c.rows);
+    let s = due::opened(c.query, l.card, c.rows);
     let seen = after(judge::unseen(s), calls::open(l, c.query));
     compared(c, m, seen, due::OPENED, judge::differs(s, seen.session))
 }

@@ -1,4 +1,4 @@
-// Counters. Places 1 to 12 count refusals by their number, 20 to 25 answers by theirs, 0 calls that were not refused
+// Counters. Places 1 to 15 count refusals by their number, 20 to 25 answers by theirs, 0 calls that were not refused
 // so.
 
 pub const CASES: u32 = 30;
@@ -17,6 +17,13 @@ pub const UNFINISHED: u32 = 35;
 pub const MISMATCHES: u32 = 36;
 
 pub const WITHDRAWN: u32 = 37;
+
+pub const OLD_CARD: u32 = 38;
+
+pub const NEW_CARD: u32 = 39;
+
+// With pairs that L alone keeps apart.
+pub const BY_LIGHT: u32 = 41;
 
 pub fn count(tally: &mut [u64; 48], i: u32) {
     if i < 48 {

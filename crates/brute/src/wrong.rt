@@ -10,6 +10,7 @@ use crate::due::READ;
 use crate::due::SETTLED;
 use crate::judge;
 use crate::judge::Seen;
+use crate::openings;
 use crate::plain;
 use crate::plain::Sums;
 use crate::plain::Table;
@@ -31,33 +32,33 @@ fn line(name: &[u8], reported: bool) {
     }
 }
 
-// Three rows of these scores, the third far from the others.
-fn table(first: i32, second: i32, third: i32) -> Table {
-    let mut t = [0i32; 52];
+// Three rows of these scores, the third far from the others by its last coordinate.
+fn table(card: u32, first: i32, second: i32, third: i32) -> Table {
+    let mut t = [0i32; 65];
     t[0] = 1;
     t[1] = first;
-    t[4] = 2;
-    t[5] = second;
-    t[8] = 3;
-    t[9] = third;
-    t[10] = 40;
+    t[plain::place(card, 2, 0) % 65] = 2;
+    t[plain::place(card, 2, 1) % 65] = second;
+    t[plain::place(card, 3, 0) % 65] = 3;
+    t[plain::place(card, 3, 1) % 65] = third;
+    t[plain::place(card, 3, wrapping_add_u32(card, 1)) % 65] = 40;
     t
 }
 
 // The three best pairs of these tables, by blocks of two rows.
 fn tables() -> Lent {
-    calls::first_rows(table(9, 8, 1), table(7, 5, 2), due::counts(3, 3))
+    calls::first_rows(2, table(2, 9, 8, 1), table(2, 7, 5, 2), due::counts(3, 3))
 }
 
-fn sums() -> Sums {
-    let f = table(9, 8, 1);
-    let t = table(7, 5, 2);
-    plain::sums(calls::query(3, 2, 5), &f, &t)
+fn sums(card: u32) -> Sums {
+    let f = table(card, 9, 8, 1);
+    let t = table(card, 7, 5, 2);
+    plain::sums(openings::query(3, 2, 5), card, &f, &t)
 }
 
 fn case(m: &Sums) -> Case {
     due::case_of(
-        calls::query(3, 2, 5),
+        openings::query(3, 2, 5),
         due::counts(3, 3),
         due::counts(3, 3),
         m,
@@ -76,10 +77,14 @@ fn right() -> Seen {
     s
 }
 
-// Says whether the comparer finds this fault.
-fn finds(name: &[u8], s: Seen, fault: u32) {
-    let m = sums();
+// Says whether the comparer finds this fault on a card.
+fn finds_on(card: u32, name: &[u8], s: Seen, fault: u32) {
+    let m = sums(card);
     line(name, judge::fault(case(&m), &m, s) == fault);
+}
+
+fn finds(name: &[u8], s: Seen, fault: u32) {
+    finds_on(2, name, s, fault);
 }
 
 // The right list with another pair at a place.
@@ -102,6 +107,14 @@ fn wrong_pairs() {
     swapped.given[2] = pair(15, 2, 1);
     finds(b"sums out of order", swapped, judge::ORDER);
     listed(b"a pair too many", 3, pair(13, 2, 2), judge::ORDER);
+}
+
+// On the new card, where the third rows are far from the others by L alone.
+fn wrong_light() {
+    finds_on(3, b"a right list on the new card, no fault", right(), 0);
+    let mut s = right();
+    s.given[1] = pair(11, 1, 3);
+    finds_on(3, b"too far apart by L alone", s, judge::TOO_FAR);
 }
 
 // The first n pairs of the right list, an answer, and the one that was due.
@@ -136,7 +149,7 @@ fn wrong_record() {
 
 // The record after n reads.
 fn reads(n: u32) -> Session {
-    let step = calls::open(tables(), calls::query(3, 2, 5));
+    let step = calls::open(tables(), openings::query(3, 2, 5));
     let mut s = step.session;
     for i in 0..n {
         let next = calls::call(tables(), s, true);
@@ -160,7 +173,7 @@ fn third_record(kind: u32) -> Session {
 }
 
 fn third_read(name: &[u8], kind: u32, fault: u32) {
-    let m = sums();
+    let m = sums(2);
     let z = pair(0, 0, 0);
     let none = [z; 64];
     let r = third_record(kind);
@@ -184,7 +197,7 @@ fn wrong_records() {
 // How many kinds of harm to a record are seen as a change.
 fn harms_seen(s: Session) -> u32 {
     let mut n = 0;
-    for kind in 0u32..24 {
+    for kind in 0u32..27 {
         let fault = judge::differs(s, calls::harmed(s, kind));
         n = wrapping_add_u32(n, (fault != 0) as u32);
     }
@@ -206,12 +219,13 @@ fn wrong_refusals() {
         !passes(Answer::Refused(5), 3),
     );
     let seen = harms_seen(reads(3));
-    line(b"24 kinds of harm to a record, each a change", seen == 24);
+    line(b"27 kinds of harm to a record, each a change", seen == 27);
 }
 
 pub fn all() {
     finds(b"a right list, no fault", right(), 0);
     wrong_pairs();
+    wrong_light();
     wrong_answers();
     wrong_depth();
     wrong_record();

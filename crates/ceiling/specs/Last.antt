@@ -7,7 +7,6 @@ use Prim.Native.Nat.{ℕ, suc, _-_, _≤_, _<_}
 use native.Mathlib.Nat.{not-suc-le-zero}
 use native.Mathlib.Omega.{arith}
 use lib.Dec.{leb}
-use lib.IntN.{ℤ}
 use lib.ListN.{length, getD, take}
 use lib.Seq.{length-take-le, getD-take}
 use borrow.Author.Tests.{leb-true, leb-false, le-leb, ne-eqb}
@@ -17,7 +16,7 @@ use Rattle.lists.specs.Words.{All, Ordered}
 use Rattle.lists.specs.Sorts.{all-map, ranked-ordered}
 use Rattle.rules.specs.declared.Pair.{Pair}
 use Rattle.rules.specs.declared.Session.{Session}
-use Rattle.rules.specs.Tables.{ahead}
+use Rattle.rules.specs.Tables.{Table, ahead}
 use Rattle.rules.specs.Ranking.{Before, before-ahead, ahead-strict}
 use Rattle.rules.specs.Session.{noPair, heldPairs, bothReadOut, aDepthIsZero, aTableIsEmpty, ceiling, securedBy}
 use Rattle.rules.specs.Session.{secured}
@@ -79,7 +78,7 @@ every-last test mono (p ∷ q ∷ l) h o =
     go true e = rw (mono p (lastOf (p ∷ q ∷ l)) (last-low p q l o) e)
     go false e = and-false (test p)
 
-module _ (f t : List ℤ) (s : Session) where
+module _ (f t : Table) (s : Session) where
   secured-higher : (p q : Pair) → q .sum ≤ p .sum → secured f t s q ≡ true → secured f t s p ≡ true
   unfolding securedBy
   secured-higher p q h = go (aDepthIsZero s && not (aTableIsEmpty f t s)) (bothReadOut f t s)
@@ -96,7 +95,7 @@ module _ (f t : List ℤ) (s : Session) where
   all-secured l h o = every-last (secured f t s) secured-higher l h o
 
 -- once rows of both tables were read, only the read-out tables and the ceiling decide
-pub read-secured : (f t : List ℤ) (s : Session) (p : Pair) → BothRead f t s →
+pub read-secured : (f t : Table) (s : Session) (p : Pair) → BothRead f t (s .depth) →
     secured f t s p ≡ cond (bothReadOut f t s) true (leb (ceiling f t s) (p .sum))
 unfolding securedBy
 read-secured f t s p r =
@@ -105,8 +104,8 @@ read-secured f t s p r =
     rw (ne-eqb (s .depth .field .0) 0 d, ne-eqb (s .depth .trim .0) 0 e)
 
 -- a record with a pair held, over its tables
-pub held-then-read : (f t : List ℤ) (s : Session) → Accepted f t s → 0 < length (s .pairs) → 0 < s .held
-    → BothRead f t s
+pub held-then-read : (f t : Table) (s : Session) → Accepted f t s → 0 < length (s .pairs) → 0 < s .held
+    → BothRead f t (s .depth)
 held-then-read f t s a n h =
     let p = first-fits s (a .lent .fits) n h in
     let rows = accepted-rows f t s a in
@@ -123,7 +122,7 @@ last-taken a n h k =
     ap (λ (i : ℕ). getD (take n a) (i - 1) noPair) (length-take-le n a k) ∙ getD-take n a (n - 1) noPair (omega arith)
 
 -- every held pair is secured where the one in the last held place is
-pub held-secured : (f t : List ℤ) (s : Session) → RecordFits s → s .held ≤ length (s .pairs) → 0 < s .held →
+pub held-secured : (f t : Table) (s : Session) → RecordFits s → s .held ≤ length (s .pairs) → 0 < s .held →
     every (secured f t s) (heldPairs s) ≡ secured f t s (getD (s .pairs) (s .held - 1) noPair)
 held-secured f t s fits k h =
     let some : 0 < length (heldPairs s) = omega (arith, length-take-le (s .held) (s .pairs) k) in

@@ -1,2 +1,3 @@
+pub mod Bare
 pub mod BothRead
 pub mod Last

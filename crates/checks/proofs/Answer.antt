@@ -15,7 +15,7 @@ use Rattle.rules.specs.declared.Session.{Session}
 use Rattle.rules.specs.Tables.{ahead}
 use Rattle.rules.specs.Session.{noPair, heldPairs}
 use Rattle.rules.specs.Read.{blockCount}
-use Rattle.rules.specs.Calls.{queryCode, countsFit, pairFits, markFits, isZeros, recordFits}
+use Rattle.rules.specs.Calls.{isCard, queryCode, countsFit, pairFits, markFits, isZeros, recordFits}
 use Rattle.number_checks.specs.Grounds.{markOf, numbersFit}
 use Rattle.checks.specs.Grounds.{pairWithin, placeFits, placesFrom}
 
@@ -110,6 +110,7 @@ answer s =
     (every (pairFits s) (heldPairs s)) (ranked ahead (heldPairs s)) (markFits s)
     (every isZeros (drop (s .held) (s .pairs)))
     (leb (s .joined)
-    (blockCount (s .query .block) (s .depth .field .0) * blockCount (s .query .block) (s .depth .trim .0)))
+    (blockCount (s .query .block) (s .depth .field .0) * blockCount (s .query .block) (s .depth .trim .0))
+    && isCard (s .rows .card))
     ∙ ap (λ (x : Bool). numbersFit (s .query) (s .rows) (s .depth) (s .last) (s .out) (s .held) (s .joined) && x)
     (sym (places-are (s .depth) (s .held) noPair (s .pairs)))

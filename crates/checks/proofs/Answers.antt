@@ -5,7 +5,6 @@ use mathlib.Core.Logic.{inl, inr}
 use mathlib.Core.List.{List, [], _∷_}
 use Prim.Native.Nat.{ℕ}
 use lib.Dec.{eqb}
-use lib.IntN.{ℤ}
 use denote.Enum.Declared.{tagOf}
 use types.Run.{OneOf}
 use borrow.Author.Tests.{eqb-false, not-true}
@@ -16,6 +15,7 @@ use Rattle.rules.specs.declared.Answer.{Answer}
 use Rattle.rules.specs.declared.Answer.the-variants.{Refused, Opened, Read, Settled, Given, NotYet, Finished}
 use Rattle.rules.specs.declared.Session.{Session}
 use Rattle.rules.specs.declared.Step.{Step}
+use Rattle.rules.specs.Tables.{Table}
 use Rattle.rules.specs.Session.{settled}
 use Rattle.rules.specs.Read.{readBlock}
 use Rattle.rules.specs.Calls.{callCode, newBlockCode, step, readCallBy, readCall}
@@ -32,7 +32,7 @@ no-key x (k ∷ j ∷ ks) e (inr h) =
     no-key x (j ∷ ks) (and-out (not (eqb x k)) (every (λ k. not (eqb x k)) (j ∷ ks)) e .1) h
 
 -- a read never answers that a session was opened
-not-opened : (f t : List ℤ) (s : Session) → eqb (tagOf the-type (readCall f t s .answer)) 1 ≡ false
+not-opened : (f t : Table) (s : Session) → eqb (tagOf the-type (readCall f t s .answer)) 1 ≡ false
 unfolding readCallBy
 not-opened f t s = go (eqb (callCode f t s) 0) (settled f t s) (eqb (newBlockCode f t s) 0)
   where
@@ -51,7 +51,7 @@ not-opened f t s = go (eqb (callCode f t s) 0) (settled f t s) (eqb (newBlockCod
     go false b c = refl
 
 -- a read's answer of another kind
-pub not-read : (f t : List ℤ) (s : Session) (a : Answer) → a ≡ readCall f t s .answer
+pub not-read : (f t : Table) (s : Session) (a : Answer) → a ≡ readCall f t s .answer
     → OneOf (0 ∷ 1 ∷ 3 ∷ 4 ∷ 5 ∷ 6 ∷ []) (tagOf the-type a) → wasRead a ≡ false
 unfolding every
 not-read f t s a e = go a (ap (λ (x : Answer). eqb (tagOf the-type x) 1) e ∙ not-opened f t s)

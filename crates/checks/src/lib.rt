@@ -4,8 +4,10 @@ use number_checks::numbers_fit;
 use rules::Counts;
 use rules::Pair;
 use rules::Session;
+use rules::TwoTables;
 ghost use mathlib.Core.Path.{_≡_};
 ghost use mathlib.Core.Bool.{true, cond};
+ghost use Rattle.rules.specs.Tables.{table};
 ghost use Rattle.rules.specs.Calls.{isZeros, recordFits, sameSizeCode};
 ghost use Rattle.checks.specs.Grounds.{Shallow, pairWithin, placeKey};
 ghost use Rattle.checks.specs.Codes.{DepthsFit, lentOf, callOf};
@@ -79,26 +81,26 @@ pub fn fits(s: Session) -> bool
 }
 
 // 4 where a slice is not of the row count at opening.
-fn same_size_code(rows: u32, t: &[i32]) -> u32
-    ensures { λ r. ⌜ r ≡ sameSizeCode rows (now (t .entry)) ⌝ }
+fn same_size_code(rows: u32, n: u32, t: &[i32]) -> u32
+    ensures { λ r. ⌜ r ≡ sameSizeCode rows (table n (now (t .entry))) ⌝ }
 {
-    let same = tables::row_count(t) == rows as usize;
-    tables::unless(tables::size_fits(t) & same, rules::TABLE_SIZE)
+    let same = tables::rows_lent(n, t) == rows as usize;
+    tables::unless(tables::size_fits(n, t) & same, rules::TABLE_SIZE)
 }
 
 // 5, unless the record passed it, then 4 of either table.
-pub fn lent_code(fits: bool, rows: Counts, f: &[i32], t: &[i32]) -> u32
+pub fn lent_code(fits: bool, rows: TwoTables, f: &[i32], t: &[i32]) -> u32
     ensures { λ r. ⌜ r ≡ lentOf fits rows (now (f .entry)) (now (t .entry)) ⌝ }
 {
     let record = tables::unless(fits, rules::BAD_RECORD);
-    let field = same_size_code(rows.field.0, f);
-    let trim = same_size_code(rows.trim.0, t);
+    let field = same_size_code(rows.field.0, rows.card, f);
+    let trim = same_size_code(rows.trim.0, rows.card, t);
     tables::first(record, tables::first(field, trim))
 }
 
 // 5, 4, then 6 and 7 over the rows up to the depths, field first. The record itself is not handed in: it would be
 // copied.
-pub fn call_code(fits: bool, rows: Counts, depth: Counts, f: &[i32], t: &[i32]) -> u32
+pub fn call_code(fits: bool, rows: TwoTables, depth: Counts, f: &[i32], t: &[i32]) -> u32
     requires { ⌜ (fits ≡ true → DepthsFit rows depth) ⌝ }
     ensures { λ r. ⌜ r ≡ callOf fits rows depth (now (f .entry)) (now (t .entry)) ⌝ }
 {
@@ -106,9 +108,9 @@ pub fn call_code(fits: bool, rows: Counts, depth: Counts, f: &[i32], t: &[i32]) 
     if lent != 0 {
         return lent;
     }
-    let field = tables::rows_code(f, 0, depth.field.0 as usize);
+    let field = tables::rows_code(rows.card, f, 0, depth.field.0 as usize);
     if field != 0 {
         return field;
     }
-    tables::rows_code(t, 0, depth.trim.0 as usize)
+    tables::rows_code(rows.card, t, 0, depth.trim.0 as usize)
 }

@@ -6,7 +6,6 @@ use Prim.Native.Nat.{ℕ, _+_, _-_, _/_, _≤_, _<_}
 use native.Mathlib.Nat.{div-lt-iff-lt-mul, mul-le-mul}
 use native.Mathlib.Omega.{arith}
 use lib.Dec.{eqb}
-use lib.IntN.{ℤ}
 use lib.ListN.{length, drop, replicate, length-drop, take-append-drop}
 use lib.Seq.{length-take-le}
 use borrow.Author.Tests.{eqb-true}
@@ -14,14 +13,14 @@ use Rattle.lists.specs.Lists.{every}
 use Rattle.lists.specs.Sorts.{ranked-ordered}
 use Rattle.rules.specs.declared.Pair.{Pair}
 use Rattle.rules.specs.declared.Session.{Session}
-use Rattle.rules.specs.Tables.{mostRows, ahead, HasRows}
+use Rattle.rules.specs.Tables.{Table, mostRows, ahead, HasRows}
 use Rattle.rules.specs.Widths.{rows-less, has-rows}
 use Rattle.rules.specs.Ranking.{ahead-strict}
 use Rattle.rules.specs.Session.{noPair, places, heldPairs, settled}
 use Rattle.rules.specs.Read.{fieldNext, oldDepth, newDepth}
 use Rattle.rules.specs.Calls.{isZeros, rowsCode, newBlockCodeBy, newBlockCode}
 use Rattle.lists.specs.Bools.{and-left, and-right}
-use Rattle.session_laws.specs.Record.{RecordFits}
+use Rattle.session_laws.specs.Record.{RecordFits, card-small}
 use Rattle.session_laws.specs.Calls.{Lent}
 use Rattle.session_laws.specs.Read.{unsettled-out, next-unread}
 use Rattle.choosing.specs.Ready.{Ready}
@@ -34,7 +33,7 @@ abbrev pub otherDepth : Bool → Session → ℕ
 otherDepth field s = cond field (s .depth .trim .0) (s .depth .field .0)
 
 -- what a read knows of the two tables: rows are left of the one that is read, and the slices have the rows
-pub record Due (field : Bool) (f t : List ℤ) (s : Session) : Type 0 where
+pub record Due (field : Bool) (f t : Table) (s : Session) : Type 0 where
   pub ready : Ready s
   pub left : oldDepth field s < ownRows field s
   pub few : ownRows field s ≤ mostRows
@@ -77,13 +76,14 @@ zeros-beyond s fits n =
 
 -- ---- An unsettled session over its tables
 
-module _ (f t : List ℤ) (s : Session) (l : Lent f t s) (n : length (s .pairs) ≡ 64) (h : settled f t s ≡ false) where
+module _ (f t : Table) (s : Session) (l : Lent f t s) (n : length (s .pairs) ≡ 64) (h : settled f t s ≡ false) where
   ready : Ready s
   ready =
       let fits = l .fits in
       let more : s .out ≡ s .query .k → ⊥ = unsettled-out f t s h .wanted in
       record {
         query = fits .query;
+        card = card-small (s .rows .card) (fits .card);
         room = fits .room;
         wanted = omega (arith, fits .room);
         count = held-count s fits n;
@@ -136,7 +136,7 @@ module _ (f t : List ℤ) (s : Session) (l : Lent f t s) (n : length (s .pairs) 
 
 -- ---- The new block
 
-module _ (f t : List ℤ) (s : Session) (b : Bool) where
+module _ (f t : Table) (s : Session) (b : Bool) where
   -- it lies within its table
   pub new-inside : Due b f t s
       → (oldDepth b s ≤ newDepth b s) × (newDepth b s ≤ mostRows) × HasRows (cond b f t) (newDepth b s)
@@ -145,7 +145,7 @@ module _ (f t : List ℤ) (s : Session) (b : Bool) where
       (omega (arith, d .left), omega (arith, d .few), rows-less (cond b f t) (newDepth b s) (ownRows b s) low (d .rows))
 
   -- what 6 and 7 say of it is the rule's
-  pub code-is : b ≡ fieldNext f t s → (own : List ℤ) (d e : ℕ) → own ≡ cond b f t → d ≡ oldDepth b s → e ≡ newDepth b s
+  pub code-is : b ≡ fieldNext f t s → (own : Table) (d e : ℕ) → own ≡ cond b f t → d ≡ oldDepth b s → e ≡ newDepth b s
       → rowsCode own d (e - d) ≡ newBlockCode f t s
   unfolding newBlockCodeBy
   code-is next own d e x y z =

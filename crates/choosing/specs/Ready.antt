@@ -10,6 +10,7 @@ use Rattle.session_laws.specs.Record.{QueryFits}
 
 pub record Ready (s : Session) : Type 0 where
   pub query : QueryFits (s .query)
+  pub card : s .rows .card ≤ 3
   pub room : s .out + s .held ≤ s .query .k
   pub wanted : s .out < s .query .k
   pub count : length (heldPairs s) ≡ s .held

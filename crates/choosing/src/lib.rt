@@ -3,19 +3,19 @@ use rules::Session;
 ghost use mathlib.Core.Path.{_≡_};
 ghost use mathlib.Core.Bool.{false, cond};
 ghost use Prim.Native.Nat.{_+_, _-_, _≤_, _<_};
-ghost use Rattle.rules.specs.Tables.{mostRows, weighted, HasRows};
-ghost use Rattle.rules.specs.Session.{settled};
+ghost use Rattle.rules.specs.Tables.{table, mostRows, weighted, HasRows};
+ghost use Rattle.rules.specs.Session.{lentTable, settled};
 ghost use Rattle.rules.specs.Read.{scoreDrop, fieldNext, nextDepth};
 ghost use Rattle.rules.specs.Calls.{newBlockCode};
 ghost use Rattle.session_laws.specs.Calls.{Accepted};
 
 // How far a table's score, by its weight, has dropped from its first row to the last row read.
-fn drop_of(weight: u32, t: &[i32], depth: u32) -> u64
-    requires { ⌜ (0 < depth) × HasRows (now t) depth ⌝ }
-    ensures { λ r. ⌜ r ≡ scoreDrop (weighted weight) (now (t .entry)) depth ⌝ }
+fn drop_of(weight: u32, n: u32, t: &[i32], depth: u32) -> u64
+    requires { ⌜ (0 < depth) × HasRows (table n (now t)) depth ⌝ }
+    ensures { λ r. ⌜ r ≡ scoreDrop (weighted weight) (table n (now (t .entry))) depth ⌝ }
 {
-    let high = tables::weighted(weight, t, 0);
-    let low = tables::weighted(weight, t, depth as usize - 1);
+    let high = tables::weighted(weight, n, t, 0);
+    let low = tables::weighted(weight, n, t, depth as usize - 1);
     if high <= low {
         return 0;
     }
@@ -24,8 +24,8 @@ fn drop_of(weight: u32, t: &[i32], depth: u32) -> u64
 
 // Whether the field table is read next.
 pub fn field_next(f: &[i32], t: &[i32], s: Session) -> bool
-    requires { ⌜ Accepted (now f) (now t) s ⌝ }
-    ensures { λ r. ⌜ r ≡ fieldNext (now (f .entry)) (now (t .entry)) s ⌝ }
+    requires { ⌜ Accepted (lentTable s (now f)) (lentTable s (now t)) s ⌝ }
+    ensures { λ r. ⌜ r ≡ fieldNext (lentTable s (now (f .entry))) (lentTable s (now (t .entry))) s ⌝ }
 {
     let d = s.depth.field.0;
     let e = s.depth.trim.0;
@@ -35,14 +35,14 @@ pub fn field_next(f: &[i32], t: &[i32], s: Session) -> bool
     if e == 0 {
         return false;
     }
-    if ceiling::read_out(t, s.rows.trim.0, e) {
+    if ceiling::read_out(s.rows.card, t, s.rows.trim.0, e) {
         return true;
     }
-    if ceiling::read_out(f, s.rows.field.0, d) {
+    if ceiling::read_out(s.rows.card, f, s.rows.field.0, d) {
         return false;
     }
-    let x = drop_of(s.query.weights.field.0, f, d);
-    let y = drop_of(s.query.weights.trim.0, t, e);
+    let x = drop_of(s.query.weights.field.0, s.rows.card, f, d);
+    let y = drop_of(s.query.weights.trim.0, s.rows.card, t, e);
     if x < y {
         return true;
     }
@@ -72,8 +72,9 @@ pub fn next_depth(block: u32, rows: u32, depth: u32) -> u32
 
 // What 6 and 7 say of the new block, of the table that is read next.
 pub fn new_block_code(f: &[i32], t: &[i32], s: Session) -> u32
-    requires { ⌜ Accepted (now f) (now t) s × (settled (now f) (now t) s ≡ false) ⌝ }
-    ensures { λ r. ⌜ r ≡ newBlockCode (now (f .entry)) (now (t .entry)) s ⌝ }
+    requires { ⌜ Accepted (lentTable s (now f)) (lentTable s (now t)) s
+        × (settled (lentTable s (now f)) (lentTable s (now t)) s ≡ false) ⌝ }
+    ensures { λ r. ⌜ r ≡ newBlockCode (lentTable s (now (f .entry))) (lentTable s (now (t .entry))) s ⌝ }
 {
     let field = field_next(f, t, s);
     let rows = pick(field, s.rows.field.0, s.rows.trim.0);
@@ -82,7 +83,7 @@ pub fn new_block_code(f: &[i32], t: &[i32], s: Session) -> u32
     let from = d as usize;
     let n = (e - d) as usize;
     if field {
-        return tables::rows_code(f, from, n);
+        return tables::rows_code(s.rows.card, f, from, n);
     }
-    tables::rows_code(t, from, n)
+    tables::rows_code(s.rows.card, t, from, n)
 }

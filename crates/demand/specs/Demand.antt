@@ -15,7 +15,8 @@ use Rattle.rules.specs.declared.Session.{Session}
 use Rattle.rules.specs.declared.Step.{Step}
 use Rattle.rules.specs.declared.Answer.{Answer}
 use Rattle.rules.specs.declared.Answer.the-variants.{Opened, Given, Finished}
-use Rattle.rules.specs.Tables.{rowCount, legal, row, terms, pairSum, firstRows}
+use Rattle.rules.specs.Tables.{Table, rowCount, legal, row, terms, pairSum, firstRows}
+use Rattle.rules.specs.Session.{lentTable}
 use Rattle.rules.specs.Sure.{Sure}
 use Rattle.rules.specs.Numbers.{said}
 use Rattle.rules.specs.Calls.{openCall, readCall, takeCall}
@@ -34,26 +35,31 @@ pub record Line : Type 0 where
   pub trim : List ℤ
   pub gave : Step
 
--- what the promise of the call, the `ensures` of its code, says that it gives, of the record that it was given
+-- what the rules give of a call over two tables
+abbrev pub ruled : Call → Table → Table → Session → Step
+ruled reading f t s = readCall f t s
+ruled taking f t s = takeCall f t s
+
+-- what the promise of the call, the `ensures` of its code, says that it gives, of the record that it was given: the
+-- lent slices are tables on the record's card
 abbrev pub promised : Call → List ℤ → List ℤ → Session → Step
-promised reading f t s = readCall f t s
-promised taking f t s = takeCall f t s
+promised c f t s = ruled c (lentTable s f) (lentTable s t) s
 
 abbrev pub isAccepted : Line → Bool
 isAccepted l = said (l .gave .answer) .accepted
 
 -- "Each call gets the record that the call before it gave", the first one s, and gives what is promised of it. "Each
 -- accepted call is lent those two tables; one that is refused may have been lent other slices."
-abbrev pub Follows : List ℤ → List ℤ → Session → List Line → Type 0
+abbrev pub Follows : Table → Table → Session → List Line → Type 0
 Follows f t s [] = Unit {0}
 Follows f t s (l ∷ lines) =
     (l .gave ≡ promised (l .call) (l .field) (l .trim) s)
-    × (isAccepted l ≡ true → (l .field ≡ f) × (l .trim ≡ t))
+    × (isAccepted l ≡ true → (l .field ≡ f .numbers) × (l .trim ≡ t .numbers))
     × Follows f t (l .gave .session) lines
 
 -- what demand 3 is about: calls "that follow an opening which document 01 accepts, over two legal tables which stay the
 -- same"
-pub record Sequence (q : Query) (f t : List ℤ) (opening : Step) (lines : List Line) : Type 0 where
+pub record Sequence (q : Query) (f t : Table) (opening : Step) (lines : List Line) : Type 0 where
   pub field-legal : legal f ≡ true
   pub trim-legal : legal t ≡ true
   pub opening-promised : opening ≡ openCall q f t
@@ -63,13 +69,13 @@ pub record Sequence (q : Query) (f t : List ℤ) (opening : Step) (lines : List 
 -- ---- The words of demand 3
 
 -- a field row and a trim row, numbered from 1, that qualify
-pub record Qualifying (q : Query) (f t : List ℤ) (i j : ℕ) : Type 0 where
+pub record Qualifying (q : Query) (f t : Table) (i j : ℕ) : Type 0 where
   pub field-row : (1 ≤ i) × (i ≤ rowCount f)
   pub trim-row : (1 ≤ j) × (j ≤ rowCount t)
   pub near : terms q .near (row f (i - 1)) (row t (j - 1)) ≡ true
 
 -- the sum of a pair of rows
-abbrev pub sumOf : Query → List ℤ → List ℤ → ℕ → ℕ → ℕ
+abbrev pub sumOf : Query → Table → Table → ℕ → ℕ → ℕ
 sumOf q f t i j = pairSum (terms q) (row f (i - 1)) (row t (j - 1))
 
 -- the pairs that the takes of a transcript answered
@@ -99,21 +105,21 @@ byRules s (l ∷ lines) =
     ∷ byRules (promised (l .call) (l .field) (l .trim) s .session) lines
 
 -- the same calls over two other tables, lent to the calls that were accepted
-abbrev pub over : List ℤ → List ℤ → Line → Line
+abbrev pub over : Table → Table → Line → Line
 over f t l =
     record {
       call = l .call;
-      field = cond (isAccepted l) f (l .field);
-      trim = cond (isAccepted l) t (l .trim);
+      field = cond (isAccepted l) (f .numbers) (l .field);
+      trim = cond (isAccepted l) (t .numbers) (l .trim);
       gave = l .gave;
     }
 
 -- the answers that the rules give over those
-abbrev pub answersOver : Query → List ℤ → List ℤ → List Line → List Answer
+abbrev pub answersOver : Query → Table → Table → List Line → List Answer
 answersOver q f t lines = map (λ g. g .answer) (byRules (openCall q f t .session) (map (over f t) lines))
 
 -- "legal tables with the same row counts and the same rows up to those depths"
-pub record Alike (t u : List ℤ) (depth : ℕ) : Type 0 where
+pub record Alike (t u : Table) (depth : ℕ) : Type 0 where
   pub lawful : legal u ≡ true
   pub count : rowCount u ≡ rowCount t
   pub rows : firstRows depth u ≡ firstRows depth t
@@ -121,7 +127,7 @@ pub record Alike (t u : List ℤ) (depth : ℕ) : Type 0 where
 -- ---- Demand 3
 
 -- of a call that answered pair p, the pairs in `before` being out
-pub record Brought (q : Query) (f t : List ℤ) (before : List Line) (p : Pair) : Type 0 where
+pub record Brought (q : Query) (f t : Table) (before : List Line) (p : Pair) : Type 0 where
   -- "Each pair brought out qualifies,"
   pub qualifying : Qualifying q f t (p .field) (p .trim)
   -- "carries its own sum"
@@ -132,10 +138,10 @@ pub record Brought (q : Query) (f t : List ℤ) (before : List Line) (p : Pair) 
   pub highest : (i j : ℕ) → Qualifying q f t i j → (Out before i j → ⊥) → sumOf q f t i j ≤ p .sum
 
 -- of a call that said finished
-abbrev pub Complete : Query → List ℤ → List ℤ → List Line → Type 0
+abbrev pub Complete : Query → Table → Table → List Line → Type 0
 Complete q f t before = (length (outs before) ≡ q .k) ⊎ ((i j : ℕ) → Qualifying q f t i j → Out before i j)
 
-pub record Demand3 (q : Query) (f t : List ℤ) (opening : Step) (lines : List Line) : Type 0 where
+pub record Demand3 (q : Query) (f t : Table) (opening : Step) (lines : List Line) : Type 0 where
   pub brought : (before after : List Line) (l : Line) (p : Pair) →
       lines ≡ before ++ l ∷ after → l .gave .answer ≡ Given p → Brought q f t before p
   -- "When a call says finished, as many pairs as wanted are out or every qualifying pair is."
@@ -147,7 +153,7 @@ pub record Demand3 (q : Query) (f t : List ℤ) (opening : Step) (lines : List L
       (lastRecord (opening .session) lines .depth .field .0 ≤ max (m .0) (n .0) + q .block - 1)
       × (lastRecord (opening .session) lines .depth .trim .0 ≤ max (m .0) (n .0) + q .block - 1)
   -- "Legal tables alike in their row counts and in the rows read get the same answers."
-  pub same-answers : (f′ t′ : List ℤ) →
+  pub same-answers : (f′ t′ : Table) →
       Alike f f′ (lastRecord (opening .session) lines .depth .field .0) →
       Alike t t′ (lastRecord (opening .session) lines .depth .trim .0) →
       (openCall q f′ t′ .answer ≡ opening .answer)
@@ -158,6 +164,6 @@ pub record Demand3 (q : Query) (f t : List ℤ) (opening : Step) (lines : List L
 -- the statement: every sequence keeps demand 3
 abbrev pub Statement : Type 0
 Statement =
-    (q : Query) (f t : List ℤ) (opening : Step) (lines : List Line) →
+    (q : Query) (f t : Table) (opening : Step) (lines : List Line) →
     Sequence q f t opening lines →
     Demand3 q f t opening lines

@@ -4,7 +4,6 @@ use mathlib.Core.Path.{_≡_, sym, ap, _∙_}
 use mathlib.Core.List.{List, _∷_, _++_, map}
 use Prim.Native.Nat.{_≤_}
 use native.Mathlib.Omega.{arith}
-use lib.IntN.{ℤ}
 use lib.ListN.{length, length-map}
 use lib.Seq.{take-all}
 use Rattle.lists.specs.Lists.{best}
@@ -16,8 +15,9 @@ use Rattle.demand.specs.Demand.{Line, Sequence, outs}
 use Rattle.demand.specs.Sequences.{reached-before}
 use Rattle.demand.specs.Proved.{demand3}
 use Rattle.demand.specs.Uses.{finished-highest}
+use Rattle.rules.specs.Tables.{Table}
 
-module _ {q : Query} {f t : List ℤ} {opening : Step} {lines : List Line} (w : Sequence q f t opening lines)
+module _ {q : Query} {f t : Table} {opening : Step} {lines : List Line} (w : Sequence q f t opening lines)
     (before after : List Line) (l : Line) (e : lines ≡ before ++ l ∷ after) where
   pub few-out : length (outs before) ≤ q .k
   few-out =

@@ -4,20 +4,20 @@ use Prim.Native.Nat.{_+_, _≤_}
 use mathlib.Core.Path.{_≡_}
 use mathlib.Core.Bool.{true}
 use mathlib.Core.List.{List, [], _∷_, _++_}
-use lib.IntN.{ℤ}
 use Rattle.lists.specs.Words.{total}
 use Rattle.rules.specs.declared.Query.{Query}
 use Rattle.rules.specs.declared.Session.{Session}
 use Rattle.rules.specs.declared.Step.{Step}
 use Rattle.rules.specs.declared.Answer.the-variants.{NotYet}
-use Rattle.rules.specs.Tables.{rowCount}
+use Rattle.rules.specs.Tables.{Table, rowCount}
 use Rattle.rules.specs.Session.{settled}
 use Rattle.demand.specs.Demand.{Call, Line, promised, isAccepted, lastRecord}
 use Rattle.demand.specs.Steps.{readsOf}
 
-pub record GetsThere (q : Query) (f t : List ℤ) (opening : Step) (lines : List Line) : Type 0 where
+pub record GetsThere (q : Query) (f t : Table) (opening : Step) (lines : List Line) : Type 0 where
   -- a call that is lent the two tables is not refused
-  pub unrefused : (before after : List Line) (l : Line) → lines ≡ before ++ l ∷ after → l .field ≡ f → l .trim ≡ t
+  pub unrefused : (before after : List Line) (l : Line) → lines ≡ before ++ l ∷ after → l .field ≡ f .numbers
+      → l .trim ≡ t .numbers
       → isAccepted l ≡ true
   -- no more blocks are read than there are rows
   pub few-reads : total (λ l. readsOf (l .gave .answer)) lines ≤ rowCount f + rowCount t
@@ -26,7 +26,8 @@ pub record GetsThere (q : Query) (f t : List ℤ) (opening : Step) (lines : List
       → settled f t (lastRecord (opening .session) before) ≡ true → l .gave .answer ≡ NotYet → ⊥
 
 -- the transcript of these calls, each lent the two tables
-unfoldable pub runOf : List ℤ → List ℤ → Session → List Call → List Line
+unfoldable pub runOf : Table → Table → Session → List Call → List Line
 runOf f t s [] = []
 runOf f t s (c ∷ calls) =
-    record { call = c; field = f; trim = t; gave = promised c f t s } ∷ runOf f t (promised c f t s .session) calls
+    let gave = promised c (f .numbers) (t .numbers) s in
+    record { call = c; field = f .numbers; trim = t .numbers; gave = gave } ∷ runOf f t (gave .session) calls

@@ -3,18 +3,18 @@ use mathlib.Core.Path.{_≡_, refl, sym, ap, _∙_}
 use mathlib.Core.List.{List, _∷_, List·Memᴰ, List·Memᴰ·head, List·Memᴰ·tail, Memᴰ·cast}
 use mathlib.Core.Logic.{inl, inr}
 use Prim.Native.Nat.{ℕ}
-use lib.IntN.{ℤ}
 use Rattle.rules.specs.declared.Pair.{Pair}
 use Rattle.rules.specs.declared.Query.{Query}
 use Rattle.tables_join.specs.Pairs.{QualifyingPair}
 use Rattle.demand.specs.Demand.{Qualifying, sumOf, IsIn}
+use Rattle.rules.specs.Tables.{Table}
 
 -- a pair that is in a list is there by its rows
 pub mem-in : (p : Pair) (l : List Pair) → List·Memᴰ p l → IsIn l (p .field) (p .trim)
 mem-in p (x ∷ l) (List·Memᴰ·head e) = inl (ap (λ p. p .field) (sym e), ap (λ p. p .trim) (sym e))
 mem-in p (x ∷ l) (List·Memᴰ·tail m) = inr (mem-in p l m)
 
-module _ (q : Query) (f t : List ℤ) where
+module _ (q : Query) (f t : Table) where
   -- the pair of two rows, with its own sum
   abbrev pub named : ℕ → ℕ → Pair
   named i j = record { sum = sumOf q f t i j; field = i; trim = j }

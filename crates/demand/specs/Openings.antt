@@ -1,30 +1,41 @@
 -- The opening of a sequence. Assumes nothing.
 use Prim.Native.Nat.{ℕ}
-use mathlib.Core.Path.{_≡_, sym, ap, ap₂, _∙_}
+use mathlib.Core.Path.{_≡_, sym, ap, subst, _∙_}
 use mathlib.Core.Bool.{true}
 use mathlib.Core.List.{List}
-use lib.IntN.{ℤ}
 use Rattle.rules.specs.declared.Query.{Query}
 use Rattle.rules.specs.declared.Step.{Step}
 use Rattle.rules.specs.declared.Answer.the-variants.{Opened}
-use Rattle.rules.specs.Tables.{rowCount, legal}
-use Rattle.rules.specs.Session.{opened}
-use Rattle.rules.specs.Calls.{queryCode, step, openCall}
-use Rattle.session_laws.specs.Calls.{opened-query, legal-opened}
-use Rattle.demand.specs.Demand.{Line, Sequence}
+use Rattle.rules.specs.Tables.{Table, rowCount}
+use Rattle.rules.specs.Session.{twoTables, opened}
+use Rattle.rules.specs.Calls.{queryCode, isCard, step, openCall}
+use Rattle.session_laws.specs.Calls.{OneCard, opened-query, opened-cards, legal-opened}
+use Rattle.demand.specs.Demand.{Line, Sequence, Alike}
 
-module _ {q : Query} {f t : List ℤ} {opening : Step} {lines : List Line} (w : Sequence q f t opening lines) where
+module _ {q : Query} {f t : Table} {opening : Step} {lines : List Line} (w : Sequence q f t opening lines) where
   pub opening-query : queryCode q ≡ 0
   opening-query = opened-query q f t (ap (λ x. x .answer) (sym (w .opening-promised)) ∙ w .opening-accepted)
 
-  -- the record of tables with so many rows
-  abbrev openedRows : ℕ → ℕ → Step
-  openedRows m n = step Opened (opened q (record { 0 = m }) (record { 0 = n }))
+  pub opening-cards : OneCard f t
+  opening-cards = opened-cards q f t (ap (λ x. x .answer) (sym (w .opening-promised)) ∙ w .opening-accepted)
 
-  pub opening-is : opening ≡ openedRows (rowCount f) (rowCount t)
-  opening-is = w .opening-promised ∙ legal-opened q f t opening-query (w .field-legal) (w .trim-legal)
+  -- the record of tables with so many rows, on such a card
+  abbrev openedRows : ℕ → ℕ → ℕ → Step
+  openedRows n i j =
+      step Opened (opened q (record { field = record { 0 = i }; trim = record { 0 = j }; card = n }))
 
-  -- tables of the same row counts are opened alike
-  pub opens-alike : (f′ t′ : List ℤ) → legal f′ ≡ true → legal t′ ≡ true → rowCount f′ ≡ rowCount f
-      → rowCount t′ ≡ rowCount t → openCall q f′ t′ ≡ opening
-  opens-alike f′ t′ g h m n = legal-opened q f′ t′ opening-query g h ∙ ap₂ openedRows m n ∙ sym opening-is
+  pub opening-is : opening ≡ step Opened (opened q (twoTables f t))
+  opening-is = w .opening-promised ∙ legal-opened q f t opening-query opening-cards (w .field-legal) (w .trim-legal)
+
+  -- tables alike are opened alike
+  pub opens-alike : (f′ t′ : Table) {d e : ℕ} → Alike f f′ d → Alike t t′ e → openCall q f′ t′ ≡ opening
+  opens-alike f′ t′ u v =
+      let field = ap (λ x. x .coordinates) (u .rows) in
+      let cards : OneCard f′ t′ =
+      record {
+        known = subst (λ n. isCard n ≡ true) (sym field) (opening-cards .known);
+        same = field ∙ opening-cards .same ∙ sym (ap (λ x. x .coordinates) (v .rows));
+      } in
+      legal-opened q f′ t′ opening-query cards (u .lawful) (v .lawful)
+      ∙ (λ i. openedRows (field i) (u .count i) (v .count i))
+      ∙ sym opening-is

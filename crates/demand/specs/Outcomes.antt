@@ -6,7 +6,6 @@ use mathlib.Core.List.{List, []}
 use Prim.Native.Nat.{ℕ, _≤_}
 use native.Mathlib.Omega.{arith}
 use lib.Dec.{eqb, ltb}
-use lib.IntN.{ℤ}
 use borrow.Author.Tests.{eqb-true, ltb-true}
 use Rattle.lists.specs.Bools.{clash, fails}
 use Rattle.rules.specs.declared.Session.{Session}
@@ -15,7 +14,7 @@ use Rattle.rules.specs.declared.Pair.{Pair}
 use Rattle.rules.specs.declared.Query.{Query}
 use Rattle.rules.specs.declared.Answer.{Answer}
 use Rattle.rules.specs.declared.Answer.the-variants.{Refused, Read, Settled, Given, NotYet, Finished}
-use Rattle.rules.specs.Tables.{rowCount, legal}
+use Rattle.rules.specs.Tables.{Table, rowCount, legal}
 use Rattle.rules.specs.Session.{settled, secured, aTableIsEmpty}
 use Rattle.rules.specs.Read.{fieldNext, readTable, readBlock}
 use Rattle.rules.specs.Take.{firstHeld, givesPairBy, givesPair, movedOut, finished}
@@ -28,7 +27,7 @@ use Rattle.session_laws.specs.Read.{read-field, read-trim, read-grows}
 use Rattle.session_laws.specs.Alike.{SameRows, same-less, same-secured, same-settled, same-finished, same-next}
 use Rattle.session_laws.specs.Alike.{same-read}
 use Rattle.tables_join.specs.Reached.{Reached, first-inside, empty-none}
-use Rattle.demand.specs.Demand.{Call, reading, taking, promised}
+use Rattle.demand.specs.Demand.{Call, reading, taking, ruled}
 use Rattle.demand.specs.Steps.{Happened, refused, settling, going, giving, finishing, waiting}
 use Rattle.demand.specs.Steps.{readsOf, Changed, kept, deeper, fewer}
 
@@ -38,7 +37,7 @@ differ e = absurd (omega arith)
 
 -- From the promise to what happened
 
-module _ (f t : List ℤ) (s : Session) where
+module _ (f t : Table) (s : Session) where
   read-outcome : Happened f t s reading (readCall f t s)
   unfolding readCallBy
   read-outcome = go (eqb (callCode f t s) 0) (settled f t s) (eqb (newBlockCode f t s) 0) refl refl refl
@@ -70,12 +69,12 @@ module _ (f t : List ℤ) (s : Session) where
       go true false false a b c = waiting refl (eqb-true (callCode f t s) 0 a) b c refl
       go false y z a b c = refused (callCode f t s) refl
 
-  outcome : (c : Call) → Happened f t s c (promised c f t s)
+  outcome : (c : Call) → Happened f t s c (ruled c f t s)
   outcome reading = read-outcome
   outcome taking = take-outcome
 
 -- a call that was refused may have been lent any slices
-module _ (f t f₁ t₁ : List ℤ) (s : Session) (c : Call) (g : Step)
+module _ (f t f₁ t₁ : Table) (s : Session) (c : Call) (g : Step)
     (same : said (g .answer) .accepted ≡ true → (f₁ ≡ f) × (t₁ ≡ t)) where
   accepted-here : (a : Answer) (r : Session) → g ≡ step a r → said a .accepted ≡ true → Happened f₁ t₁ s c g
       → Happened f t s c g
@@ -90,12 +89,12 @@ module _ (f t f₁ t₁ : List ℤ) (s : Session) (c : Call) (g : Step)
   happened-here (finishing a b d h e) = accepted-here Finished s e refl (finishing a b d h e)
   happened-here (waiting a b d h e) = accepted-here NotYet s e refl (waiting a b d h e)
 
-pub happened : (f t f₁ t₁ : List ℤ) (s : Session) (c : Call) (g : Step) → g ≡ promised c f₁ t₁ s
+pub happened : (f t f₁ t₁ : Table) (s : Session) (c : Call) (g : Step) → g ≡ ruled c f₁ t₁ s
     → (said (g .answer) .accepted ≡ true → (f₁ ≡ f) × (t₁ ≡ t)) → Happened f t s c g
 happened f t f₁ t₁ s c g e same =
     happened-here f t f₁ t₁ s c g same (subst (Happened f₁ t₁ s c) (sym e) (outcome f₁ t₁ s c))
 
-module _ (f t : List ℤ) (s : Session) (c : Call) (g : Step) where
+module _ (f t : Table) (s : Session) (c : Call) (g : Step) where
   -- what became of the record
 
   record-kept : (a : Answer) → g ≡ step a s → given a ≡ [] → readsOf a ≡ 0 → Changed f t s g
@@ -137,7 +136,7 @@ module _ (f t : List ℤ) (s : Session) (c : Call) (g : Step) where
   said-not-yet w (waiting i b d k e) = (d, k)
 
 -- a read lowers no depth
-pub reached-grows : {q : Query} {f t : List ℤ} {out : List Pair} {s : Session} → Reached q f t out s
+pub reached-grows : {q : Query} {f t : Table} {out : List Pair} {s : Session} → Reached q f t out s
     → (s .depth .field .0 ≤ readBlock f t s .depth .field .0) × (s .depth .trim .0 ≤ readBlock f t s .depth .trim .0)
 reached-grows {f = f} {t = t} {s = s} a =
     read-grows (fieldNext f t s) f t s (omega (arith, a .field-depth, a .field-rows))
@@ -146,11 +145,11 @@ reached-grows {f = f} {t = t} {s = s} a =
 -- Over tables alike in the rows read
 
 -- alike in the rows that a record has read
-abbrev pub AlikeTo : List ℤ → List ℤ → List ℤ → List ℤ → Session → Type 0
+abbrev pub AlikeTo : Table → Table → Table → Table → Session → Type 0
 AlikeTo f t f′ t′ r = SameRows (r .depth .field .0) f f′ × SameRows (r .depth .trim .0) t t′
 
-module _ {q : Query} {f t : List ℤ} {out : List Pair} {s : Session} (a : Reached q f t out s) (own : legal f ≡ true)
-    (own-trim : legal t ≡ true) (f′ t′ : List ℤ) (g : legal f′ ≡ true) (h : legal t′ ≡ true)
+module _ {q : Query} {f t : Table} {out : List Pair} {s : Session} (a : Reached q f t out s) (own : legal f ≡ true)
+    (own-trim : legal t ≡ true) (f′ t′ : Table) (g : legal f′ ≡ true) (h : legal t′ ≡ true)
     (m : rowCount f′ ≡ rowCount f) (n : rowCount t′ ≡ rowCount t) where
   -- a held pair needs rows of both tables
   held-live : 1 ≤ s .held → aTableIsEmpty f t s ≡ false
@@ -206,7 +205,7 @@ module _ {q : Query} {f t : List ℤ} {out : List Pair} {s : Session} (a : Reach
 
   -- an accepted call gives what it gave
   pub same-call : (c : Call) (x : Step) → said (x .answer) .accepted ≡ true → AlikeTo f t f′ t′ (x .session)
-      → Happened f t s c x → promised c f′ t′ s ≡ x
+      → Happened f t s c x → ruled c f′ t′ s ≡ x
   unfolding movedOut
   same-call c x w v o = go o
     where
@@ -216,13 +215,13 @@ module _ {q : Query} {f t : List ℤ} {out : List Pair} {s : Session} (a : Reach
       at : (y : Step) → x ≡ y → AlikeTo f t f′ t′ (y .session)
       at y e = subst (λ y. AlikeTo f t f′ t′ (y .session)) e v
 
-      gave : (d : Call) (y : Step) → c ≡ d → x ≡ y → promised d f′ t′ s ≡ y → promised c f′ t′ s ≡ x
-      gave d y i e r = ap (λ c. promised c f′ t′ s) i ∙ r ∙ sym e
+      gave : (d : Call) (y : Step) → c ≡ d → x ≡ y → ruled d f′ t′ s ≡ y → ruled c f′ t′ s ≡ x
+      gave d y i e r = ap (λ c. ruled c f′ t′ s) i ∙ r ∙ sym e
 
       gives : AlikeTo f t f′ t′ s → (b : Bool) → givesPair f t s ≡ b → givesPair f′ t′ s ≡ b
       gives u b d = same-gives u ∙ d
 
-      go : Happened f t s c x → promised c f′ t′ s ≡ x
+      go : Happened f t s c x → ruled c f′ t′ s ≡ x
       go (refused n e) = clash w (ap (λ x. said (x .answer) .accepted) e)
       go (settling i b d e) =
           let u = at (step Settled s) e in

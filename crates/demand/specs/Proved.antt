@@ -5,7 +5,6 @@ use mathlib.Core.List.{List, _∷_, _++_, map, List·Memᴰ}
 use mathlib.Core.Logic.{inl, inr, ⊎-elim}
 use Prim.Native.Nat.{ℕ, _+_, _-_, _≤_, max}
 use native.Mathlib.Omega.{arith}
-use lib.IntN.{ℤ}
 use Rattle.rules.specs.declared.FieldRows.{FieldRows}
 use Rattle.rules.specs.declared.TrimRows.{TrimRows}
 use Rattle.rules.specs.declared.Session.{Session}
@@ -13,7 +12,7 @@ use Rattle.rules.specs.declared.Step.{Step}
 use Rattle.rules.specs.declared.Pair.{Pair}
 use Rattle.rules.specs.declared.Query.{Query}
 use Rattle.rules.specs.declared.Answer.the-variants.{Given, Finished}
-use Rattle.rules.specs.Tables.{legal}
+use Rattle.rules.specs.Tables.{Table, legal}
 use Rattle.rules.specs.Session.{opened}
 use Rattle.rules.specs.Take.{firstHeld, givesPair}
 use Rattle.rules.specs.Sure.{Sure}
@@ -35,12 +34,12 @@ use Rattle.demand.specs.Named.{mem-in, named, named-fits, fits-qualifyin
 
 -- Tables that are alike have the same first rows
 
-alike-rows : {t u : List ℤ} {n : ℕ} → Alike t u n → SameRows n t u
+alike-rows : {t u : Table} {n : ℕ} → Alike t u n → SameRows n t u
 alike-rows a = a .rows
 
 -- One call, the record reached before it
 
-module _ {q : Query} {f t : List ℤ} (g : legal f ≡ true) (h : legal t ≡ true) (before : List Line) {s : Session}
+module _ {q : Query} {f t : Table} (g : legal f ≡ true) (h : legal t ≡ true) (before : List Line) {s : Session}
     (a : Reached q f t (outs before) s) where
   out-fits : (p : Pair) → List·Memᴰ p (outs before) → QualifyingPair q f t p
   out-fits p m = a .keeping .holds .inside p (inl m) .fits
@@ -79,7 +78,7 @@ module _ {q : Query} {f t : List ℤ} (g : legal f ≡ true) (h : legal t ≡ tr
 
 -- The sequence
 
-module _ {q : Query} {f t : List ℤ} {opening : Step} {lines : List Line} (w : Sequence q f t opening lines) where
+module _ {q : Query} {f t : Table} {opening : Step} {lines : List Line} (w : Sequence q f t opening lines) where
   module _ (before after : List Line) (l : Line) (e : lines ≡ before ++ l ∷ after) where
     line-brought : (p : Pair) → l .gave .answer ≡ Given p → Brought q f t before p
     line-brought p y =
@@ -101,10 +100,10 @@ module _ {q : Query} {f t : List ℤ} {opening : Step} {lines : List Line} (w : 
       lines-up-to q f t (w .field-legal) (w .trim-legal) (some-block w) (query-out q (opening-query w) .k .0)
       m n sure lines (reached w) (nothing-read (max (m .0) (n .0) + q .block - 1)) (w .calls)
 
-  module _ (f′ t′ : List ℤ) (u : Alike f f′ (lastRecord (opening .session) lines .depth .field .0))
+  module _ (f′ t′ : Table) (u : Alike f f′ (lastRecord (opening .session) lines .depth .field .0))
       (v : Alike t t′ (lastRecord (opening .session) lines .depth .trim .0)) where
     same-opening : openCall q f′ t′ ≡ opening
-    same-opening = opens-alike w f′ t′ (u .lawful) (v .lawful) (u .count) (v .count)
+    same-opening = opens-alike w f′ t′ u v
 
     same-lines : answersOver q f′ t′ lines ≡ map (λ l. l .gave .answer) lines
     same-lines =

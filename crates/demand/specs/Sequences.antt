@@ -11,7 +11,8 @@ use Rattle.rules.specs.declared.Session.{Session}
 use Rattle.rules.specs.declared.Step.{Step}
 use Rattle.rules.specs.declared.Pair.{Pair}
 use Rattle.rules.specs.declared.Query.{Query}
-use Rattle.rules.specs.Tables.{rowCount, legal}
+use Rattle.rules.specs.Tables.{Table, table, rowCount, legal}
+use Rattle.rules.specs.Session.{lentTable}
 use Rattle.rules.specs.Read.{fieldNext, readBlock}
 use Rattle.rules.specs.Take.{movedOut}
 use Rattle.rules.specs.Sure.{Sure}
@@ -21,10 +22,10 @@ use Rattle.session_laws.specs.Alike.{same-less}
 use Rattle.tables_join.specs.Reached.{Reached, open-reached, read-reached, take-reached}
 use Rattle.tables_join.specs.Choice.{read-limit}
 use Rattle.rules.specs.Query.{given}
-use Rattle.demand.specs.Demand.{Line, Sequence, promised, isAccepted, Follows, outs, lastRecord}
+use Rattle.demand.specs.Demand.{Line, Sequence, ruled, promised, isAccepted, Follows, outs, lastRecord}
 use Rattle.demand.specs.Demand.{byRules, over}
 use Rattle.demand.specs.Steps.{Happened, Changed, kept, deeper, fewer}
-use Rattle.demand.specs.Openings.{opening-query, opening-is}
+use Rattle.demand.specs.Openings.{opening-query, opening-cards, opening-is}
 use Rattle.demand.specs.Outcomes.{AlikeTo, happened, changed, reached-grows, same-call}
 
 -- neither depth is above n
@@ -33,7 +34,7 @@ DepthsUpTo n s = (s .depth .field .0 ≤ n) × (s .depth .trim .0 ≤ n)
 
 -- Transcripts in parts
 
-module _ (f t : List ℤ) where
+module _ (f t : Table) where
   pub follows-before : (before rest : List Line) (s : Session) → Follows f t s (before ++ rest)
       → Follows f t s before × Follows f t (lastRecord s before) rest
   follows-before [] rest s h = (tt, h)
@@ -48,7 +49,7 @@ module _ (f t : List ℤ) where
       let rest = follows-rules (l .gave .session) lines (h .2) in
       ap₂ (λ a b. a ∷ b) (h .0) (rest ∙ ap (λ g. byRules (g .session) lines) (h .0))
 
-module _ (q : Query) (f t : List ℤ) (g : legal f ≡ true) (h : legal t ≡ true) (size : 1 ≤ q .block) where
+module _ (q : Query) (f t : Table) (g : legal f ≡ true) (h : legal t ≡ true) (size : 1 ≤ q .block) where
   -- One call
 
   module _ {out : List Pair} {s : Session} (a : Reached q f t out s) where
@@ -63,9 +64,15 @@ module _ (q : Query) (f t : List ℤ) (g : legal f ≡ true) (h : legal t ≡ tr
         subst (λ x. Reached q f t (out ++ given (x .answer)) (x .session)) (sym e)
         (take-reached a (gives-some f t s d))
 
+    -- the numbers of the two tables, lent to it, are the tables
+    pub lent-own : {x y : List ℤ} → (x ≡ f .numbers) × (y ≡ t .numbers) → (lentTable s x ≡ f) × (lentTable s y ≡ t)
+    lent-own k = (ap₂ table (a .card) (k .0), ap₂ table (a .card ∙ a .cards .same) (k .1))
+
     module _ (l : Line) (lines : List Line) (w : Follows f t s (l ∷ lines)) where
       line-happened : Happened f t s (l .call) (l .gave)
-      line-happened = happened f t (l .field) (l .trim) s (l .call) (l .gave) (w .0) (w .1)
+      line-happened =
+          happened f t (lentTable s (l .field)) (lentTable s (l .trim)) s (l .call) (l .gave) (w .0)
+          (λ z. lent-own (w .1 z))
 
       pub line-changed : Changed f t s (l .gave)
       line-changed = changed f t s (l .call) (l .gave) line-happened
@@ -133,16 +140,26 @@ module _ (q : Query) (f t : List ℤ) (g : legal f ≡ true) (h : legal t ≡ tr
     lines-up-to = lines-keep (DepthsUpTo limit) line-up-to
 
   -- the same answers
-  module _ (f′ t′ : List ℤ) (g′ : legal f′ ≡ true) (h′ : legal t′ ≡ true) (m : rowCount f′ ≡ rowCount f)
+  module _ (f′ t′ : Table) (g′ : legal f′ ≡ true) (h′ : legal t′ ≡ true) (m : rowCount f′ ≡ rowCount f)
       (n : rowCount t′ ≡ rowCount t) where
     same-line : {out : List Pair} {s : Session} → Reached q f t out s → (l : Line) (lines : List Line)
         → Follows f t s (l ∷ lines) → AlikeTo f t f′ t′ (l .gave .session)
         → promised (l .call) (over f′ t′ l .field) (over f′ t′ l .trim) s ≡ l .gave
     same-line {s = s} a l lines w alike = go (isAccepted l) refl
       where
+        -- their numbers, lent to it, are the tables
+        field : lentTable s (f′ .numbers) ≡ f′
+        field = ap (λ c. table c (f′ .numbers)) (a .card ∙ sym (ap (λ x. x .coordinates) (alike .0)))
+
+        trim : lentTable s (t′ .numbers) ≡ t′
+        trim =
+            ap (λ c. table c (t′ .numbers)) (a .card ∙ a .cards .same ∙ sym (ap (λ x. x .coordinates) (alike .1)))
+
         go : (b : Bool) → isAccepted l ≡ b
-            → promised (l .call) (cond b f′ (l .field)) (cond b t′ (l .trim)) s ≡ l .gave
-        go true z = same-call a g h f′ t′ g′ h′ m n (l .call) (l .gave) z alike (line-happened a l lines w)
+            → promised (l .call) (cond b (f′ .numbers) (l .field)) (cond b (t′ .numbers) (l .trim)) s ≡ l .gave
+        go true z =
+            ap₂ (λ x y. ruled (l .call) x y s) field trim
+            ∙ same-call a g h f′ t′ g′ h′ m n (l .call) (l .gave) z alike (line-happened a l lines w)
         go false z = sym (w .0)
 
     -- alike in the rows read at last, so in those read first
@@ -167,9 +184,11 @@ module _ (q : Query) (f t : List ℤ) (g : legal f ≡ true) (h : legal t ≡ tr
 
 -- From the opening on
 
-module _ {q : Query} {f t : List ℤ} {opening : Step} {lines : List Line} (w : Sequence q f t opening lines) where
+module _ {q : Query} {f t : Table} {opening : Step} {lines : List Line} (w : Sequence q f t opening lines) where
   pub reached : Reached q f t [] (opening .session)
-  reached = subst (λ x. Reached q f t [] (x .session)) (sym (opening-is w)) (open-reached q f t (opening-query w))
+  reached =
+      subst (λ x. Reached q f t [] (x .session)) (sym (opening-is w))
+      (open-reached q f t (opening-query w) (opening-cards w))
 
   pub some-block : 1 ≤ q .block
   some-block = query-out q (opening-query w) .block .0
@@ -188,4 +207,4 @@ module _ {q : Query} {f t : List ℤ} {opening : Step} {lines : List Line} (w : 
 
     pub happened-then : Happened f t handed (l .call) (l .gave)
     happened-then =
-        let c = calls-before .1 in happened f t (l .field) (l .trim) handed (l .call) (l .gave) (c .0) (c .1)
+        line-happened q f t (w .field-legal) (w .trim-legal) some-block reached-before l after (calls-before .1)

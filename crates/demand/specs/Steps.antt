@@ -2,8 +2,7 @@
 use Prim.Native.Nat.{ℕ}
 use mathlib.Core.Path.{_≡_}
 use mathlib.Core.Bool.{true, false}
-use mathlib.Core.List.{List, []}
-use lib.IntN.{ℤ}
+use mathlib.Core.List.{[]}
 use Rattle.rules.specs.declared.Session.{Session}
 use Rattle.rules.specs.declared.Step.{Step}
 use Rattle.rules.specs.declared.Answer.{Answer}
@@ -14,9 +13,10 @@ use Rattle.rules.specs.Take.{firstHeld, givesPair, movedOut, finished}
 use Rattle.rules.specs.Calls.{callCode, newBlockCode, step}
 use Rattle.rules.specs.Query.{given}
 use Rattle.demand.specs.Demand.{Call, reading, taking}
+use Rattle.rules.specs.Tables.{Table}
 
 -- the call c, given record s, gave g: refused it gave s back; else it was lent tables f and t, and did one of five
-pub data Happened (f t : List ℤ) (s : Session) (c : Call) (g : Step) : Type 0 where
+pub data Happened (f t : Table) (s : Session) (c : Call) (g : Step) : Type 0 where
   refused : (n : ℕ) → g ≡ step (Refused n) s → Happened f t s c g
   settling : c ≡ reading → callCode f t s ≡ 0 → settled f t s ≡ true → g ≡ step Settled s → Happened f t s c g
   going : c ≡ reading → callCode f t s ≡ 0 → settled f t s ≡ false → newBlockCode f t s ≡ 0
@@ -39,7 +39,7 @@ readsOf NotYet = 0
 readsOf Finished = 0
 
 -- the same as far as the record goes: it stayed as it was, or a block was read, or a pair came out
-pub data Changed (f t : List ℤ) (s : Session) (g : Step) : Type 0 where
+pub data Changed (f t : Table) (s : Session) (g : Step) : Type 0 where
   kept : g .session ≡ s → given (g .answer) ≡ [] → readsOf (g .answer) ≡ 0 → Changed f t s g
   deeper : settled f t s ≡ false → g ≡ step Read (readBlock f t s) → Changed f t s g
   fewer : givesPair f t s ≡ true → g ≡ step (Given (firstHeld s)) (movedOut s) → Changed f t s g

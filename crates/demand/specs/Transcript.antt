@@ -12,12 +12,16 @@ use Rattle.rules.specs.declared.Query.{Query}
 use Rattle.rules.specs.declared.Session.{Session}
 use Rattle.rules.specs.Session.{weights}
 use Rattle.demand.specs.Demand.{Call, Line, promised, isAccepted, Follows, byRules}
+use Rattle.rules.specs.Tables.{Table, oldTable}
 
 -- ---- Small tables and queries
 
--- a row at a place of the a axis, and the rows after it
-abbrev pub rowThen : ℤ → ℤ → List ℤ → List ℤ
-rowThen score a rest = pos 1 ∷ score ∷ a ∷ pos 0 ∷ rest
+-- a table of no rows; a row at a place of the a axis, and the rows after it
+abbrev pub noRows : Table
+noRows = oldTable []
+
+abbrev pub rowThen : ℤ → ℤ → Table → Table
+rowThen score a rest = oldTable (pos 1 ∷ score ∷ a ∷ pos 0 ∷ rest .numbers)
 
 -- the best pair of rows at one place, by blocks of so many rows
 abbrev pub topOne : ℕ → Query
@@ -75,22 +79,23 @@ pub data Asked : Type 0 where
   own : Call → Asked
   astray : Call → List ℤ → List ℤ → Asked
 
-module _ (f t : List ℤ) where
+module _ (f t : Table) where
   abbrev pub lent : Asked → Lending
-  lent (own c) = record { call = c; field = f; trim = t }
+  lent (own c) = record { call = c; field = f .numbers; trim = t .numbers }
   lent (astray c f₁ t₁) = record { call = c; field = f₁; trim = t₁ }
 
   -- whether all calls that are lent other slices are refused
   abbrev pub straysRefused : Session → List Asked → Bool
   straysRefused s [] = true
-  straysRefused s (own c ∷ calls) = straysRefused (promised c f t s .session) calls
+  straysRefused s (own c ∷ calls) = straysRefused (promised c (f .numbers) (t .numbers) s .session) calls
   straysRefused s (astray c f₁ t₁ ∷ calls) =
       not (isAccepted (lineOf s (lent (astray c f₁ t₁)))) && straysRefused (promised c f₁ t₁ s .session) calls
 
   pub follows : (s : Session) (calls : List Asked) → straysRefused s calls ≡ true
       → Follows f t s (transcript s (map lent calls))
   follows s [] h = tt
-  follows s (own c ∷ calls) h = (refl, λ e. (refl, refl), follows (promised c f t s .session) calls h)
+  follows s (own c ∷ calls) h =
+      (refl, λ e. (refl, refl), follows (promised c (f .numbers) (t .numbers) s .session) calls h)
   follows s (astray c f₁ t₁ ∷ calls) h =
       let accepted = isAccepted (lineOf s (lent (astray c f₁ t₁))) in
       let rest = promised c f₁ t₁ s .session in

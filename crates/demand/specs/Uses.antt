@@ -8,7 +8,6 @@ use mathlib.Core.Logic.{_⊎_, inl, inr, ⊎-elim}
 use Prim.Native.Nat.{ℕ, _≤_, max}
 use native.Mathlib.Omega.{arith}
 use lib.Dec.{ltb}
-use lib.IntN.{ℤ}
 use lib.ListN.{length, take, drop, getD}
 use lib.Seq.{take-take}
 use Rattle.lists.specs.Lists.{sort, best}
@@ -21,7 +20,7 @@ use Rattle.rules.specs.declared.Pair.{Pair}
 use Rattle.rules.specs.declared.Query.{Query}
 use Rattle.rules.specs.declared.Answer.{Answer}
 use Rattle.rules.specs.declared.Answer.the-variants.{Refused, Opened, Read, Settled, Given, NotYet, Finished}
-use Rattle.rules.specs.Tables.{legal, terms, qualifying}
+use Rattle.rules.specs.Tables.{Table, legal, terms, qualifying}
 use Rattle.rules.specs.Calls.{openCall}
 use Rattle.rules.specs.Query.{given}
 use Rattle.rules.specs.Sure.{whole, qualifyingSums}
@@ -67,7 +66,7 @@ rules-at s (x ∷ before) after l e =
 
 -- Pairs that come out
 
-module _ (q : Query) (f t : List ℤ) where
+module _ (q : Query) (f t : Table) where
   brought-fits : (before : List Line) (p : Pair) → Brought q f t before p → QualifyingPair q f t p
   brought-fits before p b =
       let k = b .qualifying in
@@ -100,7 +99,7 @@ module _ (q : Query) (f t : List ℤ) where
 
 -- Of a transcript that keeps demand 3
 
-module _ {q : Query} {f t : List ℤ} {opening : Step} {lines : List Line} (d : Demand3 q f t opening lines) where
+module _ {q : Query} {f t : Table} {opening : Step} {lines : List Line} (d : Demand3 q f t opening lines) where
   rest-fits : (before rest after : List Line) → lines ≡ before ++ (rest ++ after) → (p : Pair) → List·Memᴰ p (outs rest)
       → QualifyingPair q f t p
   rest-fits before (l ∷ rest) after e p m =
@@ -195,7 +194,7 @@ module _ {q : Query} {f t : List ℤ} {opening : Step} {lines : List Line} (d : 
 
   -- "Legal tables alike in their row counts and in the rows read get the same answers": of another transcript, whose
   -- calls are the same but that the accepted ones are lent tables alike, the answers are the same at each call
-  module _ {f′ t′ : List ℤ} {opening′ : Step} {lines′ : List Line} (d′ : Demand3 q f′ t′ opening′ lines′)
+  module _ {f′ t′ : Table} {opening′ : Step} {lines′ : List Line} (d′ : Demand3 q f′ t′ opening′ lines′)
       (same : map lending lines′ ≡ map lending (map (over f′ t′) lines))
       (u : Alike f f′ (lastRecord (opening .session) lines .depth .field .0))
       (v : Alike t t′ (lastRecord (opening .session) lines .depth .trim .0)) where

@@ -16,7 +16,7 @@ use Rattle.rules.specs.declared.Session.{Session}
 use Rattle.rules.specs.declared.Step.{Step}
 use Rattle.rules.specs.declared.Answer.{Answer}
 use Rattle.rules.specs.declared.Answer.the-variants.{Refused, Opened, Read, Given, Finished}
-use Rattle.rules.specs.Tables.{natOf, Row, row, rowsQualify}
+use Rattle.rules.specs.Tables.{Table, oldTable, natOf, Row, row, rowsQualify}
 use Rattle.rules.specs.Session.{weights}
 use Rattle.rules.specs.Sure.{Sure, qualifyingSums}
 use Rattle.rules.specs.Calls.{openCall}
@@ -34,22 +34,24 @@ abbrev pub numbers : ℤ → ℤ → ℤ → ℤ → List ℤ → List ℤ
 numbers n s a b rest = n ∷ s ∷ a ∷ b ∷ rest
 
 -- the rules' two tables, but for the fifth rows
-abbrev fieldsTo : List ℤ → List ℤ
+abbrev fieldsTo : List ℤ → Table
 fieldsTo rest =
-    numbers (pos 101) (pos 90) (pos 0) (pos 0)
+    oldTable
+    (numbers (pos 101) (pos 90) (pos 0) (pos 0)
     (numbers (pos 102) (pos 80) (pos 100) (pos 0)
-    (numbers (pos 103) (pos 60) (pos 0) (pos 300) (numbers (pos 104) (pos 40) (pos 500) (pos 500) rest)))
+    (numbers (pos 103) (pos 60) (pos 0) (pos 300) (numbers (pos 104) (pos 40) (pos 500) (pos 500) rest))))
 
-abbrev trimsTo : List ℤ → List ℤ
+abbrev trimsTo : List ℤ → Table
 trimsTo rest =
-    numbers (pos 201) (pos 70) (pos 400) (pos 0)
+    oldTable
+    (numbers (pos 201) (pos 70) (pos 400) (pos 0)
     (numbers (pos 202) (pos 50) (pos 3) (pos 4)
-    (numbers (pos 203) (pos 30) (pos 100) (pos 5) (numbers (pos 204) (pos 20) (pos 0) (pos 300) rest)))
+    (numbers (pos 203) (pos 30) (pos 100) (pos 5) (numbers (pos 204) (pos 20) (pos 0) (pos 300) rest))))
 
-abbrev pub fields : List ℤ
+abbrev pub fields : Table
 fields = fieldsTo (numbers (pos 105) (pos 10) (pos 0) (pos 0) [])
 
-abbrev pub trims : List ℤ
+abbrev pub trims : Table
 trims = trimsTo (numbers (pos 205) (pos 15) (pos 500) (pos 500) [])
 
 -- they are the files' tables
@@ -71,7 +73,7 @@ takes = own taking
 
 -- lent no field table at all
 abbrev strays : Asked
-strays = astray taking [] trims
+strays = astray taking [] (trims .numbers)
 
 abbrev pub calls : List Asked
 calls =
@@ -136,7 +138,7 @@ unfolding run
 second-brought = worked .brought (firstLines 10) (drop 11 lines) (lineAt 10) second refl refl
 
 abbrev patternAt : ℕ → ℕ → ℤ → ℤ → Row
-patternAt number score a b = record { pattern = number; score = score; shade = record { a = a; b = b } }
+patternAt number score a b = record { pattern = number; score = score; shade = a ∷ b ∷ [] }
 
 -- "Each pair brought out qualifies,"
 pub qualify : (rowsQualify 5 (patternAt 101 90 (pos 0) (pos 0)) (patternAt 202 50 (pos 3) (pos 4)) ≡ true)
@@ -185,7 +187,7 @@ highest-two = finished-highest worked refl refl (firstLines 11) [] (lineAt 11) r
 -- "After the sequence no more than max(p, q) + block - 1 rows of either table have been read": four of each are sure
 sure : Sure query fields trims (fieldRows 4) (trimRows 4)
 unfolding run isSure readOutBy emptyBy ceilingAt qualifyingSums atLeast
-sure = sure-is-test query refl fields trims refl refl (fieldRows 4) (trimRows 4) .1 refl
+sure = sure-is-test query refl fields trims refl refl (fieldRows 4) (trimRows 4) refl .1 refl
 
 pub at-most-four : (lastRecord begun lines .depth .field .0 ≤ 4) × (lastRecord begun lines .depth .trim .0 ≤ 4)
 at-most-four = worked .row-limit (fieldRows 4) (trimRows 4) sure
@@ -207,10 +209,10 @@ rules-records = ap (map counts) (sym (worked .by-rules .1))
 
 -- ---- Two other tables, unlike in the fifth rows, which were not read; both of these would qualify with a row above
 
-abbrev otherFields : List ℤ
+abbrev otherFields : Table
 otherFields = fieldsTo (numbers (pos 106) (pos 40) (pos 100) (pos 0) [])
 
-abbrev otherTrims : List ℤ
+abbrev otherTrims : Table
 otherTrims = trimsTo (numbers (pos 206) (pos 20) (pos 100) (pos 0) [])
 
 fields-alike : Alike fields otherFields (lastRecord begun lines .depth .field .0)
@@ -237,6 +239,6 @@ answers-there = worked .same-answers otherFields otherTrims fields-alike trims-a
 -- they are other tables
 pub unlike : (otherFields ≡ fields → ⊥) × (otherTrims ≡ trims → ⊥)
 unlike = (
-  λ e. omega (arith, ap (λ t. natOf (getD t 16 (pos 0))) e),
-  λ e. omega (arith, ap (λ t. natOf (getD t 16 (pos 0))) e),
+  λ e. omega (arith, ap (λ t. natOf (getD (t .numbers) 16 (pos 0))) e),
+  λ e. omega (arith, ap (λ t. natOf (getD (t .numbers) 16 (pos 0))) e),
 )

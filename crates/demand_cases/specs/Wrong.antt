@@ -2,15 +2,15 @@
 -- nothing.
 use mathlib.Core.Path.{_≡_, refl}
 use mathlib.Core.Bool.{Bool, true, false, cond}
-use mathlib.Core.List.{List, []}
+use mathlib.Core.List.{[]}
 use Prim.Native.Nat.{ℕ, zero, suc, _+_, _-_, _≤_, _<_, max}
 use native.Mathlib.Omega.{arith}
 use lib.Dec.{eqb, ltb, leb, lit<, lit≤}
-use lib.IntN.{ℤ, pos}
+use lib.IntN.{pos}
 use Rattle.lists.specs.Lists.{atLeast}
 use Rattle.rules.specs.declared.Query.{Query}
 use Rattle.rules.specs.declared.Session.{Session}
-use Rattle.rules.specs.Tables.{terms}
+use Rattle.rules.specs.Tables.{Table, terms}
 use Rattle.rules.specs.Session.{lastScore, fieldReadOut, trimReadOut, settled}
 use Rattle.rules.specs.Read.{scoreDrop, fieldNext, readTable, readTo}
 use Rattle.rules.specs.Take.{firstHeld}
@@ -19,62 +19,62 @@ use Rattle.rules.specs.Calls.{openCall, readCall}
 use Rattle.rules.specs.Run.{run}
 use Rattle.tables_join.specs.Sure.{isSure, readOutBy, emptyBy, ceilingAt, sure-is-test}
 use Rattle.demand.specs.Demand.{Qualifying, Brought}
-use Rattle.demand.specs.Transcript.{rowThen, topOne, fieldRows, trimRows}
+use Rattle.demand.specs.Transcript.{noRows, rowThen, topOne, fieldRows, trimRows}
 
 -- ---- Rules for the table that is read next
 
 -- a rule in place of the drops, both tables having been read and neither to its end
-abbrev chosenBy : (List ℤ → List ℤ → Session → Bool) → List ℤ → List ℤ → Session → Bool
+abbrev chosenBy : (Table → Table → Session → Bool) → Table → Table → Session → Bool
 chosenBy rule f t s =
     cond (eqb (s .depth .field .0) 0) true
     (cond (eqb (s .depth .trim .0) 0) false (cond (trimReadOut t s) true (cond (fieldReadOut f s) false (rule f t s))))
 
 -- Qi, Bouros and Mamoulis (2020) as printed: the table whose last score is higher
-abbrev byLastScore : List ℤ → List ℤ → Session → Bool
+abbrev byLastScore : Table → Table → Session → Bool
 byLastScore f t s =
     let w = terms (s .query) in
     leb (lastScore (w .trim) t (s .depth .trim .0)) (lastScore (w .field) f (s .depth .field .0))
 
 -- the drops of the two tables
-abbrev fieldDrop : List ℤ → Session → ℕ
+abbrev fieldDrop : Table → Session → ℕ
 fieldDrop f s = scoreDrop (terms (s .query) .field) f (s .depth .field .0)
 
-abbrev trimDrop : List ℤ → Session → ℕ
+abbrev trimDrop : Table → Session → ℕ
 trimDrop t s = scoreDrop (terms (s .query) .trim) t (s .depth .trim .0)
 
 -- at equal drops always the field table
-abbrev equalDropsField : List ℤ → List ℤ → Session → Bool
+abbrev equalDropsField : Table → Table → Session → Bool
 equalDropsField f t s = leb (fieldDrop f s) (trimDrop t s)
 
 -- the rule itself in this form
-abbrev byDrops : List ℤ → List ℤ → Session → Bool
+abbrev byDrops : Table → Table → Session → Bool
 byDrops f t s =
     let x = fieldDrop f s in
     let y = trimDrop t s in
     cond (ltb x y) true (cond (ltb y x) false (leb (s .depth .field .0) (s .depth .trim .0)))
 
 -- reading until settled by such a rule, at most n reads
-abbrev readBy : ℕ → (List ℤ → List ℤ → Session → Bool) → List ℤ → List ℤ → Session → Session
+abbrev readBy : ℕ → (Table → Table → Session → Bool) → Table → Table → Session → Session
 readBy zero rule f t s = s
 readBy (suc n) rule f t s = cond (settled f t s) s (readBy n rule f t (readTable (chosenBy rule f t s) f t s))
 
 -- how many rows such a rule reads of the two tables
-abbrev rowsBy : (List ℤ → List ℤ → Session → Bool) → Query → List ℤ → List ℤ → ℕ
+abbrev rowsBy : (Table → Table → Session → Bool) → Query → Table → Table → ℕ
 rowsBy rule q f t =
     let s = readBy 12 rule f t (openCall q f t .session) in
     max (s .depth .field .0) (s .depth .trim .0)
 
 -- the pair that matters is field row 1 with trim row 2, and trim scores lie below all field scores
-abbrev highFields : List ℤ
+abbrev highFields : Table
 highFields =
-    rowThen (pos 100) (pos 0) (rowThen (pos 90) (pos 7) (rowThen (pos 80) (pos 7) (rowThen (pos 70) (pos 7) [])))
+    rowThen (pos 100) (pos 0) (rowThen (pos 90) (pos 7) (rowThen (pos 80) (pos 7) (rowThen (pos 70) (pos 7) noRows)))
 
-abbrev lowTrims : List ℤ
-lowTrims = rowThen (pos 10) (pos 9) (rowThen (pos 9) (pos 0) (rowThen (pos 8) (pos 9) []))
+abbrev lowTrims : Table
+lowTrims = rowThen (pos 10) (pos 9) (rowThen (pos 9) (pos 0) (rowThen (pos 8) (pos 9) noRows))
 
 sure-low : Sure (topOne 1) highFields lowTrims (fieldRows 2) (trimRows 2)
 unfolding run isSure readOutBy emptyBy ceilingAt qualifyingSums atLeast
-sure-low = sure-is-test (topOne 1) refl highFields lowTrims refl refl (fieldRows 2) (trimRows 2) .1 refl
+sure-low = sure-is-test (topOne 1) refl highFields lowTrims refl refl (fieldRows 2) (trimRows 2) refl .1 refl
 
 -- the row limit, here 2, is broken by the last-score rule and kept by the rule itself
 pub last-score-breaks-limit : Sure (topOne 1) highFields lowTrims (fieldRows 2) (trimRows 2)
@@ -84,15 +84,15 @@ unfolding run
 last-score-breaks-limit = (sure-low, lit< tt, refl)
 
 -- a plateau of equal scores in the field table
-abbrev plateau : List ℤ
-plateau = rowThen (pos 5) (pos 0) (rowThen (pos 5) (pos 7) (rowThen (pos 5) (pos 7) (rowThen (pos 5) (pos 7) [])))
+abbrev plateau : Table
+plateau = rowThen (pos 5) (pos 0) (rowThen (pos 5) (pos 7) (rowThen (pos 5) (pos 7) (rowThen (pos 5) (pos 7) noRows)))
 
-abbrev level : List ℤ
-level = rowThen (pos 5) (pos 9) (rowThen (pos 5) (pos 0) (rowThen (pos 5) (pos 9) []))
+abbrev level : Table
+level = rowThen (pos 5) (pos 9) (rowThen (pos 5) (pos 0) (rowThen (pos 5) (pos 9) noRows))
 
 sure-level : Sure (topOne 1) plateau level (fieldRows 2) (trimRows 2)
 unfolding run isSure readOutBy emptyBy ceilingAt qualifyingSums atLeast
-sure-level = sure-is-test (topOne 1) refl plateau level refl refl (fieldRows 2) (trimRows 2) .1 refl
+sure-level = sure-is-test (topOne 1) refl plateau level refl refl (fieldRows 2) (trimRows 2) refl .1 refl
 
 pub equal-drops-break-limit : Sure (topOne 1) plateau level (fieldRows 2) (trimRows 2)
     × (max 2 2 + 1 - 1 < rowsBy equalDropsField (topOne 1) plateau level)
@@ -103,14 +103,14 @@ equal-drops-break-limit = (sure-level, lit< tt, refl)
 -- ---- Reading everything at the first read
 
 -- all rows that remain in place of one block: the field depth after the first read
-abbrev readsAll : Query → List ℤ → List ℤ → ℕ
+abbrev readsAll : Query → Table → Table → ℕ
 readsAll q f t =
     let s = openCall q f t .session in
     readTo (fieldNext f t s) (s .rows .field .0) s .depth .field .0
 
 sure-first : Sure (topOne 1) plateau plateau (fieldRows 1) (trimRows 1)
 unfolding run isSure readOutBy emptyBy ceilingAt qualifyingSums atLeast
-sure-first = sure-is-test (topOne 1) refl plateau plateau refl refl (fieldRows 1) (trimRows 1) .1 refl
+sure-first = sure-is-test (topOne 1) refl plateau plateau refl refl (fieldRows 1) (trimRows 1) refl .1 refl
 
 pub reading-all-breaks-limit : Sure (topOne 1) plateau plateau (fieldRows 1) (trimRows 1)
     × (max 1 1 + 1 - 1 < readsAll (topOne 1) plateau plateau)
@@ -120,11 +120,11 @@ reading-all-breaks-limit = (sure-first, lit< tt, refl)
 
 -- ---- Taking the best held pair before the ceiling is down to it
 
-abbrev crossed : List ℤ
-crossed = rowThen (pos 10) (pos 1) (rowThen (pos 1) (pos 2) [])
+abbrev crossed : Table
+crossed = rowThen (pos 10) (pos 1) (rowThen (pos 1) (pos 2) noRows)
 
-abbrev crossing : List ℤ
-crossing = rowThen (pos 10) (pos 2) (rowThen (pos 9) (pos 1) [])
+abbrev crossing : Table
+crossing = rowThen (pos 10) (pos 2) (rowThen (pos 9) (pos 1) noRows)
 
 abbrev after : Session → Session
 after s = readCall crossed crossing s .session

@@ -1,7 +1,7 @@
 -- The gap of two signed numbers, as naturals: its size, and what subtracting at 64 bits and at 32 gives. Assumes
 -- nothing.
-use mathlib.Core.Path.{_≡_, refl, sym, ap, subst, _∙_}
-use mathlib.Core.Bool.{Bool, true, false, cond, _&&_}
+use mathlib.Core.Path.{_≡_, refl, sym, ap, _∙_}
+use mathlib.Core.Bool.{Bool, true, false, cond}
 use Prim.Native.Nat.{ℕ, zero, suc, _+_, _-_, _≤_, _<_, _^_}
 use native.Mathlib.Omega.{arith}
 use lib.IntN.{ℤ, pos, negsuc, natAbs, subℕ, _-ℤ_}
@@ -130,6 +130,9 @@ held z = toZ w32 (ofZ w32 z)
 
 held-is : (z : ℤ) → mag z < 16384 → held z ≡ z
 held-is z h = toZ-ofZ {w = w32} {z = z} (record { sfits = omega arith })
+
+pub held-small : (z : ℤ) → mag z < 16384 → mag (held z) < 16384
+held-small z h = rw (held-is z h) h
 
 pub gap-small : (x y : ℤ) → mag x < 16384 → mag y < 16384 → gap x y < 32768
 gap-small x y f g = omega (arith, gap-mag x y)

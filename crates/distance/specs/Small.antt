@@ -1,10 +1,11 @@
 -- Shades with small numbers, as legal rows have them: 32 bits hold their squared distances. Definitions only. Assumes
 -- nothing.
-use Prim.Native.Nat.{_<_}
+use Prim.Native.Nat.{ℕ, _<_}
+use mathlib.Core.List.{List}
+use lib.IntN.{ℤ, pos}
+use lib.ListN.{getD}
 use lib.Signed.{mag}
-use Rattle.rules.specs.declared.Shade.{Shade}
 
--- each number lies less than 2^14 from 0
-pub record Small (x : Shade) : Type 0 where
-  pub a : mag (x .a) < 16384
-  pub b : mag (x .b) < 16384
+-- each number lies less than 2^14 from 0; past the end a number reads as 0
+abbrev pub Small : List ℤ → Type 0
+Small x = (k : ℕ) → mag (getD x k (pos 0)) < 16384

@@ -1,10 +1,12 @@
-// The distance of two shades, for all 32-bit numbers and all radii: no sum wraps, whatever a table holds. At the end
-// the same test for small shades, as legal rows have them, at 32 bits.
-use rules::Shade;
+// The distance of two shades, lists of their coordinates of one length, for all 32-bit numbers and all radii: no sum
+// wraps, whatever a table holds. At the end the same test for small shades, as legal rows have them, at 32 bits.
 ghost use mathlib.Core.Path.{_≡_};
-ghost use Prim.Native.Nat.{_<_, _≤_, _^_, _-_, min};
+ghost use Prim.Native.Nat.{_+_, _*_, _<_, _≤_, _^_, _-_, min};
+ghost use lib.IntN.{pos};
+ghost use lib.ListN.{length};
 ghost use lib.Signed.{mag};
 ghost use Rattle.rules.specs.Tables.{gap, squaredDistance, qualifies};
+ghost use Rattle.rules.specs.Squares.{squareAt};
 ghost use Rattle.distance.specs.Small.{Small};
 
 // How far apart two numbers lie.
@@ -19,43 +21,56 @@ fn apart(x: i32, y: i32) -> u64
     (b - a) as u64
 }
 
-// How far apart two shades lie in a and in b.
-struct Offset {
-    a: u64,
-    b: u64,
+// How far apart two shades lie in coordinate k, from 0 on, squared.
+fn square_at(x: &[i32], y: &[i32], k: usize) -> u64
+    requires { ⌜ (k < length (now x)) × (k < length (now y)) ⌝ }
+    ensures { λ r. ⌜ r ≡ squareAt gap (pos 0) (now (x .entry)) (now (y .entry)) k ⌝ }
+{
+    let gap = apart(x[k], y[k]);
+    gap * gap
 }
 
-fn offset_of(x: Shade, y: Shade) -> Offset
-    ensures { λ r. ⌜ (r .a ≡ gap (x .a) (y .a)) × (r .b ≡ gap (x .b) (y .b)) × (r .a < 2 ^ 32) × (r .b < 2 ^ 32) ⌝ }
+// The sum, or the largest number where 64 bits cannot hold it.
+fn add_capped(a: u64, b: u64) -> u64
+    ensures { λ r. ⌜ r ≡ min (a + b) (2 ^ 64 - 1) ⌝ }
 {
-    let a = apart(x.a, y.a);
-    let b = apart(x.b, y.b);
-    Offset { a, b }
-}
-
-// The squared distance of two shades; of two that lie farther apart than 64 bits can say, the largest number they can.
-pub fn squared_distance(x: Shade, y: Shade) -> u64
-    ensures { λ r. ⌜ r ≡ min (squaredDistance x y) (2 ^ 64 - 1) ⌝ }
-{
-    let d = offset_of(x, y);
-    let aa = d.a * d.a;
-    let bb = d.b * d.b;
-    if bb <= 18446744073709551615 - aa {
-        return aa + bb;
+    if b <= 18446744073709551615 - a {
+        return a + b;
     }
     18446744073709551615
 }
 
-// Whether two shades lie within the radius. A gap above the radius answers no before anything is squared.
-pub fn qualifies(radius: u32, x: Shade, y: Shade) -> bool
-    ensures { λ r. ⌜ r ≡ qualifies radius x y ⌝ }
+// The squared distance of two shades; of two that lie farther apart than 64 bits can say, the largest number they can.
+pub fn squared_distance(x: &[i32], y: &[i32]) -> u64
+    requires { ⌜ length (now x) ≡ length (now y) ⌝ }
+    ensures { λ r. ⌜ r ≡ min (squaredDistance (now (x .entry)) (now (y .entry))) (2 ^ 64 - 1) ⌝ }
+{
+    let mut sum: u64 = 0;
+    let mut k: usize = 0;
+    while k < x.len() {
+        sum = add_capped(sum, square_at(x, y, k));
+        k += 1;
+    }
+    sum
+}
+
+// Whether two shades lie within the radius: what one coordinate leaves of the radius' square is for the others.
+pub fn qualifies(radius: u32, x: &[i32], y: &[i32]) -> bool
+    requires { ⌜ length (now x) ≡ length (now y) ⌝ }
+    ensures { λ r. ⌜ r ≡ qualifies radius (now (x .entry)) (now (y .entry)) ⌝ }
 {
     let r = radius as u64;
-    let d = offset_of(x, y);
-    if r < d.a {
-        return false;
+    let mut left = r * r;
+    let mut k: usize = 0;
+    while k < x.len() {
+        let square = square_at(x, y, k);
+        if left < square {
+            return false;
+        }
+        left = left - square;
+        k += 1;
     }
-    d.b * d.b <= r * r - d.a * d.a
+    true
 }
 
 // How far apart two small numbers lie.
@@ -69,12 +84,27 @@ fn apart_small(x: i32, y: i32) -> u32
     (y - x) as u32
 }
 
-// Whether two small shades lie within the radius: 32 bits hold the squares, and no branch stands between the two gaps.
-pub fn near_small(radius: u32, x: Shade, y: Shade) -> bool
-    requires { ⌜ Small x × Small y × (radius ≤ 40000) ⌝ }
-    ensures { λ r. ⌜ r ≡ qualifies radius x y ⌝ }
+// How far apart two small shades lie in coordinate k, squared.
+fn small_square_at(x: &[i32], y: &[i32], k: usize) -> u32
+    requires { ⌜ (k < length (now x)) × (k < length (now y)) × Small (now x) × Small (now y) ⌝ }
+    ensures { λ r. ⌜ (r ≡ squareAt gap (pos 0) (now (x .entry)) (now (y .entry)) k) × (r ≤ 1073676289) ⌝ }
 {
-    let a = apart_small(x.a, y.a);
-    let b = apart_small(x.b, y.b);
-    a * a + b * b <= radius * radius
+    let gap = apart_small(x[k], y[k]);
+    gap * gap
+}
+
+// Whether two small shades lie within the radius: 32 bits hold the squares of three coordinates, and no branch stands
+// in the loop.
+pub fn near_small(radius: u32, x: &[i32], y: &[i32]) -> bool
+    requires { ⌜ Small (now x) × Small (now y) ⌝ }
+    requires { ⌜ (length (now x) ≡ length (now y)) × (length (now x) ≤ 3) × (radius ≤ 40000) ⌝ }
+    ensures { λ r. ⌜ r ≡ qualifies radius (now (x .entry)) (now (y .entry)) ⌝ }
+{
+    let mut sum: u32 = 0;
+    let mut k: usize = 0;
+    while k < x.len() {
+        sum = sum + small_square_at(x, y, k);
+        k += 1;
+    }
+    sum <= radius * radius
 }

@@ -1,53 +1,77 @@
 // A strict file read: its rows into lent numbers.
 ghost use mathlib.Core.Path.{_≡_};
-ghost use mathlib.Core.Bool.{true};
 ghost use mathlib.Core.List.{_++_};
-ghost use Prim.Native.Nat.{_+_, _≤_, _<_};
+ghost use Prim.Native.Nat.{_+_, _≤_};
 ghost use lib.ListN.{length};
-ghost use Rattle.rules.specs.Tables.{mostRows, HasRow, HasRows, afterRows};
-ghost use Rattle.rules.specs.File.{rowStart, rowColumnsFit, rowNumbers, fileTable};
-ghost use Rattle.rules.specs.File.{andSlice, loadAnswer, loadNumbers};
+ghost use Rattle.rules.specs.Tables.{table, width, HasRows, afterRows, mostRows};
+ghost use Rattle.rules.specs.File.{rowBytes, rowStart, fileTable, andSlice, loadAnswer, loadNumbers};
+ghost use Rattle.file_laws.specs.Parts.{RowFits};
 ghost use Rattle.file.specs.Put.{rowPut, RowsFit};
-use column::number_at;
+use column::column_bytes;
+use column::row_bytes;
+use column::row_number;
 use file_check::check;
 use rules::Loaded;
 
-// 11 comes last: a file that is refused for its rows is told so, however short the slice of `room` numbers.
-fn and_room(checked: Loaded, room: usize) -> Loaded
-    ensures { λ r. ⌜ r ≡ andSlice room checked ⌝ }
+// 11 comes last: a file that is refused for its rows is told so, however short the slice of `room` numbers. The rows
+// have n coordinates.
+fn and_room(n: u32, checked: Loaded, room: usize) -> Loaded
+    ensures { λ r. ⌜ r ≡ andSlice n room checked ⌝ }
 {
     let Loaded::Rows(count) = checked else {
         return checked;
     };
-    if room < rules::ROW_NUMBERS * (count as usize) {
+    if room < tables::width(n) * (count as usize) {
         return Loaded::Unfit(rules::SHORT_SLICE, 0);
     }
     checked
 }
 
-// Row i + 1, which fits, written to its place. What stands behind it stays.
-fn put_row(bytes: &[u8], i: usize, out: &mut [i32])
-    requires { ⌜ (i < mostRows) × (rowStart (i + 1) ≤ length (now bytes)) × HasRow (now out) i ⌝ }
-    requires { ⌜ rowColumnsFit (now bytes) i ≡ true ⌝ }
-    ensures { λ _. ⌜ now (out .exit) ≡ rowPut i (rowNumbers (now (bytes .entry)) i) (now (out .entry)) ⌝ }
+fn put_row_at(n: u32, bytes: &[u8], o: usize, out: &mut [i32], p: usize)
+    requires { ⌜ (o + rowBytes n ≤ length (now bytes)) × (p + width n ≤ length (now out)) ⌝ }
+    requires { ⌜ RowFits n (now bytes) o ⌝ }
+    ensures { λ _. ⌜ now (out .exit) ≡ rowPut n (now (bytes .entry)) o p (now (out .entry)) ⌝ }
 {
-    let o = rules::HEADER_BYTES + rules::ROW_BYTES * i;
-    let p = rules::ROW_NUMBERS * i;
-    out[p] = number_at(bytes, o, 6, false);
-    out[p + 1] = number_at(bytes, o + 6, 6, false);
-    out[p + 2] = number_at(bytes, o + 12, 7, true);
-    out[p + 3] = number_at(bytes, o + 19, 7, true);
+    let width = tables::width(n);
+    let mut at = o;
+    let mut j: usize = 0;
+    while j < width {
+        out[p + j] = row_number(bytes, at, j);
+        at += column_bytes(j);
+        j += 1;
+    }
+}
+
+// The row of n coordinates that begins at `o`, which fits, written from place `p` on. What stands around it stays. The
+// code is chosen by n, so that the compiler knows the columns.
+fn put_row(n: u32, bytes: &[u8], o: usize, out: &mut [i32], p: usize)
+    requires { ⌜ (o + rowBytes n ≤ length (now bytes)) × (p + width n ≤ length (now out)) ⌝ }
+    requires { ⌜ RowFits n (now bytes) o ⌝ }
+    ensures { λ _. ⌜ now (out .exit) ≡ rowPut n (now (bytes .entry)) o p (now (out .entry)) ⌝ }
+{
+    if n == 2 {
+        put_row_at(2, bytes, o, out, p);
+    } else {
+        if n == 3 {
+            put_row_at(3, bytes, o, out, p);
+        } else {
+            put_row_at(n, bytes, o, out, p);
+        }
+    }
 }
 
 // The first `count` rows, which fit, written from the front of `out`.
-fn put_rows(bytes: &[u8], count: usize, out: &mut [i32])
-    requires { ⌜ (count ≤ mostRows) × (rowStart count ≤ length (now bytes)) × HasRows (now out) count ⌝ }
-    requires { ⌜ RowsFit (now bytes) count ⌝ }
-    ensures { λ _. ⌜ now (out .exit) ≡ fileTable (now (bytes .entry)) count ++ afterRows count (now (out .entry)) ⌝ }
+fn put_rows(n: u32, bytes: &[u8], count: usize, out: &mut [i32])
+    requires { ⌜ (count ≤ mostRows) × (rowStart n count ≤ length (now bytes)) × HasRows (table n (now out)) count ⌝ }
+    requires { ⌜ RowsFit n (now bytes) count ⌝ }
+    ensures { λ _. ⌜ now (out .exit)
+        ≡ fileTable n (now (bytes .entry)) count .numbers ++ afterRows count (table n (now (out .entry))) .numbers ⌝ }
 {
+    let size = row_bytes(n);
+    let width = tables::width(n);
     let mut i: usize = 0;
     while i < count {
-        put_row(bytes, i, out);
+        put_row(n, bytes, rules::HEADER_BYTES + size * i, out, width * i);
         i += 1;
     }
 }
@@ -57,10 +81,11 @@ pub fn load(bytes: &[u8], kind: i32, out: &mut [i32]) -> Loaded
     ensures { λ r. ⌜ r ≡ loadAnswer (now (bytes .entry)) kind (now (out .entry)) ⌝ }
     ensures { λ _. ⌜ now (out .exit) ≡ loadNumbers (now (bytes .entry)) kind (now (out .entry)) ⌝ }
 {
-    let answer = and_room(check(bytes, kind), out.len());
+    let n = file_check::kind_coordinates(kind);
+    let answer = and_room(n, check(bytes, kind), out.len());
     let Loaded::Rows(count) = answer else {
         return answer;
     };
-    put_rows(bytes, count as usize, out);
+    put_rows(n, bytes, count as usize, out);
     answer
 }

@@ -9,7 +9,7 @@ use lib.ListN.{length}
 use borrow.Author.Tests.{le-leb, eq-eqb, ne-eqb}
 use Rattle.rules.specs.declared.Loaded.the-variants.{Unfit}
 use Rattle.rules.specs.Tables.{natOf}
-use Rattle.rules.specs.File.{fileTable, rowsLoaded, checkFile}
+use Rattle.rules.specs.File.{fileTable, rowsLoaded, wanted, checkFile}
 use Rattle.rules.specs.File.{columns, headerBytes, endsLine, headerFits, fileCount, fileKind, kindFits, headCode}
 use Rattle.file_laws.specs.Parts.{header-parts}
 use Rattle.file_laws.specs.Accepted.{HeadPassed}
@@ -68,6 +68,6 @@ module _ (bytes : List ℕ) (kind : ℤ) where
   head-refuses h = simp (ne-eqb (headCode bytes kind) 0 h)
 
   pub head-passes : headCode bytes kind ≡ 0 →
-      rowsLoaded bytes (fileTable bytes (fileCount bytes)) (fileCount bytes) ≡ checkFile bytes kind
+      rowsLoaded bytes (fileTable (wanted kind) bytes (fileCount bytes)) (fileCount bytes) ≡ checkFile bytes kind
   unfolding checkFile
   head-passes h = simp (eq-eqb (headCode bytes kind) 0 h)

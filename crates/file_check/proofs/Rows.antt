@@ -1,75 +1,144 @@
 -- What is read of a row: the checks of it are the rules' checks of the file's table. Assumes nothing.
-use mathlib.Core.Path.{_≡_, refl, sym, ap, _∙_}
-use mathlib.Core.Bool.{Bool, true, false, _&&_, _||_}
-use mathlib.Core.List.{List, [], _∷_}
-use Prim.Native.Nat.{ℕ, suc, _+_, _-_, _<_}
+use mathlib.Core.Path.{_≡_, refl, sym, ap, ap₂, _∙_}
+use mathlib.Core.Bool.{Bool, true, false, _&&_, _||_, and-assoc, and-true}
+use mathlib.Core.List.{List}
+use Prim.Native.Nat.{ℕ, suc, _+_, _*_, _-_, _≤_, _<_}
 use native.Mathlib.Decide.{le-ind}
 use native.Mathlib.Numerals.{add-one}
 use native.Mathlib.Omega.{arith}
 use lib.Dec.{eqb}
 use lib.IntN.{ℤ, pos}
-use lib.ListN.{getD}
+use lib.ListN.{getD, drop}
+use lib.Seq.{getD-take, getD-drop}
 use lib.Signed.{leZ}
 use borrow.Author.Tests.{eq-eqb, ne-eqb, eqb-false}
+use Rattle.lists.specs.Lists.{every, range}
+use Rattle.lists.specs.Appends.{every-more}
+use Rattle.lists.specs.Parts.{every-same, mem-range}
 use Rattle.rules.specs.declared.Loaded.the-variants.{Rows, Unfit}
-use Rattle.rules.specs.Tables.{num, rowInRange, rowInOrder, width}
+use Rattle.rules.specs.Tables.{Table, width, num, HasRow, within, coordinateFits, fitsAt, shadeFits, shadeAt}
+use Rattle.rules.specs.Tables.{rowInRange, rowInOrder}
+use Rattle.rules.specs.Widths.{next-row, shade-length}
 use Rattle.rules.specs.Calls.{rowCode}
-use Rattle.rules.specs.File.{columns, endsLine, rowStart, rowColumnsFit, rowNumbers}
+use Rattle.rules.specs.File.{columns, isSigned, columnStart, columnAt, columnFitsAt, numberAt}
+use Rattle.rules.specs.File.{rowBytes, rowStart, rowColumnsFit}
 use Rattle.rules.specs.File.{fileTable, fileRowCode, andRow, rowsLoaded}
-use Rattle.file_laws.specs.Table.{table-num}
+use Rattle.file_laws.specs.Columns.{start-next, signed-back, size-back, column-ends}
+use Rattle.file_laws.specs.Parts.{row-parts}
+use Rattle.file_laws.specs.Table.{table-length, table-num}
+use Rattle.tables.specs.Ranges.{in-range-parts}
 use Rattle.column.specs.declared.Column.{Column}
 use Rattle.column.specs.Column.{columnHeld, number-held}
-use Rattle.file_check.specs.declared.Row.{Row}
-use Rattle.file_check.specs.Held.{rowHeld, heldRowCode, numbersOf}
-use Rattle.file_laws.specs.Parts.{row-parts}
+use Rattle.file_check.specs.Held.{heldAt, columnsHeld, coordinateHeld, numbersHeld, frontHeld, rowHeld}
+use Rattle.file_check.specs.Held.{heldRowCode}
 
-module _ (bytes : List ℕ) (i : ℕ) where
-  pub row-is : (p s a b : Column) →
-      p ≡ columnHeld false (columns bytes (rowStart i) 6) →
-      s ≡ columnHeld false (columns bytes (rowStart i + 6) 6) →
-      a ≡ columnHeld true (columns bytes (rowStart i + 12) 7) →
-      b ≡ columnHeld true (columns bytes (rowStart i + 19) 7) →
+-- one column more
+module _ (bytes : List ℕ) (o : ℕ) where
+  pub columns-more : (k : ℕ) →
+      columnsHeld (k + 1 + 2) bytes o ≡ columnsHeld (k + 2) bytes o && heldAt bytes o (k + 2) .fits
+  unfolding columnsHeld columnHeld columnFitsAt
+  columns-more k =
+      let e : k + 1 + 2 ≡ suc (k + 2) = omega arith in
+      ap (λ (m : ℕ). columnsHeld m bytes o) e ∙ every-more (columnFitsAt bytes o) (k + 2)
+
+  pub numbers-more : (k : ℕ) →
+      numbersHeld (k + 1) bytes o ≡ numbersHeld k bytes o && coordinateFits k (heldAt bytes o (k + 2) .number)
+  unfolding numbersHeld coordinateHeld
+  numbers-more k =
+      let pattern = within (pos 1) (pos 999999) (heldAt bytes o 0 .number) in
+      let score = within (pos 0) (pos 9999) (heldAt bytes o 1 .number) in
+      let seen = every (coordinateHeld bytes o) (range 0 k) in
+      ap (λ (m : ℕ). numbersHeld m bytes o) (add-one k)
+      ∙ ap (λ (b : Bool). (pattern && score) && b) (every-more (coordinateHeld bytes o) k)
+      ∙ sym (and-assoc (pattern && score) seen (coordinateHeld bytes o k))
+
+  -- the columns that every card has, put together
+  pub front-is : (p s a b : Column) →
+      p ≡ columnHeld false (columns bytes o 6) →
+      s ≡ columnHeld false (columns bytes (o + 6) 6) →
+      a ≡ columnHeld true (columns bytes (o + 12) 7) →
+      b ≡ columnHeld true (columns bytes (o + 19) 7) →
       record {
-        fits = p .fits && (s .fits && (a .fits && (b .fits && endsLine bytes (rowStart i + 26))));
-        pattern = p .number;
+        fits = p .fits && (s .fits && (a .fits && b .fits));
+        inside = (within (pos 1) (pos 999999) (p .number) && within (pos 0) (pos 9999) (s .number))
+            && (coordinateFits 0 (a .number) && coordinateFits 1 (b .number));
         score = s .number;
-        a = a .number;
-        b = b .number;
-      } ≡ rowHeld bytes i
-  unfolding rowHeld rowColumnsFit columnHeld
-  row-is p s a b ep es ea eb =
-      λ k.
+      } ≡ frontHeld bytes o
+  unfolding frontHeld columnsHeld numbersHeld coordinateHeld columnHeld columnFitsAt columnStart every range
+  front-is p s a b ep es ea eb =
+      let z : o ≡ o + 0 = omega arith in
+      let ep₀ : p ≡ heldAt bytes o 0 = ep ∙ ap (λ (x : ℕ). columnHeld false (columns bytes x 6)) z in
+      let last : (t : Bool) → t ≡ t && true = λ t. sym (and-true t) in
+      λ i.
       record {
-        fits = ep k .fits && (es k .fits && (ea k .fits && (eb k .fits && endsLine bytes (rowStart i + 26))));
-        pattern = ep k .number;
-        score = es k .number;
-        a = ea k .number;
-        b = eb k .number;
+        fits = ep₀ i .fits && (es i .fits && (ea i .fits && last (eb i .fits) i));
+        inside = (within (pos 1) (pos 999999) (ep₀ i .number) && within (pos 0) (pos 9999) (es i .number))
+            && (coordinateFits 0 (ea i .number) && last (coordinateFits 1 (eb i .number)) i);
+        score = es i .number;
       }
 
+  -- the columns behind b
+  module _ (k : ℕ) (h : 2 ≤ k) (at : ℕ) (e : at ≡ o + columnStart (k + 2)) where
+    pub back-held : columnHeld false (columns bytes at 6) ≡ heldAt bytes o (k + 2)
+    back-held = simp (e, signed-back (k + 2) (omega arith))
+
+    pub back-next : at + 6 ≡ o + columnStart (k + 1 + 2)
+    back-next =
+        let j : k + 1 + 2 ≡ suc (k + 2) = omega arith in
+        omega (arith, e, ap columnStart j, start-next (k + 2), size-back (k + 2) (omega arith))
+
+    pub back-fits : (n : ℕ) → k < n → at + 6 + 1 ≤ o + rowBytes n
+    unfolding rowBytes
+    back-fits n l =
+        omega (arith, e, size-back (k + 2) (omega arith), column-ends (k + 2) (width n) (omega arith))
+
+-- coordinate k of a row
+shade-num : (t : Table) (i k : ℕ) → k < t .coordinates → getD (shadeAt t i) k (pos 0) ≡ num t i (k + 2)
+shade-num t i k h =
+    let o = width (t .coordinates) * i + 2 in
+    let e : o + k ≡ width (t .coordinates) * i + (k + 2) = omega arith in
+    getD-take (t .coordinates) (drop o (t .numbers)) k (pos 0) h
+    ∙ getD-drop o (t .numbers) k (pos 0)
+    ∙ ap (λ (p : ℕ). getD (t .numbers) p (pos 0)) e
+
 -- what is read of a row that fits are the file's numbers
-module _ (bytes : List ℕ) (i : ℕ) (fit : rowColumnsFit bytes i ≡ true) where
-  pub numbers-held : numbersOf (rowHeld bytes i) ≡ rowNumbers bytes i
-  unfolding numbersOf rowHeld rowNumbers
-  numbers-held =
-      let o = rowStart i in
-      let parts = row-parts bytes i fit in
-      let pattern = number-held false (columns bytes o 6) (parts .pattern) in
-      let score = number-held false (columns bytes (o + 6) 6) (parts .score) in
-      let a = number-held true (columns bytes (o + 12) 7) (parts .a) in
-      let b = number-held true (columns bytes (o + 19) 7) (parts .b) in
-      λ k. pattern k ∷ score k ∷ a k ∷ b k ∷ []
+module _ (n : ℕ) (bytes : List ℕ) (i : ℕ) (fit : rowColumnsFit n bytes i ≡ true) (m : ℕ) (h : i < m) where
+  abbrev t : Table
+  t = fileTable n bytes m
 
-  pub held-num : (n j : ℕ) → i < n → j < width →
-      getD (numbersOf (rowHeld bytes i)) j (pos 0) ≡ num (fileTable bytes n) i j
-  held-num n j h k = ap (λ (l : List ℤ). getD l j (pos 0)) numbers-held ∙ sym (table-num bytes n i j h k)
+  pub held-num : (j : ℕ) → j < width n → heldAt bytes (rowStart n i) j .number ≡ num t i j
+  unfolding columnFitsAt numberAt
+  held-num j k =
+      number-held (isSigned j) (columnAt bytes (rowStart n i) j) (row-parts n bytes i fit .column j k)
+      ∙ sym (table-num n bytes m i j h k)
 
-  pub score-is : (n : ℕ) → i < n → rowHeld bytes i .score ≡ num (fileTable bytes n) i 1
-  unfolding numbersOf
-  score-is n h = held-num n 1 h (omega arith)
+  there : HasRow t i
+  unfolding fileTable
+  there = omega (arith, table-length n bytes m, next-row (width n) i m h)
+
+  shade-is : every (coordinateHeld bytes (rowStart n i)) (range 0 n) ≡ shadeFits (shadeAt t i)
+  unfolding fileTable shadeFits fitsAt coordinateHeld
+  shade-is =
+      every-same (coordinateHeld bytes (rowStart n i)) (fitsAt (shadeAt t i)) (range 0 n)
+      (λ k e.
+      let s : k < n = omega (arith, mem-range k 0 n .0 e .1) in
+      ap (coordinateFits k) (held-num (k + 2) (omega arith) ∙ sym (shade-num t i k s)))
+      ∙ ap (λ (c : ℕ). every (fitsAt (shadeAt t i)) (range 0 c)) (sym (shade-length t i there))
+
+  pub inside-is : rowHeld n bytes (rowStart n i) .inside ≡ rowInRange t i
+  unfolding rowHeld numbersHeld rowInRange
+  inside-is =
+      let pattern = ap (within (pos 1) (pos 999999)) (held-num 0 (omega arith)) in
+      let score = ap (within (pos 0) (pos 9999)) (held-num 1 (omega arith)) in
+      ap₂ (λ (a b : Bool). a && b) (ap₂ (λ (a b : Bool). a && b) pattern score) shade-is
+      ∙ in-range-parts (num t i 0) (num t i 1) (shadeAt t i)
+
+  pub score-is : rowHeld n bytes (rowStart n i) .score ≡ num t i 1
+  unfolding rowHeld
+  score-is = held-num 1 (omega arith)
 
 -- the order test, where the score before is known unless the row is the first
-order-is : (t : List ℤ) (i : ℕ) (before : ℤ) → ((i ≡ 0 → ⊥) → before ≡ num t (i - 1) 1) →
+order-is : (t : Table) (i : ℕ) (before : ℤ) → ((i ≡ 0 → ⊥) → before ≡ num t (i - 1) 1) →
     (eqb i 0 || leZ (num t i 1) before) ≡ rowInOrder t i
 unfolding rowInOrder
 order-is t i before known = go (eqb i 0) refl
@@ -78,33 +147,30 @@ order-is t i before known = go (eqb i 0) refl
     go true f = simp f
     go false f = ap (λ (z : ℤ). eqb i 0 || leZ (num t i 1) z) (known (eqb-false i 0 f))
 
-pub code-is : (bytes : List ℕ) (n i : ℕ) (before : ℤ) → i < n →
-    ((i ≡ 0 → ⊥) → before ≡ num (fileTable bytes n) (i - 1) 1) →
-    heldRowCode (rowHeld bytes i) (eqb i 0) before ≡ fileRowCode bytes (fileTable bytes n) i
-unfolding heldRowCode fileRowCode rowCode rowInRange rowHeld numbersOf
-code-is bytes n i before h known = go (rowColumnsFit bytes i) refl
-  where
-    fits : rowHeld bytes i .fits ≡ rowColumnsFit bytes i
-    fits = refl
+fits-is : (n : ℕ) (bytes : List ℕ) (i : ℕ) → rowHeld n bytes (rowStart n i) .fits ≡ rowColumnsFit n bytes i
+unfolding rowHeld columnsHeld rowColumnsFit
+fits-is n bytes i = refl
 
-    go : (f : Bool) → rowColumnsFit bytes i ≡ f →
-        heldRowCode (rowHeld bytes i) (eqb i 0) before ≡ fileRowCode bytes (fileTable bytes n) i
-    go false f = simp (fits, f)
+pub code-is : (n : ℕ) (bytes : List ℕ) (m i : ℕ) (before : ℤ) → i < m →
+    ((i ≡ 0 → ⊥) → before ≡ num (fileTable n bytes m) (i - 1) 1) →
+    heldRowCode (rowHeld n bytes (rowStart n i)) (eqb i 0) before ≡ fileRowCode bytes (fileTable n bytes m) i
+unfolding heldRowCode fileRowCode rowCode fileTable
+code-is n bytes m i before h known = go (rowColumnsFit n bytes i) refl
+  where
+    go : (f : Bool) → rowColumnsFit n bytes i ≡ f →
+        heldRowCode (rowHeld n bytes (rowStart n i)) (eqb i 0) before ≡ fileRowCode bytes (fileTable n bytes m) i
+    go false f = simp (fits-is n bytes i, f)
     go true f =
-        let number : (j : ℕ) → j < width → getD (numbersOf (rowHeld bytes i)) j (pos 0) ≡ num (fileTable bytes n) i j =
-        λ j k. held-num bytes i f n j h k in
         simp (
-          fits,
+          fits-is n bytes i,
           f,
-          number 0 (omega arith),
-          number 1 (omega arith),
-          number 2 (omega arith),
-          number 3 (omega arith),
-          order-is (fileTable bytes n) i before known,
+          inside-is n bytes i f m h,
+          score-is n bytes i f m h,
+          order-is (fileTable n bytes m) i before known,
         )
 
 -- rows that were accepted, and the next
-module _ (bytes : List ℕ) (t : List ℤ) (i : ℕ) (so-far : rowsLoaded bytes t i ≡ Rows i) where
+module _ (bytes : List ℕ) (t : Table) (i : ℕ) (so-far : rowsLoaded bytes t i ≡ Rows i) where
   pub one-more : fileRowCode bytes t i ≡ 0 → rowsLoaded bytes t (i + 1) ≡ Rows (i + 1)
   unfolding rowsLoaded andRow
   one-more z =

@@ -2,11 +2,13 @@
 ghost use mathlib.Core.Path.{_≡_};
 ghost use Prim.Native.Nat.{_+_, _≤_, _<_};
 ghost use lib.ListN.{length};
-ghost use Rattle.rules.specs.Tables.{mostRows};
-ghost use Rattle.rules.specs.File.{rowStart, fileTable, rowsLoaded, checkFile};
-ghost use Rattle.file_check.specs.Held.{headerHeld, heldHeadCode, rowHeld, heldRowCode};
+ghost use Rattle.rules.specs.Tables.{width, mostRows};
+ghost use Rattle.rules.specs.File.{columnStart, rowBytes, rowStart, fileTable, rowsLoaded, wanted, checkFile};
+ghost use Rattle.file_check.specs.Held.{headerHeld, heldHeadCode, frontHeld, rowHeld, heldRowCode};
 use column::column_at;
+use column::row_bytes;
 use rules::Loaded;
+use tables::coordinate_fits;
 use tables::first;
 use tables::unless;
 
@@ -37,6 +39,13 @@ fn read_header(bytes: &[u8]) -> Header
     }
 }
 
+// How many coordinates a shade has on the card of a kind; 0 where it is no kind.
+pub fn kind_coordinates(kind: i32) -> u32
+    ensures { λ r. ⌜ r ≡ wanted kind ⌝ }
+{
+    cards::kind_coordinates(tables::natural(kind))
+}
+
 // What a file of `len` bytes is refused by for its header, 8, 9, 10, 4, 8 in this order; 0 where it is not.
 fn head_code(header: Header, len: usize, kind: i32) -> u32
     ensures { λ r. ⌜ r ≡ heldHeadCode header len kind ⌝ }
@@ -45,40 +54,63 @@ fn head_code(header: Header, len: usize, kind: i32) -> u32
     let columns = unless(header.fits, rules::BAD_COLUMN);
     let wanted = tables::natural(kind);
     let other = unless(
-        ((1 <= wanted) & (wanted <= 2)) & (header.kind == wanted),
+        ((1 <= wanted) & (wanted <= 4)) & (header.kind == wanted),
         rules::WRONG_KIND,
     );
     let count = unless(header.count <= rules::MOST_ROWS, rules::TABLE_SIZE);
-    let whole = rules::HEADER_BYTES + rules::ROW_BYTES * (header.count as usize);
+    let row = row_bytes(kind_coordinates(kind));
+    let whole = rules::HEADER_BYTES + row * (header.count as usize);
     let size = unless(len == whole, rules::CUT_FILE);
     first(cut, first(columns, first(other, first(count, size))))
 }
 
-// A row's numbers, and whether its columns and LF are formed as they must be.
+// A row's score, whether its columns and LF are formed as they must be, and whether its numbers keep their ranges.
 struct Row {
     fits: bool,
-    pattern: i32,
+    inside: bool,
     score: i32,
-    a: i32,
-    b: i32,
 }
 
-// Row i + 1.
-fn read_row(bytes: &[u8], i: usize) -> Row
-    requires { ⌜ (i < mostRows) × (rowStart (i + 1) ≤ length (now bytes)) ⌝ }
-    ensures { λ r. ⌜ r ≡ rowHeld (now (bytes .entry)) i ⌝ }
+// The columns that rows of every card have, of a row that begins at `o`: pattern number, score, a and b. No LF yet.
+fn read_front(bytes: &[u8], o: usize) -> Row
+    requires { ⌜ o + columnStart (width 2) ≤ length (now bytes) ⌝ }
+    ensures { λ r. ⌜ r ≡ frontHeld (now (bytes .entry)) o ⌝ }
 {
-    let o = rules::HEADER_BYTES + rules::ROW_BYTES * i;
     let pattern = column_at(bytes, o, 6, false);
     let score = column_at(bytes, o + 6, 6, false);
     let a = column_at(bytes, o + 12, 7, true);
     let b = column_at(bytes, o + 19, 7, true);
+    let inside = tables::in_range(pattern.number, score.number);
+    let shade = coordinate_fits(0, a.number) & coordinate_fits(1, b.number);
     Row {
-        fits: pattern.fits & (score.fits & (a.fits & (b.fits & (bytes[o + 26] == b'\n')))),
-        pattern: pattern.number,
+        fits: pattern.fits & (score.fits & (a.fits & b.fits)),
+        inside: inside & shade,
         score: score.number,
-        a: a.number,
-        b: b.number,
+    }
+}
+
+// The row of n coordinates that begins at `o`: the columns behind b hold one coordinate each.
+fn read_row(n: u32, bytes: &[u8], o: usize) -> Row
+    requires { ⌜ (2 ≤ n) × (o + rowBytes n ≤ length (now bytes)) ⌝ }
+    ensures { λ r. ⌜ r ≡ rowHeld n (now (bytes .entry)) o ⌝ }
+{
+    let front = read_front(bytes, o);
+    let mut fits = front.fits;
+    let mut inside = front.inside;
+    let mut at = o + 26;
+    let mut k: u32 = 2;
+    while k < n {
+        let column = column_at(bytes, at, 6, false);
+        let here = coordinate_fits(k as usize, column.number);
+        fits = fits & column.fits;
+        inside = inside & here;
+        at += 6;
+        k += 1;
+    }
+    Row {
+        fits: fits & (bytes[at] == b'\n'),
+        inside: inside,
+        score: front.score,
     }
 }
 
@@ -87,23 +119,21 @@ fn row_code(row: Row, initial: bool, before: i32) -> u32
     ensures { λ r. ⌜ r ≡ heldRowCode row initial before ⌝ }
 {
     let columns = unless(row.fits, rules::BAD_COLUMN);
-    let limit = unless(
-        tables::in_range(row.pattern, row.score, row.a, row.b),
-        rules::ROW_LIMIT,
-    );
+    let limit = unless(row.inside, rules::ROW_LIMIT);
     let order = unless(initial | (row.score <= before), rules::ROW_ORDER);
     first(columns, first(limit, order))
 }
 
 // The first `count` rows: their count, or what the first that is refused is refused by.
-fn check_rows(bytes: &[u8], count: usize) -> Loaded
-    requires { ⌜ (count ≤ mostRows) × (rowStart count ≤ length (now bytes)) ⌝ }
-    ensures { λ r. ⌜ r ≡ rowsLoaded (now (bytes .entry)) (fileTable (now (bytes .entry)) count) count ⌝ }
+fn check_rows(n: u32, bytes: &[u8], count: usize) -> Loaded
+    requires { ⌜ (2 ≤ n) × (count ≤ mostRows) × (rowStart n count ≤ length (now bytes)) ⌝ }
+    ensures { λ r. ⌜ r ≡ rowsLoaded (now (bytes .entry)) (fileTable n (now (bytes .entry)) count) count ⌝ }
 {
+    let size = row_bytes(n);
     let mut before: i32 = 0;
     let mut i: usize = 0;
     while i < count {
-        let row = read_row(bytes, i);
+        let row = read_row(n, bytes, rules::HEADER_BYTES + size * i);
         let code = row_code(row, i == 0, before);
         if code != 0 {
             return Loaded::Unfit(code, (i + 1) as u32);
@@ -123,5 +153,5 @@ pub fn check(bytes: &[u8], kind: i32) -> Loaded
     if code != 0 {
         return Loaded::Unfit(code, 0);
     }
-    check_rows(bytes, header.count as usize)
+    check_rows(kind_coordinates(kind), bytes, header.count as usize)
 }

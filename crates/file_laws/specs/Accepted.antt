@@ -2,7 +2,7 @@
 use mathlib.Core.Path.{_≡_, refl, sym, ap, _∙_}
 use mathlib.Core.Bool.{Bool, true, false, cond}
 use mathlib.Core.List.{List, [], _∷_}
-use Prim.Native.Nat.{ℕ, zero, suc, _+_, _*_, _≤_, _<_}
+use Prim.Native.Nat.{ℕ, zero, suc, _+_, _≤_, _<_}
 use native.Mathlib.Omega.{arith}
 use lib.Dec.{leb, ltb, eqb}
 use lib.IntN.{ℤ}
@@ -10,10 +10,10 @@ use lib.ListN.{length, getD}
 use borrow.Author.Tests.{leb-true, ltb-true, ltb-false, eqb-true}
 use Rattle.rules.specs.declared.Loaded.{Loaded}
 use Rattle.rules.specs.declared.Loaded.the-variants.{Rows, Unfit}
-use Rattle.rules.specs.Tables.{mostRows, rowInRange, rowInOrder}
-use Rattle.rules.specs.Numbers.{tableSize, rowLimit, rowOrder, cutFile, badColumn, wrongKind, unless, first}
+use Rattle.rules.specs.Tables.{Table, mostRows, rowInRange, rowInOrder}
+use Rattle.rules.specs.Numbers.{tableSize, rowLimit, rowOrder, cutFile, badColumn, wrongKind, unless}
 use Rattle.rules.specs.Calls.{rowCode}
-use Rattle.rules.specs.File.{headerBytes, headerFits, fileCount, kindFits, rowStart, headCode, checkFile}
+use Rattle.rules.specs.File.{headerBytes, headerFits, fileCount, kindFits, wanted, rowStart, headCode, checkFile}
 use Rattle.rules.specs.File.{rowColumnsFit, fileTable, fileRowCode, andRow, rowsLoaded}
 use Rattle.rules.specs.Checks.{unless-out, first-out}
 
@@ -30,7 +30,7 @@ headChecks bytes kind =
     ∷ unless (headerFits bytes) badColumn
     ∷ unless (kindFits bytes kind) wrongKind
     ∷ unless (leb (fileCount bytes) mostRows) tableSize
-    ∷ unless (eqb (length bytes) (rowStart (fileCount bytes))) cutFile
+    ∷ unless (eqb (length bytes) (rowStart (wanted kind) (fileCount bytes))) cutFile
     ∷ []
 
 -- a header that is not refused
@@ -39,13 +39,13 @@ pub record HeadPassed (bytes : List ℕ) (kind : ℤ) : Type 0 where
   pub fits : headerFits bytes ≡ true
   pub kind-fits : kindFits bytes kind ≡ true
   pub few : fileCount bytes ≤ mostRows
-  pub size : length bytes ≡ rowStart (fileCount bytes)
+  pub size : length bytes ≡ rowStart (wanted kind) (fileCount bytes)
 
 pub head-passed : (bytes : List ℕ) (kind : ℤ) → headCode bytes kind ≡ 0 → HeadPassed bytes kind
 unfolding headCode
 head-passed bytes kind e =
     let passed : (i : ℕ) → getD (headChecks bytes kind) i 0 ≡ 0 = first-out (headChecks bytes kind) e in
-    let size = rowStart (fileCount bytes) in
+    let size = rowStart (wanted kind) (fileCount bytes) in
     record {
       whole = leb-true headerBytes (length bytes)
           (unless-out (leb headerBytes (length bytes)) cutFile (omega arith) (passed 0));
@@ -59,27 +59,27 @@ head-passed bytes kind e =
 -- ---- A row
 
 -- a row that is not refused
-pub record RowPassed (bytes : List ℕ) (t : List ℤ) (i : ℕ) : Type 0 where
-  pub columns : rowColumnsFit bytes i ≡ true
+pub record RowPassed (bytes : List ℕ) (t : Table) (i : ℕ) : Type 0 where
+  pub columns : rowColumnsFit (t .coordinates) bytes i ≡ true
   pub limit : rowInRange t i ≡ true
   pub order : rowInOrder t i ≡ true
 
-pub row-passed : (bytes : List ℕ) (t : List ℤ) (i : ℕ) → fileRowCode bytes t i ≡ 0 → RowPassed bytes t i
+pub row-passed : (bytes : List ℕ) (t : Table) (i : ℕ) → fileRowCode bytes t i ≡ 0 → RowPassed bytes t i
 unfolding fileRowCode rowCode
 row-passed bytes t i e =
-    let passed : (j : ℕ) → getD (unless (rowColumnsFit bytes i) badColumn ∷ rowCode t i ∷ []) j 0 ≡ 0 =
-    first-out (unless (rowColumnsFit bytes i) badColumn ∷ rowCode t i ∷ []) e in
+    let passed : (j : ℕ) → getD (unless (rowColumnsFit (t .coordinates) bytes i) badColumn ∷ rowCode t i ∷ []) j 0 ≡ 0 =
+    first-out (unless (rowColumnsFit (t .coordinates) bytes i) badColumn ∷ rowCode t i ∷ []) e in
     let row : (j : ℕ) → getD (unless (rowInRange t i) rowLimit ∷ unless (rowInOrder t i) rowOrder ∷ []) j 0 ≡ 0 =
     first-out (unless (rowInRange t i) rowLimit ∷ unless (rowInOrder t i) rowOrder ∷ []) (passed 1) in
     record {
-      columns = unless-out (rowColumnsFit bytes i) badColumn (omega arith) (passed 0);
+      columns = unless-out (rowColumnsFit (t .coordinates) bytes i) badColumn (omega arith) (passed 0);
       limit = unless-out (rowInRange t i) rowLimit (omega arith) (row 0);
       order = unless-out (rowInOrder t i) rowOrder (omega arith) (row 1);
     }
 
 -- ---- The rows
 
-module _ (bytes : List ℕ) (t : List ℤ) where
+module _ (bytes : List ℕ) (t : Table) where
   -- the next row, and those before it
   record Next (n m : ℕ) (x : Loaded) : Type 0 where
     pub code : fileRowCode bytes t n ≡ 0
@@ -121,27 +121,27 @@ pub record Accepted (bytes : List ℕ) (kind : ℤ) (n : ℕ) : Type 0 where
   pub head : HeadPassed bytes kind
   pub count : fileCount bytes ≡ n
   pub few : n ≤ mostRows
-  pub size : length bytes ≡ rowStart n
-  pub rows : (i : ℕ) → i < n → RowPassed bytes (fileTable bytes n) i
+  pub size : length bytes ≡ rowStart (wanted kind) n
+  pub rows : (i : ℕ) → i < n → RowPassed bytes (fileTable (wanted kind) bytes n) i
 
 pub accepted : (bytes : List ℕ) (kind : ℤ) (n : ℕ) → checkFile bytes kind ≡ Rows n → Accepted bytes kind n
 unfolding checkFile
 accepted bytes kind n h = go (eqb (headCode bytes kind) 0) refl h
   where
     go : (b : Bool) → eqb (headCode bytes kind) 0 ≡ b →
-        cond b (rowsLoaded bytes (fileTable bytes (fileCount bytes)) (fileCount bytes))
+        cond b (rowsLoaded bytes (fileTable (wanted kind) bytes (fileCount bytes)) (fileCount bytes))
         (Unfit (headCode bytes kind) 0) ≡ Rows n →
         Accepted bytes kind n
     go false e g = unfit-rows (headCode bytes kind) 0 n g
     go true e g =
         let m = fileCount bytes in
-        let t = fileTable bytes m in
+        let t = fileTable (wanted kind) bytes m in
         let head = head-passed bytes kind (eqb-true (headCode bytes kind) 0 e) in
         let same : n ≡ m = rows-counted bytes t m n g in
         record {
           head = head;
           count = sym same;
           few = omega (arith, head .few);
-          size = omega (arith, head .size);
+          size = head .size ∙ ap (rowStart (wanted kind)) (sym same);
           rows = rw same (λ i l. row-passed bytes t i (rows-passed bytes t m n g i l));
         }

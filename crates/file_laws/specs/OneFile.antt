@@ -11,11 +11,13 @@ use lib.ListN.{length, getD, drop, take-append-drop, length-drop, drop-of-length
 use lib.Seq.{drop-drop, drop-cons, length-take-le}
 use borrow.Author.Tests.{eqb-true}
 use Rattle.rules.specs.declared.Loaded.the-variants.{Rows}
-use Rattle.rules.specs.Tables.{natOf, num, width}
+use Rattle.rules.specs.Tables.{Table, natOf, num, rowCount, width}
+use Rattle.rules.specs.Widths.{rows-count, next-row}
 use Rattle.rules.specs.Calls.{between}
 use Rattle.rules.specs.File.{afterBlanks, digitsFrom, hasMinus, digitsOf, columns, columnFits, columnNumber}
 use Rattle.rules.specs.File.{headerBytes, endsLine, headerFits, fileCount, fileKind, kindFits, checkFile}
-use Rattle.rules.specs.File.{rowStart, rowColumnsFit, rowNumbers, fileTable}
+use Rattle.rules.specs.File.{isSigned, columnBytes, columnStart, rowBytes, rowStart, columnFitsAt, numberAt}
+use Rattle.rules.specs.File.{rowColumnsFit, fileTable, wanted}
 use Rattle.lists.specs.Bools.{and-right}
 use Rattle.file_laws.specs.Parts.{header-parts, row-parts}
 use Rattle.file_laws.specs.Table.{table-length, table-num}
@@ -48,38 +50,52 @@ module _ (l k : List ℕ) where
       (ap (λ (n : ℕ). drop n l) next ∙ rest ∙ sym (ap (λ (n : ℕ). drop n k) next))
       ∙ sym (drop-cons k o 0 (omega arith))
 
+  -- and in the m columns before it, the first of them at o
+  same-columns : (o m : ℕ) → o + columnStart m ≤ length l → o + columnStart m ≤ length k →
+      ((j : ℕ) → j < m → columnFitsAt l o j ≡ true) → ((j : ℕ) → j < m → columnFitsAt k o j ≡ true) →
+      ((j : ℕ) → j < m → numberAt l o j ≡ numberAt k o j) →
+      drop (o + columnStart m) l ≡ drop (o + columnStart m) k → drop o l ≡ drop o k
+  unfolding columnStart columnFitsAt numberAt
+  same-columns o zero h g f f′ e rest =
+      let z : o + 0 ≡ o = omega arith in
+      ap (λ (x : ℕ). drop x l) (sym z) ∙ rest ∙ ap (λ (x : ℕ). drop x k) z
+  same-columns o (suc m) h g f f′ e rest =
+      let last : m < suc m = omega arith in
+      same-columns o m (omega arith) (omega arith) (λ j s. f j (omega arith)) (λ j s. f′ j (omega arith))
+      (λ j s. e j (omega arith))
+      (same-column (isSigned m) (o + columnStart m) (columnBytes m) (o + columnStart (suc m)) (omega arith) h g
+      (f m last) (f′ m last) (e m last) rest)
+
   -- and in the row before it
-  same-row : (i : ℕ) → rowStart (suc i) ≤ length l → rowStart (suc i) ≤ length k → rowColumnsFit l i ≡ true →
-      rowColumnsFit k i ≡ true → rowNumbers l i ≡ rowNumbers k i →
-      drop (rowStart (suc i)) l ≡ drop (rowStart (suc i)) k → drop (rowStart i) l ≡ drop (rowStart i) k
-  unfolding rowNumbers
-  same-row i h g f f′ e rest =
-      let o = rowStart i in
-      let p = row-parts l i f in
-      let q = row-parts k i f′ in
-      let number : (j : ℕ) → getD (rowNumbers l i) j (pos 0) ≡ getD (rowNumbers k i) j (pos 0) =
-      λ j. ap (λ (t : List ℤ). getD t j (pos 0)) e in
-      let end = same-end (o + 26) (rowStart (suc i)) (omega arith) h g (p .end) (q .end) rest in
-      let b =
-      same-column true (o + 19) 7 (o + 26) (omega arith) (omega arith) (omega arith) (p .b) (q .b) (number 3) end in
-      let a =
-      same-column true (o + 12) 7 (o + 19) (omega arith) (omega arith) (omega arith) (p .a) (q .a) (number 2) b in
-      let score =
-      same-column false (o + 6) 6 (o + 12) (omega arith) (omega arith) (omega arith)
-      (p .score) (q .score) (number 1) a in
-      same-column false o 6 (o + 6) refl (omega arith) (omega arith) (p .pattern) (q .pattern) (number 0) score
+  same-row : (n i : ℕ) → rowStart n (suc i) ≤ length l → rowStart n (suc i) ≤ length k →
+      rowColumnsFit n l i ≡ true → rowColumnsFit n k i ≡ true →
+      ((j : ℕ) → j < width n → numberAt l (rowStart n i) j ≡ numberAt k (rowStart n i) j) →
+      drop (rowStart n (suc i)) l ≡ drop (rowStart n (suc i)) k → drop (rowStart n i) l ≡ drop (rowStart n i) k
+  unfolding rowBytes
+  same-row n i h g f f′ e rest =
+      let o = rowStart n i in
+      let p = row-parts n l i f in
+      let q = row-parts n k i f′ in
+      let end = o + columnStart (width n) in
+      let next : end + 1 ≡ rowStart n (suc i) = omega arith in
+      same-columns o (width n) (omega arith) (omega arith) (p .column) (q .column) e
+      (same-end end (rowStart n (suc i)) next h g (p .end) (q .end) rest)
 
   -- and in all rows from row i + 1 on
-  same-rows : (n : ℕ) → length l ≡ rowStart n → length k ≡ rowStart n →
-      ((i : ℕ) → i < n → (rowColumnsFit l i ≡ true) ×
-      ((rowColumnsFit k i ≡ true) × (rowNumbers l i ≡ rowNumbers k i))) →
-      (left i : ℕ) → left + i ≡ n → drop (rowStart i) l ≡ drop (rowStart i) k
-  same-rows n h g same zero i e =
-      drop-of-length-le l {i = rowStart i} (omega arith) ∙ sym (drop-of-length-le k {i = rowStart i} (omega arith))
-  same-rows n h g same (suc left) i e =
-      let row = same i (omega arith) in
-      same-row i (omega arith) (omega arith) (row .0) (row .1 .0) (row .1 .1)
-      (same-rows n h g same left (suc i) (omega arith))
+  same-rows : (n m : ℕ) → length l ≡ rowStart n m → length k ≡ rowStart n m →
+      ((i : ℕ) → i < m → (rowColumnsFit n l i ≡ true) × (rowColumnsFit n k i ≡ true)) →
+      ((i j : ℕ) → i < m → j < width n → numberAt l (rowStart n i) j ≡ numberAt k (rowStart n i) j) →
+      (left i : ℕ) → left + i ≡ m → drop (rowStart n i) l ≡ drop (rowStart n i) k
+  same-rows n m h g fit same zero i e =
+      let end : i ≡ m = omega arith in
+      let all : rowStart n i ≡ rowStart n m = ap (rowStart n) end in
+      drop-of-length-le l {i = rowStart n i} (omega arith) ∙ sym (drop-of-length-le k {i = rowStart n i} (omega arith))
+  same-rows n m h g fit same (suc left) i e =
+      let s : i < m = omega arith in
+      let row = fit i s in
+      let long = next-row (rowBytes n) i m s in
+      same-row n i (omega arith) (omega arith) (row .0) (row .1) (λ j u. same i j s u)
+      (same-rows n m h g fit same left (suc i) (omega arith))
 
   -- and in the header
   same-header : headerBytes ≤ length l → headerBytes ≤ length k → headerFits l ≡ true → headerFits k ≡ true →
@@ -104,36 +120,31 @@ unsigned l = go (afterBlanks l) (digitsFrom 0 (digitsOf false l))
     go (b ∷ m) n = refl
 
 -- two accepted files of the same kind that give the same rows are the same bytes
-pub one-file : (l k : List ℕ) (kind : ℤ) (n m : ℕ) → checkFile l kind ≡ Rows n → checkFile k kind ≡ Rows m →
-    fileTable l n ≡ fileTable k m → l ≡ k
-unfolding fileCount fileKind kindFits rowNumbers
-one-file l k kind n m h g t =
-    let f = accepted l kind n h in
-    let f′ = accepted k kind m g in
-    let rows : m ≡ n = omega (arith, table-length l n, table-length k m, ap length t) in
+pub one-file : (l k : List ℕ) (kind : ℤ) (m p : ℕ) → checkFile l kind ≡ Rows m → checkFile k kind ≡ Rows p →
+    fileTable (wanted kind) l m ≡ fileTable (wanted kind) k p → l ≡ k
+unfolding fileCount fileKind kindFits fileTable
+one-file l k kind m p h g t =
+    let n = wanted kind in
+    let f = accepted l kind m h in
+    let f′ = accepted k kind p g in
+    let counted : (x : List ℕ) (c : ℕ) → rowCount (fileTable n x c) ≡ c =
+    λ x c. rows-count (fileTable n x c) c (table-length n x c) in
+    let rows : p ≡ m = sym (counted k p) ∙ ap rowCount (sym t) ∙ counted l m in
     let count =
     unsigned (columns l 0 6) ∙ ap pos (f .count ∙ sym rows ∙ sym (f′ .count)) ∙ sym (unsigned (columns k 0 6)) in
     let found : (x : List ℕ) → kindFits x kind ≡ true → fileKind x ≡ natOf kind =
     λ x s. eqb-true (fileKind x) (natOf kind)
-    (and-right (between 1 2 (natOf kind)) (eqb (fileKind x) (natOf kind)) s) in
+    (and-right (between 1 4 (natOf kind)) (eqb (fileKind x) (natOf kind)) s) in
     let kinds =
     unsigned (columns l 6 6)
     ∙ ap pos (found l (f .head .kind-fits) ∙ sym (found k (f′ .head .kind-fits)))
     ∙ sym (unsigned (columns k 6 6)) in
+    let number : (i j : ℕ) → i < m → j < width n → numberAt l (rowStart n i) j ≡ numberAt k (rowStart n i) j =
+    λ i j s u.
+    sym (table-num n l m i j s u) ∙ ap (λ (x : Table). num x i j) t ∙ table-num n k p i j (omega arith) u in
+    let from : rowStart n 0 ≡ headerBytes = omega arith in
+    let rest =
+    same-rows l k n m (f .size) (f′ .size ∙ ap (rowStart n) rows)
+    (λ i s. (f .rows i s .columns, f′ .rows i (omega arith) .columns)) number m 0 (add-zero m) in
     same-header l k (f .head .whole) (f′ .head .whole) (f .head .fits) (f′ .head .fits) count kinds
-    (same-rows l k n (f .size) (f′ .size ∙ ap rowStart rows)
-    (λ i s. (
-      f .rows i s .columns,
-      (f′ .rows i (omega arith) .columns, numbers n m i s (omega arith) t),
-    ))
-    n 0 (add-zero n))
-  where
-    numbers : (a b i : ℕ) → i < a → i < b → fileTable l a ≡ fileTable k b → rowNumbers l i ≡ rowNumbers k i
-    numbers a b i s r e =
-        let number : (j : ℕ) → j < width → getD (rowNumbers l i) j (pos 0) ≡ getD (rowNumbers k i) j (pos 0) =
-        λ j u. sym (table-num l a i j s u) ∙ ap (λ (x : List ℤ). num x i j) e ∙ table-num k b i j r u in
-        let p = number 0 (omega arith) in
-        let q = number 1 (omega arith) in
-        let x = number 2 (omega arith) in
-        let y = number 3 (omega arith) in
-        λ o. p o ∷ q o ∷ x o ∷ y o ∷ []
+    (ap (λ (x : ℕ). drop x l) (sym from) ∙ rest ∙ ap (λ (x : ℕ). drop x k) from)

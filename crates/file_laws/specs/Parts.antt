@@ -2,9 +2,14 @@
 use mathlib.Core.Path.{_≡_}
 use mathlib.Core.Bool.{true, false, _&&_}
 use mathlib.Core.List.{List}
-use Prim.Native.Nat.{ℕ, _+_}
-use Rattle.rules.specs.File.{columns, columnFits, endsLine, headerFits, rowStart, rowColumnsFit}
+use Prim.Native.Nat.{ℕ, _+_, _<_}
+use native.Mathlib.Omega.{arith}
+use Rattle.rules.specs.Tables.{width}
+use Rattle.rules.specs.File.{columns, columnFits, columnStart, columnFitsAt, endsLine, headerFits, rowStart}
+use Rattle.rules.specs.File.{rowColumnsFit}
+use Rattle.lists.specs.Lists.{every, range}
 use Rattle.lists.specs.Bools.{and-left, and-right}
+use Rattle.lists.specs.Parts.{every-at, mem-range}
 
 pub record HeaderFits (bytes : List ℕ) : Type 0 where
   pub count : columnFits false (columns bytes 0 6) ≡ true
@@ -20,29 +25,20 @@ header-parts bytes f =
     let rest = and-right c (k && e) f in
     record { count = and-left c (k && e) f; kind = and-left k e rest; end = and-right k e rest }
 
-pub record RowFits (bytes : List ℕ) (o : ℕ) : Type 0 where
-  pub pattern : columnFits false (columns bytes o 6) ≡ true
-  pub score : columnFits false (columns bytes (o + 6) 6) ≡ true
-  pub a : columnFits true (columns bytes (o + 12) 7) ≡ true
-  pub b : columnFits true (columns bytes (o + 19) 7) ≡ true
-  pub end : endsLine bytes (o + 26) ≡ true
+-- of a row that begins at o
+pub record RowFits (n : ℕ) (bytes : List ℕ) (o : ℕ) : Type 0 where
+  pub column : (j : ℕ) → j < width n → columnFitsAt bytes o j ≡ true
+  pub end : endsLine bytes (o + columnStart (width n)) ≡ true
 
-pub row-parts : (bytes : List ℕ) (i : ℕ) → rowColumnsFit bytes i ≡ true → RowFits bytes (rowStart i)
+pub row-parts : (n : ℕ) (bytes : List ℕ) (i : ℕ) → rowColumnsFit n bytes i ≡ true → RowFits n bytes (rowStart n i)
 unfolding rowColumnsFit
-row-parts bytes i f =
-    let o = rowStart i in
-    let p = columnFits false (columns bytes o 6) in
-    let s = columnFits false (columns bytes (o + 6) 6) in
-    let x = columnFits true (columns bytes (o + 12) 7) in
-    let y = columnFits true (columns bytes (o + 19) 7) in
-    let e = endsLine bytes (o + 26) in
-    let from-score = and-right p (s && (x && (y && e))) f in
-    let from-a = and-right s (x && (y && e)) from-score in
-    let from-b = and-right x (y && e) from-a in
+row-parts n bytes i f =
+    let o = rowStart n i in
+    let all = every (columnFitsAt bytes o) (range 0 (width n)) in
+    let end = endsLine bytes (o + columnStart (width n)) in
     record {
-      pattern = and-left p (s && (x && (y && e))) f;
-      score = and-left s (x && (y && e)) from-score;
-      a = and-left x (y && e) from-a;
-      b = and-left y e from-b;
-      end = and-right y e from-b;
+      column = λ j h.
+          every-at (columnFitsAt bytes o) j (and-left all end f)
+          (mem-range j 0 (width n) .1 (omega arith, omega arith));
+      end = and-right all end f;
     }

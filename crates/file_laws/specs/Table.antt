@@ -1,4 +1,4 @@
--- The table of a file's first n rows: row after row, four numbers each. Assumes nothing.
+-- The table of a file's first m rows: row after row, as many numbers each as it has columns. Assumes nothing.
 use mathlib.Core.Path.{_≡_, refl, sym, ap, _∙_}
 use mathlib.Core.Bool.{Bool, true, false}
 use mathlib.Core.List.{List, _++_, append-assoc, append-nil}
@@ -11,8 +11,10 @@ use lib.ListN.{length, getD, length-append, List·getD-append}
 use lib.Seq.{getD-append-add}
 use borrow.Author.Tests.{ltb-true, ltb-false}
 use Rattle.lists.specs.Lists.{range, each}
-use Rattle.rules.specs.Tables.{width, num}
-use Rattle.rules.specs.File.{rowNumbers, fileTable}
+use Rattle.lists.specs.Parts.{length-map-range, map-range-at}
+use Rattle.rules.specs.Tables.{table, width, num}
+use Rattle.rules.specs.Widths.{next-row}
+use Rattle.rules.specs.File.{rowStart, numberAt, rowNumbers, fileTable}
 
 module _ {B : Type 0} (f : ℕ → List B) where
   -- the last of some numbers in a row
@@ -25,37 +27,55 @@ module _ {B : Type 0} (f : ℕ → List B) where
       ∙ sym (append-assoc (f a) (each f (range (suc a) n)) (f (suc a + n)))
       ∙ ap (λ (k : ℕ). (f a ++ each f (range (suc a) n)) ++ f k) e
 
-pub table-last : (bytes : List ℕ) (n : ℕ) → fileTable bytes (suc n) ≡ fileTable bytes n ++ rowNumbers bytes n
-unfolding fileTable
-table-last bytes n =
-    each-range-last (rowNumbers bytes) 0 n
-    ∙ ap (λ (k : ℕ). each (rowNumbers bytes) (range 0 n) ++ rowNumbers bytes k) (zero-add n)
+module _ (n : ℕ) (bytes : List ℕ) where
+  -- its numbers
+  abbrev numbers : ℕ → List ℤ
+  numbers m = fileTable n bytes m .numbers
 
-pub table-length : (bytes : List ℕ) (n : ℕ) → length (fileTable bytes n) ≡ width * n
-unfolding fileTable each range rowNumbers
-table-length bytes zero = refl
-table-length bytes (suc n) =
-    ap length (table-last bytes n)
-    ∙ length-append (fileTable bytes n) (rowNumbers bytes n)
-    ∙ omega (arith, table-length bytes n)
+  pub table-last : (m : ℕ) → numbers (suc m) ≡ numbers m ++ rowNumbers n bytes m
+  unfolding fileTable
+  table-last m =
+      each-range-last (rowNumbers n bytes) 0 m
+      ∙ ap (λ (k : ℕ). each (rowNumbers n bytes) (range 0 m) ++ rowNumbers n bytes k) (zero-add m)
 
--- number j of row i + 1
-pub table-num : (bytes : List ℕ) (n i j : ℕ) → i < n → j < width →
-    num (fileTable bytes n) i j ≡ getD (rowNumbers bytes i) j (pos 0)
-table-num bytes zero i j h k = absurd (omega arith)
-table-num bytes (suc n) i j h k =
-    ap (λ (t : List ℤ). num t i j) (table-last bytes n) ∙ go (λ m. table-num bytes n i j m k) (ltb i n) refl
-  where
-    go : (i < n → num (fileTable bytes n) i j ≡ getD (rowNumbers bytes i) j (pos 0)) → (t : Bool) → ltb i n ≡ t →
-        num (fileTable bytes n ++ rowNumbers bytes n) i j ≡ getD (rowNumbers bytes i) j (pos 0)
-    go above true t =
-        let m : i < n = ltb-true i n t in
-        List·getD-append (fileTable bytes n) (rowNumbers bytes n) (pos 0) (width * i + j)
-        (omega (arith, table-length bytes n))
-        ∙ above m
-    go above false t =
-        let e : i ≡ n = omega (arith, ltb-false i n t) in
-        let o : width * i + j ≡ length (fileTable bytes n) + j = omega (arith, table-length bytes n) in
-        ap (λ (p : ℕ). getD (fileTable bytes n ++ rowNumbers bytes n) p (pos 0)) o
-        ∙ getD-append-add (fileTable bytes n) (rowNumbers bytes n) j (pos 0)
-        ∙ ap (λ (p : ℕ). getD (rowNumbers bytes p) j (pos 0)) (sym e)
+  pub row-length : (i : ℕ) → length (rowNumbers n bytes i) ≡ width n
+  unfolding rowNumbers
+  row-length i = length-map-range (numberAt bytes (rowStart n i)) 0 (width n)
+
+  -- number j of a row
+  pub row-number : (i j : ℕ) → j < width n → getD (rowNumbers n bytes i) j (pos 0) ≡ numberAt bytes (rowStart n i) j
+  unfolding rowNumbers
+  row-number i j h =
+      map-range-at (numberAt bytes (rowStart n i)) 0 (width n) j (pos 0) h
+      ∙ ap (numberAt bytes (rowStart n i)) (zero-add j)
+
+  pub table-length : (m : ℕ) → length (numbers m) ≡ width n * m
+  unfolding fileTable each range
+  table-length zero = omega arith
+  table-length (suc m) =
+      ap length (table-last m)
+      ∙ length-append (numbers m) (rowNumbers n bytes m)
+      ∙ omega (arith, table-length m, row-length m)
+
+  -- number j of row i + 1
+  pub table-num : (m i j : ℕ) → i < m → j < width n → num (fileTable n bytes m) i j ≡ numberAt bytes (rowStart n i) j
+  unfolding fileTable
+  table-num zero i j h k = absurd (omega arith)
+  table-num (suc m) i j h k =
+      ap (λ (l : List ℤ). num (table n l) i j) (table-last m) ∙ go (λ s. table-num m i j s k) (ltb i m) refl
+    where
+      go : (i < m → num (fileTable n bytes m) i j ≡ numberAt bytes (rowStart n i) j) → (t : Bool) → ltb i m ≡ t →
+          num (table n (numbers m ++ rowNumbers n bytes m)) i j ≡ numberAt bytes (rowStart n i) j
+      go above true t =
+          let s : i < m = ltb-true i m t in
+          List·getD-append (numbers m) (rowNumbers n bytes m) (pos 0) (width n * i + j)
+          (omega (arith, table-length m, next-row (width n) i m s))
+          ∙ above s
+      go above false t =
+          let e : i ≡ m = omega (arith, ltb-false i m t) in
+          let p : width n * i ≡ width n * m = ap (λ (x : ℕ). width n * x) e in
+          let o : width n * i + j ≡ length (numbers m) + j = omega (arith, table-length m, p) in
+          ap (λ (x : ℕ). getD (numbers m ++ rowNumbers n bytes m) x (pos 0)) o
+          ∙ getD-append-add (numbers m) (rowNumbers n bytes m) j (pos 0)
+          ∙ row-number m j k
+          ∙ ap (λ (x : ℕ). numberAt bytes (rowStart n x) j) (sym e)

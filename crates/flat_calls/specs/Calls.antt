@@ -10,9 +10,11 @@ use Rattle.rules.specs.declared.Answer.the-variants.{Refused}
 use Rattle.rules.specs.declared.Session.{Session}
 use Rattle.rules.specs.declared.Step.{Step}
 use Rattle.rules.specs.Numbers.{shortSlice, Said, said, signed}
+use Rattle.rules.specs.Tables.{Table, fieldTable, trimTable}
+use Rattle.rules.specs.Session.{lentTable}
 use Rattle.rules.specs.Take.{lastBlock}
 use Rattle.rules.specs.Calls.{step, lentCode, openCall, readCall, takeCall}
-use Rattle.record_layout.specs.Flat.{querySize, pairSize, flatSize, laidAt, laidIn, queryIn, unflatten}
+use Rattle.record_layout.specs.Flat.{querySize, pairSize, flatSize, laidAt, laidIn, queryIn, kindsIn, unflatten}
 
 -- a slice that is too short for what it is lent for
 abbrev pub tooShort : ℕ → List ℕ → Bool
@@ -30,9 +32,11 @@ leftIn l s = cond (said (s .answer) .accepted) (laidIn l (s .session)) l
 abbrev pub writtenIn : List ℕ → Said → List ℕ
 writtenIn l s = laidAt 0 (s .values) l
 
--- Opening: q is the slice of the query
+-- Opening: q is the slice of the query and of the tables' kinds
 unfoldable pub openStep : List ℕ → List ℤ → List ℤ → List ℕ → Step
-openStep q f t l = orShort (tooShort querySize q || tooShort flatSize l) (openCall (queryIn q) f t)
+openStep q f t l =
+    orShort (tooShort querySize q || tooShort flatSize l)
+    (openCall (queryIn q) (fieldTable (kindsIn q) f) (trimTable (kindsIn q) t))
 
 unfoldable pub openNumber : List ℕ → List ℤ → List ℤ → List ℕ → ℤ
 openNumber q f t l = signed (said (openStep q f t l .answer))
@@ -40,9 +44,11 @@ openNumber q f t l = signed (said (openStep q f t l .answer))
 unfoldable pub openLeaves : List ℕ → List ℤ → List ℤ → List ℕ → List ℕ
 openLeaves q f t l = leftIn l (openStep q f t l)
 
--- Read
+-- Read; the slices f and t, here and below, are tables on the record's card
 unfoldable pub readStep : List ℤ → List ℤ → List ℕ → Step
-readStep f t l = orShort (tooShort flatSize l) (readCall f t (unflatten l))
+readStep f t l =
+    let s = unflatten l in
+    orShort (tooShort flatSize l) (readCall (lentTable s f) (lentTable s t) s)
 
 unfoldable pub readNumber : List ℤ → List ℤ → List ℕ → ℤ
 readNumber f t l = signed (said (readStep f t l .answer))
@@ -52,7 +58,9 @@ readLeaves f t l = leftIn l (readStep f t l)
 
 -- Take: p is the slice lent for the pair
 unfoldable pub takeStep : List ℤ → List ℤ → List ℕ → List ℕ → Step
-takeStep f t l p = orShort (tooShort flatSize l || tooShort pairSize p) (takeCall f t (unflatten l))
+takeStep f t l p =
+    let s = unflatten l in
+    orShort (tooShort flatSize l || tooShort pairSize p) (takeCall (lentTable s f) (lentTable s t) s)
 
 unfoldable pub takeNumber : List ℤ → List ℤ → List ℕ → List ℕ → ℤ
 takeNumber f t l p = signed (said (takeStep f t l p .answer))
@@ -68,7 +76,7 @@ abbrev pub blockNumbers : ℕ → ℕ → ℕ → List ℕ
 blockNumbers table block depth = table ∷ (lastBlock block depth + 1) ∷ (depth - lastBlock block depth) ∷ []
 
 -- "Nothing read, or a refusal by 5 or 4: .. no number goes with it"
-unfoldable pub shownNumbers : List ℤ → List ℤ → Session → List ℕ
+unfoldable pub shownNumbers : Table → Table → Session → List ℕ
 shownNumbers f t s =
     let none : List ℕ = 0 ∷ 0 ∷ 0 ∷ [] in
     cond (eqb (lentCode f t s) 0)
@@ -79,8 +87,9 @@ shownNumbers f t s =
 -- p is the slice lent for these
 unfoldable pub showSaid : List ℤ → List ℤ → List ℕ → List ℕ → Said
 showSaid f t l p =
+    let s = unflatten l in
     cond (tooShort flatSize l || tooShort pairSize p) (said (Refused shortSlice))
-    (record { accepted = true; number = 0; values = shownNumbers f t (unflatten l) })
+    (record { accepted = true; number = 0; values = shownNumbers (lentTable s f) (lentTable s t) s })
 
 unfoldable pub showNumber : List ℤ → List ℤ → List ℕ → List ℕ → ℤ
 showNumber f t l p = signed (showSaid f t l p)

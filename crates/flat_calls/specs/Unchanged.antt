@@ -14,7 +14,7 @@ use Rattle.rules.specs.declared.Answer.the-variants.{Refused, Opened, Read, Set
 use Rattle.rules.specs.declared.Session.{Session}
 use Rattle.rules.specs.declared.Step.{Step}
 use Rattle.rules.specs.Numbers.{said}
-use Rattle.rules.specs.Tables.{part}
+use Rattle.rules.specs.Tables.{Table, part}
 use Rattle.rules.specs.Take.{lastBlock, shownRows}
 use Rattle.rules.specs.Query.{wasGiven}
 use Rattle.rules.specs.Calls.{lentCode, showCall}
@@ -53,17 +53,17 @@ module _ (l : List ℕ) (low : getD l joinedAt 0 < word) (long : flatSize ≤ le
       go false = refl
 
 -- what show's three numbers name: rows first to first + count - 1 of the table
-unfoldable pub named : List ℤ → List ℤ → List ℕ → List ℤ
+unfoldable pub named : Table → Table → List ℕ → List ℤ
 named f t three =
     let table = getD three 0 0 in
     let first = getD three 1 0 - 1 in
     let count = getD three 2 0 in
-    cond (eqb table 1) (part f first count) (cond (eqb table 2) (part t first count) [])
+    cond (eqb table 1) (part f first count .numbers) (cond (eqb table 2) (part t first count .numbers) [])
 
 less-one : (n : ℕ) → n + 1 - 1 ≡ n
 less-one n = omega arith
 
-pub shown-named : (f t : List ℤ) (s : Session) → named f t (shownNumbers f t s) ≡ showCall f t s
+pub shown-named : (f t : Table) (s : Session) → named f t (shownNumbers f t s) ≡ showCall f t s
 unfolding named shownNumbers showCall shownRows
 shown-named f t s = go (eqb (lentCode f t s) 0) (eqb (s .last) 1) (eqb (s .last) 2)
   where
@@ -82,9 +82,10 @@ shown-named f t s = go (eqb (lentCode f t s) 0) (eqb (s .last) 1) (eqb (s .last)
     go : (x y z : Bool)
         → named f t (cond x (cond y (blockNumbers 1 b d) (cond z (blockNumbers 2 b e) none)) none)
         ≡ cond x
-        (cond y (part f (lastBlock b d) (d - lastBlock b d)) (cond z (part t (lastBlock b e) (e - lastBlock b e)) []))
+        (cond y (part f (lastBlock b d) (d - lastBlock b d) .numbers)
+        (cond z (part t (lastBlock b e) (e - lastBlock b e) .numbers) []))
         []
     go false y z = refl
-    go true true z = ap (λ (a : ℕ). part f a (d - lastBlock b d)) (less-one (lastBlock b d))
-    go true false true = ap (λ (a : ℕ). part t a (e - lastBlock b e)) (less-one (lastBlock b e))
+    go true true z = ap (λ (a : ℕ). part f a (d - lastBlock b d) .numbers) (less-one (lastBlock b d))
+    go true false true = ap (λ (a : ℕ). part t a (e - lastBlock b e) .numbers) (less-one (lastBlock b e))
     go true false false = refl

@@ -5,7 +5,7 @@ use rules::Answer;
 ghost use mathlib.Core.Path.{_≡_};
 ghost use Rattle.flat_calls.specs.Calls.{openNumber, openLeaves};
 
-// Opening: the query's numbers in, three or more; a record out, where the opening is accepted.
+// Opening: the query's numbers in, three or more, and the tables' kinds; a record out, where the opening is accepted.
 pub fn start(query: &[u32], f: &[i32], t: &[i32], lent: &mut [u32]) -> i32
     ensures { λ r. ⌜ r ≡ openNumber (now (query .entry)) (now (f .entry)) (now (t .entry)) (now (lent .entry)) ⌝ }
     ensures { λ _. ⌜ now (lent .exit)
@@ -15,7 +15,8 @@ pub fn start(query: &[u32], f: &[i32], t: &[i32], lent: &mut [u32]) -> i32
         return answers::short();
     }
     let q = record_taken::query_in(query);
-    let step = opening::start(q, f, t);
+    let kinds = record_taken::kinds_in(query);
+    let step = opening::start(q, kinds, f, t);
     let answer = step.answer;
     if let Answer::Opened = answer {
         let s = step.session;

@@ -3,8 +3,8 @@ use mathlib.Core.Path.{_≡_}
 use mathlib.Core.Bool.{false}
 use mathlib.Core.List.{List}
 use Prim.Native.Nat.{ℕ, _<_, _≤_}
-use lib.IntN.{ℤ}
 use lib.ListN.{length, getD}
+use Rattle.rules.specs.Tables.{Table}
 use Rattle.rules.specs.Query.{wasRead}
 use Rattle.rules.specs.Calls.{readCall}
 use Rattle.reading.specs.Answers.{read-keeps}
@@ -13,6 +13,6 @@ use Rattle.flat_calls.specs.Calls.{leftIn}
 use Rattle.flat_calls.specs.Unchanged.{same-left}
 
 module _ (l : List ℕ) (low : getD l joinedAt 0 < word) (long : flatSize ≤ length l) where
-  pub read-left : (f t : List ℤ) → wasRead (readCall f t (unflatten l) .answer) ≡ false
+  pub read-left : (f t : Table) → wasRead (readCall f t (unflatten l) .answer) ≡ false
       → leftIn l (readCall f t (unflatten l)) ≡ l
   read-left f t e = same-left l low long (readCall f t (unflatten l)) (read-keeps f t (unflatten l) e)

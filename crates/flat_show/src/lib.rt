@@ -6,6 +6,7 @@ ghost use mathlib.Core.Path.{_≡_};
 ghost use Prim.Native.Nat.{_≤_, _<_};
 ghost use lib.ListN.{length};
 ghost use Rattle.rules.specs.Tables.{mostRows};
+ghost use Rattle.rules.specs.Session.{lentTable};
 ghost use Rattle.record_layout.specs.Flat.{pairSize, laidAt};
 ghost use Rattle.flat_calls.specs.Calls.{blockNumbers, shownNumbers, showNumber, showWrites};
 
@@ -22,7 +23,8 @@ fn put_block(table: u32, block: u32, depth: u32, place: &mut [u32])
 fn put_shown(f: &[i32], t: &[i32], s: Session, place: &mut [u32])
     requires { ⌜ pairSize ≤ length (now place) ⌝ }
     ensures { λ _. ⌜ now (place .exit)
-        ≡ laidAt 0 (shownNumbers (now (f .entry)) (now (t .entry)) s) (now (place .entry)) ⌝ }
+        ≡ laidAt 0 (shownNumbers (lentTable s (now (f .entry))) (lentTable s (now (t .entry))) s)
+        (now (place .entry)) ⌝ }
 {
     let fits = checks::fits(s);
     if checks::lent_code(fits, s.rows, f, t) != 0 {

@@ -3,7 +3,7 @@ ghost use mathlib.Core.Path.{_≡_};
 ghost use Rattle.flat_calls.specs.Calls.{openNumber, openLeaves, readNumber, readLeaves};
 ghost use Rattle.flat_calls.specs.Calls.{takeNumber, takeLeaves, takeWrites, showNumber, showWrites};
 
-// Opening: the query's three numbers in; a record out, where the opening is accepted.
+// Opening: the query's numbers in; a record out, where the opening is accepted.
 #[no_mangle]
 pub extern "C" fn furzeladle_open(query: &[u32], f: &[i32], t: &[i32], lent: &mut [u32]) -> i32
     ensures { λ r. ⌜ r ≡ openNumber (now (query .entry)) (now (f .entry)) (now (t .entry)) (now (lent .entry)) ⌝ }

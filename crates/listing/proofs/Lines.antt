@@ -3,7 +3,6 @@ use mathlib.Core.Path.{_≡_, refl, sym, ap, _∙_}
 use mathlib.Core.List.{List, [], _∷_, _++_}
 use Prim.Native.Nat.{ℕ, _+_, _*_}
 use native.Mathlib.Omega.{arith}
-use lib.IntN.{ℤ}
 use lib.ListN.{length, length-append}
 use Rattle.rules.specs.declared.Pair.{Pair}
 use Rattle.rules.specs.Query.{inputLength, settledSession, list, pairLine, pairLines, queryLine, lastLine, listing}
@@ -14,12 +13,13 @@ use Rattle.run_query.specs.declared.Outcome.{Outcome}
 use Rattle.run_query.specs.Outcomes.{queryOutcome, OutcomeOf}
 use Rattle.listing.specs.Shown.{lineOf, line-bytes, listLines}
 use Rattle.listing.specs.ListShown.{counted}
+use Rattle.rules.specs.Tables.{Table}
 
 -- the line of pair n + 1
-abbrev pub lineAt : List ℤ → List ℤ → ℕ → Pair → List ℕ
+abbrev pub lineAt : Table → Table → ℕ → Pair → List ℕ
 lineAt f t n p = pairLine f t (n + 1) p
 
-module _ (f t : List ℤ) where
+module _ (f t : Table) where
   pub lineAt-length : (n : ℕ) (p : Pair) → length (lineAt f t n p) ≡ lineLength
   lineAt-length n p = ap length (sym (line-bytes f t (n + 1) p)) ∙ line-length (lineOf f t (n + 1) p)
 
@@ -32,7 +32,7 @@ module _ (f t : List ℤ) where
   lines-length l = ap length (lines-laid 0 l) ∙ laid-length (lineAt f t) lineLength lineAt-length 0 l
 
 -- a, b, c: the bytes after the first line was written, then the pairs', then the last
-pub listing-put : (f t : List ℤ) (r : Outcome) (out a b c : List ℕ) → OutcomeOf f t r →
+pub listing-put : (f t : Table) (r : Outcome) (out a b c : List ℕ) → OutcomeOf f t r →
     a ≡ putAt 0 (queryLine (r .query)) out → b ≡ putAt inputLength (listLines (r .query) f t) a →
     c ≡ putAt (inputLength + lineLength * r .count) (lastLine (r .session)) b →
     (inputLength + lineLength * r .count + lastLength ≡ length (listing (r .query) f t))

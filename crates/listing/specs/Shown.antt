@@ -3,10 +3,9 @@
 use mathlib.Core.Path.{_≡_, refl}
 use mathlib.Core.List.{List}
 use Prim.Native.Nat.{ℕ, _+_, _*_, _-_, _≤_, _<_, _^_}
-use lib.IntN.{ℤ}
 use Rattle.rules.specs.declared.Pair.{Pair}
 use Rattle.rules.specs.declared.Query.{Query}
-use Rattle.rules.specs.Tables.{row, squaredDistance, HasRows}
+use Rattle.rules.specs.Tables.{Table, row, squaredDistance, HasRows}
 use Rattle.rules.specs.Session.{placeCount}
 use Rattle.rules.specs.Root.{root, remainder}
 use Rattle.rules.specs.Query.{inputLength, list, pairLine, pairLines}
@@ -14,23 +13,23 @@ use Rattle.printing.specs.declared.Line.{Line}
 use Rattle.printing.specs.Lines.{lineBytes, lineLength, lastLength}
 
 -- the lines of a query's list
-abbrev pub listLines : Query → List ℤ → List ℤ → List ℕ
+abbrev pub listLines : Query → Table → Table → List ℕ
 listLines q f t = pairLines f t 1 (list q f t)
 
 -- the bytes of the longest listing: the query's line, those of 64 pairs, the last
 abbrev pub listingRoom : ℕ
 listingRoom = inputLength + lineLength * placeCount + lastLength
 
-abbrev pub RowOf : List ℤ → ℕ → Type 0
+abbrev pub RowOf : Table → ℕ → Type 0
 RowOf t i = (1 ≤ i) × HasRows t i
 
-pub record Shown (f t : List ℤ) (p : Pair) : Type 0 where
+pub record Shown (f t : Table) (p : Pair) : Type 0 where
   pub field : RowOf f (p .field)
   pub trim : RowOf t (p .trim)
   pub small : squaredDistance (row f (p .field - 1) .shade) (row t (p .trim - 1) .shade) < 2 ^ 64
 
 -- what is told of a pair
-unfoldable pub lineOf : List ℤ → List ℤ → ℕ → Pair → Line
+unfoldable pub lineOf : Table → Table → ℕ → Pair → Line
 lineOf f t rank p =
     let x = row f (p .field - 1) in
     let y = row t (p .trim - 1) in
@@ -45,6 +44,6 @@ lineOf f t rank p =
       rest = remainder n;
     }
 
-pub line-bytes : (f t : List ℤ) (rank : ℕ) (p : Pair) → lineBytes (lineOf f t rank p) ≡ pairLine f t rank p
+pub line-bytes : (f t : Table) (rank : ℕ) (p : Pair) → lineBytes (lineOf f t rank p) ≡ pairLine f t rank p
 unfolding lineBytes lineOf pairLine
 line-bytes f t rank p = refl

@@ -5,7 +5,7 @@ use run_query::Outcome;
 ghost use mathlib.Core.Path.{_≡_};
 ghost use Prim.Native.Nat.{_+_, _*_, _-_, _≤_, _<_};
 ghost use lib.ListN.{length};
-ghost use Rattle.rules.specs.Tables.{row};
+ghost use Rattle.rules.specs.Tables.{table, row};
 ghost use Rattle.rules.specs.Session.{placeCount};
 ghost use Rattle.rules.specs.Query.{listing};
 ghost use Rattle.printing.specs.Lines.{lineLength};
@@ -19,35 +19,35 @@ pub const ROOM: usize = printing::QUERY_LENGTH
     + printing::LAST_LENGTH;
 
 // The pattern number of row i; one below 0, which no checked table has, is 0.
-fn pattern(t: &[i32], i: u32) -> u32
-    requires { ⌜ RowOf (now t) i ⌝ }
-    ensures { λ r. ⌜ r ≡ row (now (t .entry)) (i - 1) .pattern ⌝ }
+fn pattern(n: u32, t: &[i32], i: u32) -> u32
+    requires { ⌜ RowOf (table n (now t)) i ⌝ }
+    ensures { λ r. ⌜ r ≡ row (table n (now (t .entry))) (i - 1) .pattern ⌝ }
 {
-    tables::pattern(t, (i - 1) as usize)
+    tables::pattern(n, t, (i - 1) as usize)
 }
 
 // The squared distance of a pair's shades.
-fn distance(f: &[i32], t: &[i32], p: Pair) -> u64
-    requires { ⌜ Shown (now f) (now t) p ⌝ }
-    ensures { λ r. ⌜ r ≡ lineOf (now (f .entry)) (now (t .entry)) 0 p .distance ⌝ }
+fn distance(n: u32, f: &[i32], t: &[i32], p: Pair) -> u64
+    requires { ⌜ Shown (table n (now f)) (table n (now t)) p ⌝ }
+    ensures { λ r. ⌜ r ≡ lineOf (table n (now (f .entry))) (table n (now (t .entry))) 0 p .distance ⌝ }
 {
-    let x = tables::shade(f, (p.field - 1) as usize);
-    let y = tables::shade(t, (p.trim - 1) as usize);
+    let x = tables::shade(n, f, (p.field - 1) as usize);
+    let y = tables::shade(n, t, (p.trim - 1) as usize);
     distance::squared_distance(x, y)
 }
 
 // What is told of a pair.
-pub fn line_of(f: &[i32], t: &[i32], rank: u32, p: Pair) -> Line
-    requires { ⌜ Shown (now f) (now t) p ⌝ }
-    ensures { λ r. ⌜ r ≡ lineOf (now (f .entry)) (now (t .entry)) rank p ⌝ }
+pub fn line_of(n: u32, f: &[i32], t: &[i32], rank: u32, p: Pair) -> Line
+    requires { ⌜ Shown (table n (now f)) (table n (now t)) p ⌝ }
+    ensures { λ r. ⌜ r ≡ lineOf (table n (now (f .entry))) (table n (now (t .entry))) rank p ⌝ }
 {
-    let square = distance(f, t, p);
+    let square = distance(n, f, t, p);
     let steps = root::root_of(square);
     Line {
         rank,
         sum: p.sum,
-        field: pattern(f, p.field),
-        trim: pattern(t, p.trim),
+        field: pattern(n, f, p.field),
+        trim: pattern(n, t, p.trim),
         distance: square,
         root: steps.root,
         rest: steps.rest,
@@ -55,31 +55,33 @@ pub fn line_of(f: &[i32], t: &[i32], rank: u32, p: Pair) -> Line
 }
 
 // The list's lines, from a place on.
-fn put_pairs(out: &mut [u8], at: usize, f: &[i32], t: &[i32], run: Outcome)
-    requires { ⌜ (at + lineLength * placeCount ≤ length (now out)) × OutcomeOf (now f) (now t) run ⌝ }
+fn put_pairs(out: &mut [u8], at: usize, n: u32, f: &[i32], t: &[i32], run: Outcome)
+    requires { ⌜ (at + lineLength * placeCount ≤ length (now out))
+        × OutcomeOf (table n (now f)) (table n (now t)) run ⌝ }
     ensures { λ _. ⌜ now (out .exit)
-        ≡ putAt at (listLines (run .query) (now (f .entry)) (now (t .entry))) (now (out .entry)) ⌝ }
+        ≡ putAt at (listLines (run .query) (table n (now (f .entry))) (table n (now (t .entry)))) (now (out .entry)) ⌝ }
 {
     let mut i: usize = 0;
     while i < run.count {
         let p = run.pairs[i];
-        let line = line_of(f, t, (i + 1) as u32, p);
+        let line = line_of(n, f, t, (i + 1) as u32, p);
         printing::put_line(out, at + printing::LINE_LENGTH * i, line);
         i += 1;
     }
 }
 
 // The listing of a query that was run, from the front of `out`: how many bytes it takes.
-pub fn put_listing(out: &mut [u8], f: &[i32], t: &[i32], run: Outcome) -> usize
-    requires { ⌜ (listingRoom ≤ length (now out)) × OutcomeOf (now f) (now t) run ⌝ }
-    ensures { λ r. ⌜ (r ≤ listingRoom) × (r ≡ length (listing (run .query) (now (f .entry)) (now (t .entry)))) ⌝ }
+pub fn put_listing(out: &mut [u8], n: u32, f: &[i32], t: &[i32], run: Outcome) -> usize
+    requires { ⌜ (listingRoom ≤ length (now out)) × OutcomeOf (table n (now f)) (table n (now t)) run ⌝ }
+    ensures { λ r. ⌜ (r ≤ listingRoom)
+        × (r ≡ length (listing (run .query) (table n (now (f .entry))) (table n (now (t .entry))))) ⌝ }
     ensures { λ _. ⌜ now (out .exit)
-        ≡ putAt 0 (listing (run .query) (now (f .entry)) (now (t .entry))) (now (out .entry)) ⌝ }
+        ≡ putAt 0 (listing (run .query) (table n (now (f .entry))) (table n (now (t .entry)))) (now (out .entry)) ⌝ }
 {
     let settled = run.session;
     let end = printing::QUERY_LENGTH + printing::LINE_LENGTH * run.count;
     printing::put_query(out, 0, run.query);
-    put_pairs(out, printing::QUERY_LENGTH, f, t, run);
+    put_pairs(out, printing::QUERY_LENGTH, n, f, t, run);
     printing::put_last(out, end, settled);
     end + printing::LAST_LENGTH
 }

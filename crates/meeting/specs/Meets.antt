@@ -6,14 +6,13 @@ use Prim.Native.Nat.{ℕ, zero, suc, _+_, _*_, _-_, _≤_, _<_, min}
 use native.Mathlib.Nat.{mul-le-mul-right, suc-mul}
 use native.Mathlib.Numerals.{add-one}
 use native.Mathlib.Omega.{arith}
-use lib.IntN.{ℤ}
 use lib.ListN.{length, take, length-take}
 use Rattle.lists.specs.Lists.{sort}
 use Rattle.lists.specs.Words.{Ordered}
 use Rattle.lists.specs.Sorts.{sort-ordered, take-ordered}
 use Rattle.rules.specs.declared.Pair.{Pair}
 use Rattle.rules.specs.declared.Session.{Session}
-use Rattle.rules.specs.Tables.{withdrawn, terms, Block, qualifying, ahead, width, HasRows}
+use Rattle.rules.specs.Tables.{Table, withdrawn, terms, Block, qualifying, ahead, width, HasRows}
 use Rattle.rules.specs.Tables.{part}
 use Rattle.rules.specs.Widths.{part-length, part-count}
 use Rattle.rules.specs.Ranking.{ahead-strict}
@@ -46,6 +45,7 @@ holding-ready s l r o h =
     let e : take (length l) (places l) ≡ l = list-of-places l in
     record {
       query = r .query;
+      card = r .card;
       room = omega (arith, r .room);
       wanted = r .wanted;
       count = ap length e;
@@ -61,7 +61,7 @@ meet-ready s x y r = go (skipped s x y)
     go true = r
     go false = holding-ready s (bestHeld s (qualifying (terms (s .query)) x y)) r (best-ordered s _) (best-few s _)
 
-pub blocks-ready : (field : Bool) (s : Session) (new : Block) (t : List ℤ) (depth n : ℕ) → Ready s
+pub blocks-ready : (field : Bool) (s : Session) (new : Block) (t : Table) (depth n : ℕ) → Ready s
     → Ready (meetBlocks field s new t depth n)
 unfolding meetBlocksBy
 blocks-ready field s new t depth zero r = r
@@ -70,7 +70,7 @@ blocks-ready field s new t depth (suc n) r = meet-ready _ _ _ (blocks-ready fiel
 -- ---- Parts of a table as blocks
 
 -- whole rows that passed 6 and 7, within a table's 65,535
-pub part-rows : (t : List ℤ) (x : Span) → SpanFits x t → Rows (x .from) (part t (x .from) (x .to - x .from))
+pub part-rows : (t : Table) (x : Span) → SpanFits x t → Rows (x .from) (part t (x .from) (x .to - x .from))
 part-rows t x fits =
     let a = x .from in
     let n = x .to - a in
@@ -78,7 +78,7 @@ part-rows t x fits =
     let there : HasRows t (a + n) = subst (HasRows t) (sym end) (fits .within) in
     let count = part-count t a n there in
     record {
-      whole = ap (_*_ width) count ∙ sym (part-length t a n there);
+      whole = ap (_*_ (width (t .coordinates))) count ∙ sym (part-length t a n there);
       few = omega (arith, count, fits .few);
       range =
           λ i h.
@@ -94,13 +94,13 @@ part-rows t x fits =
 
 -- ---- The rows of a read whose checks have passed
 
-pub passed : (field : Bool) (f t : List ℤ) (s : Session) → Accepted f t s → NewRowsFit field f t s → Passed field f t s
+pub passed : (field : Bool) (f t : Table) (s : Session) → Accepted f t s → NewRowsFit field f t s → Passed field f t s
 passed true f t s a new = let rows = read-rows true f t s a new in record { new = rows .0; other = rows .1 }
 passed false f t s a new = let rows = read-rows false f t s a new in record { new = rows .1; other = rows .0 }
 
 -- ---- A new block and an old one, as field and trim
 
-module _ (f t : List ℤ) (new old : Span) where
+module _ (f t : Table) (new old : Span) where
   pub inside-field : (b : Bool) → SpanFits new (cond b f t) → SpanFits old (cond b t f) → SpanFits (cond b new old) f
   inside-field true x y = x
   inside-field false x y = y
@@ -127,7 +127,7 @@ block-next block i c e =
     omega arith
 
 -- one turn: the next block is met
-pub blocks-next : (field : Bool) (s : Session) (new : Block) (t : List ℤ) (depth i c g block : ℕ) (r r′ : Session) →
+pub blocks-next : (field : Bool) (s : Session) (new : Block) (t : Table) (depth i c g block : ℕ) (r r′ : Session) →
     block ≡ s .query .block →
     c ≡ i * block →
     r ≡ meetBlocks field s new t depth i →

@@ -8,8 +8,8 @@ ghost use mathlib.Core.Path.{_≡_};
 ghost use mathlib.Core.Bool.{false, cond};
 ghost use Prim.Native.Nat.{_+_, _*_, _-_, _≤_, _<_, _^_, min};
 ghost use lib.ListN.{length};
-ghost use Rattle.rules.specs.Tables.{mostRows, terms, HasRows};
-ghost use Rattle.rules.specs.Session.{settled};
+ghost use Rattle.rules.specs.Tables.{table, mostRows, terms, HasRows};
+ghost use Rattle.rules.specs.Session.{lentTable, settled};
 ghost use Rattle.rules.specs.Read.{meetBlocks, readTable, readBlock};
 ghost use Rattle.rules.specs.Calls.{newBlockCode};
 ghost use Rattle.session_laws.specs.Record.{QueryFits};
@@ -42,6 +42,7 @@ fn either(first: bool, a: Span, b: Span) -> Span
 // Rows of the field table and rows of the trim table, each as a part of its table, are joined: of the pairs held, which
 // `keys` stands for, and the qualifying ones the best, at most room. How many are held then.
 fn join_parts(
+    n: u32,
     q: Query,
     room: usize,
     f: &[i32],
@@ -52,24 +53,33 @@ fn join_parts(
     held: usize,
 ) -> usize
     requires { ⌜ (held ≤ room) × (room ≤ 64) × (length (now keys) ≡ 64) ⌝ }
-    requires { ⌜ QueryFits q × SpanFits x (now f) × SpanFits y (now t) ⌝ }
-    ensures { λ r. ⌜ Joined (terms q) room (spanBlock (now (f .entry)) x) (spanBlock (now (t .entry)) y) held
-        (now (keys .entry)) r (now (keys .exit)) ⌝ }
+    requires { ⌜ QueryFits q × (n ≤ 3) × SpanFits x (table n (now f)) × SpanFits y (table n (now t)) ⌝ }
+    ensures { λ r. ⌜ Joined (terms q) room (spanBlock (table n (now (f .entry))) x)
+        (spanBlock (table n (now (t .entry))) y) held (now (keys .entry)) r (now (keys .exit)) ⌝ }
 {
-    let fields = tables::rows(f, x.from, x.to);
-    let trims = tables::rows(t, y.from, y.to);
-    block::join(q, room, fields, x.from, trims, y.from, keys, held)
+    let fields = tables::rows(n, f, x.from, x.to);
+    let trims = tables::rows(n, t, y.from, y.to);
+    block::join(n, q, room, fields, x.from, trims, y.from, keys, held)
 }
 
 // The effect of rows of the field table and rows of the trim table.
-fn effect_parts(full: bool, low: u32, q: Query, f: &[i32], x: Span, t: &[i32], y: Span) -> u64
-    requires { ⌜ SpanFits x (now f) × SpanFits y (now t) ⌝ }
-    ensures { λ r. ⌜ Effect full low q (spanBlock (now (f .entry)) x .rows)
-        (spanBlock (now (t .entry)) y .rows) r ⌝ }
+fn effect_parts(
+    n: u32,
+    full: bool,
+    low: u32,
+    q: Query,
+    f: &[i32],
+    x: Span,
+    t: &[i32],
+    y: Span,
+) -> u64
+    requires { ⌜ SpanFits x (table n (now f)) × SpanFits y (table n (now t)) ⌝ }
+    ensures { λ r. ⌜ Effect full low q (spanBlock (table n (now (f .entry))) x .rows)
+        (spanBlock (table n (now (t .entry))) y .rows) r ⌝ }
 {
-    let fields = tables::rows(f, x.from, x.to);
-    let trims = tables::rows(t, y.from, y.to);
-    skipping::effect(full, low, q, fields, trims)
+    let fields = tables::rows(n, f, x.from, x.to);
+    let trims = tables::rows(n, t, y.from, y.to);
+    skipping::effect(n, full, low, q, fields, trims)
 }
 
 // How many pairs are held and how many block pairs are joined.
@@ -80,6 +90,7 @@ pub struct Met {
 
 // One block pair is met: skipped, or joined and counted.
 fn meet_parts(
+    n: u32,
     q: Query,
     room: usize,
     f: &[i32],
@@ -90,18 +101,18 @@ fn meet_parts(
     m: Met,
 ) -> Met
     requires { ⌜ (m .held ≤ room) × (room ≤ 64) × (m .joined < 2 ^ 63) × (length (now keys) ≡ 64) ⌝ }
-    requires { ⌜ QueryFits q × SpanFits x (now f) × SpanFits y (now t) ⌝ }
-    ensures { λ r. ⌜ Meets q room (spanBlock (now (f .entry)) x) (spanBlock (now (t .entry)) y) m
+    requires { ⌜ QueryFits q × (n ≤ 3) × SpanFits x (table n (now f)) × SpanFits y (table n (now t)) ⌝ }
+    ensures { λ r. ⌜ Meets q room (spanBlock (table n (now (f .entry))) x) (spanBlock (table n (now (t .entry))) y) m
         (now (keys .entry)) r (now (keys .exit)) ⌝ }
 {
     let full = m.held == room;
     let last = (m.held + 63) % 64;
     let p = keys::pair(keys[last]);
-    let w = effect_parts(full, p.sum, q, f, x, t, y);
+    let w = effect_parts(n, full, p.sum, q, f, x, t, y);
     if w == 2 {
-        let n = join_parts(q, room, f, x, t, y, keys, m.held);
+        let held = join_parts(n, q, room, f, x, t, y, keys, m.held);
         return Met {
-            held: n,
+            held,
             joined: m.joined + 1,
         };
     }
@@ -124,12 +135,14 @@ fn meet_blocks(
     keys: &mut [u64; 64],
 ) -> Met
     requires { ⌜ Ready s × (s .joined + n < 2 ^ 63) × Keys s (now keys) ⌝ }
-    requires { ⌜ SpanFits new (cond field (now f) (now t)) × FirstFit (cond field (now t) (now f)) depth ⌝ }
-    requires { ⌜ (depth ≤ mostRows) × HasRows (cond field (now t) (now f)) depth
+    requires { ⌜ SpanFits new (cond field (lentTable s (now f)) (lentTable s (now t)))
+        × FirstFit (cond field (lentTable s (now t)) (lentTable s (now f))) depth ⌝ }
+    requires { ⌜ (depth ≤ mostRows) × HasRows (cond field (lentTable s (now t)) (lentTable s (now f))) depth
         × (n * s .query .block < depth + s .query .block) ⌝ }
     ensures { λ r. ⌜ Stands
-        (meetBlocks field s (spanBlock (cond field (now (f .entry)) (now (t .entry))) new)
-        (cond field (now (t .entry)) (now (f .entry))) depth n)
+        (meetBlocks field s
+        (spanBlock (cond field (lentTable s (now (f .entry))) (lentTable s (now (t .entry)))) new)
+        (cond field (lentTable s (now (t .entry))) (lentTable s (now (f .entry)))) depth n)
         r (now (keys .exit)) ⌝ }
 {
     let block = s.query.block as usize;
@@ -145,7 +158,7 @@ fn meet_blocks(
         let old = Span { from: c, to: g };
         let x = either(field, new, old);
         let y = either(field, old, new);
-        m = meet_parts(s.query, room, f, x, t, y, keys, m);
+        m = meet_parts(s.rows.card, s.query, room, f, x, t, y, keys, m);
         c = c + block;
         i += 1;
     }
@@ -175,8 +188,10 @@ pub struct After {
 // One block of a table, the field table where the flag says so, is read and meets the other table's; the table is read
 // down to its end, and marked as read last.
 fn read_on(field: bool, f: &[i32], t: &[i32], s: Session, keys: &mut [u64; 64]) -> After
-    requires { ⌜ Due field (now f) (now t) s × Passed field (now f) (now t) s × Keys s (now keys) ⌝ }
-    ensures { λ r. ⌜ (withKeys s r (now (keys .exit)) ≡ readTable field (now (f .entry)) (now (t .entry)) s)
+    requires { ⌜ Due field (lentTable s (now f)) (lentTable s (now t)) s
+        × Passed field (lentTable s (now f)) (lentTable s (now t)) s × Keys s (now keys) ⌝ }
+    ensures { λ r. ⌜ (withKeys s r (now (keys .exit))
+        ≡ readTable field (lentTable s (now (f .entry))) (lentTable s (now (t .entry))) s)
         × (r .held ≤ 64) × (length (now (keys .exit)) ≡ 64) ⌝ }
 {
     let block = s.query.block;
@@ -202,9 +217,11 @@ fn read_on(field: bool, f: &[i32], t: &[i32], s: Session, keys: &mut [u64; 64]) 
 
 // One block of the table that is next is read and meets the other table's. The pairs held go in and come back as keys.
 pub fn read_block(f: &[i32], t: &[i32], s: Session, keys: &mut [u64; 64]) -> After
-    requires { ⌜ Accepted (now f) (now t) s × (settled (now f) (now t) s ≡ false)
-        × (newBlockCode (now f) (now t) s ≡ 0) × Keys s (now keys) ⌝ }
-    ensures { λ r. ⌜ (withKeys s r (now (keys .exit)) ≡ readBlock (now (f .entry)) (now (t .entry)) s)
+    requires { ⌜ Accepted (lentTable s (now f)) (lentTable s (now t)) s
+        × (settled (lentTable s (now f)) (lentTable s (now t)) s ≡ false)
+        × (newBlockCode (lentTable s (now f)) (lentTable s (now t)) s ≡ 0) × Keys s (now keys) ⌝ }
+    ensures { λ r. ⌜ (withKeys s r (now (keys .exit))
+        ≡ readBlock (lentTable s (now (f .entry))) (lentTable s (now (t .entry))) s)
         × (r .held ≤ 64) × (length (now (keys .exit)) ≡ 64) ⌝ }
 {
     let field = choosing::field_next(f, t, s);

@@ -1,6 +1,7 @@
 // What a query's numbers are refused by, 1 to 3 and 12, and the grounds of 5 that look at numbers.
 use rules::Counts;
 use rules::Query;
+use rules::TwoTables;
 ghost use mathlib.Core.Path.{_≡_};
 ghost use Prim.Native.Nat.{_≤_, _<_};
 ghost use Rattle.rules.specs.Tables.{mostRows};
@@ -66,7 +67,7 @@ pub fn block_count(block: u32, depth: u32) -> u64
 // All grounds but those of the pair places.
 pub fn numbers_fit(
     q: Query,
-    rows: Counts,
+    rows: TwoTables,
     depth: Counts,
     last: u32,
     out: u32,
@@ -87,5 +88,6 @@ pub fn numbers_fit(
     let few = (out as u64) + (held as u64) <= (q.k as u64);
     let mark = mark_fits(last, depth);
     let most = block_count(q.block, depth.field.0) * block_count(q.block, depth.trim.0);
-    few & (mark & (joined <= most))
+    let card = cards::is_card(rows.card);
+    few & (mark & ((joined <= most) & card))
 }

@@ -3,38 +3,48 @@ use rules::Answer;
 use rules::Counts;
 use rules::FieldRows;
 use rules::FieldWeight;
+use rules::Kinds;
 use rules::Query;
 use rules::Session;
 use rules::Step;
 use rules::TrimRows;
 use rules::TrimWeight;
+use rules::TwoTables;
 use rules::Weights;
 ghost use mathlib.Core.Path.{_≡_};
 ghost use Rattle.rules.specs.Session.{opened, zeros};
+ghost use Rattle.rules.specs.Tables.{table, fieldTable, trimTable};
 ghost use Rattle.rules.specs.Calls.{openCode, openCall};
+ghost use Rattle.opening.specs.Codes.{tablesCode};
 
-// What an opening is refused by: 1, 2, 3, 12, 4; 0 where it is not.
-fn open_code(q: Query, f: &[i32], t: &[i32]) -> u32
-    ensures { λ r. ⌜ r ≡ openCode q (now (f .entry)) (now (t .entry)) ⌝ }
+// What two tables are refused by, of m and of n coordinates: 10 and 4, field and trim, then 15; 0 where they are not.
+fn tables_code(m: u32, f: &[i32], n: u32, t: &[i32]) -> u32
+    ensures { λ r. ⌜ r ≡ tablesCode (table m (now (f .entry))) (table n (now (t .entry))) ⌝ }
 {
-    let code = number_checks::query_code(q);
-    if code != 0 {
-        return code;
-    }
-    if !tables::size_fits(f) {
-        return rules::TABLE_SIZE;
-    }
-    if !tables::size_fits(t) {
-        return rules::TABLE_SIZE;
-    }
-    0
+    let field = tables::unless(cards::is_card(m), rules::WRONG_KIND);
+    let trim = tables::unless(cards::is_card(n), rules::WRONG_KIND);
+    let rows = tables::unless(tables::size_fits(m, f), rules::TABLE_SIZE);
+    let others = tables::unless(tables::size_fits(n, t), rules::TABLE_SIZE);
+    let cards = tables::unless(m == n, rules::OTHER_CARD);
+    tables::first(
+        field,
+        tables::first(trim, tables::first(rows, tables::first(others, cards))),
+    )
+}
+
+// What an opening is refused by: 1, 2, 3, 12, 10, 4, 15; 0 where it is not.
+fn open_code(q: Query, m: u32, f: &[i32], n: u32, t: &[i32]) -> u32
+    ensures { λ r. ⌜ r ≡ openCode q (table m (now (f .entry))) (table n (now (t .entry))) ⌝ }
+{
+    let query = number_checks::query_code(q);
+    let tables = tables_code(m, f, n, t);
+    tables::first(query, tables)
 }
 
 // A record with nothing read.
-fn fresh(q: Query, m: FieldRows, n: TrimRows) -> Session
-    ensures { λ r. ⌜ r ≡ opened q m n ⌝ }
+fn fresh(q: Query, rows: TwoTables) -> Session
+    ensures { λ r. ⌜ r ≡ opened q rows ⌝ }
 {
-    let rows = Counts { field: m, trim: n };
     let depth = Counts {
         field: FieldRows(0),
         trim: TrimRows(0),
@@ -65,14 +75,21 @@ fn all_zeros() -> Session
         radius: 0,
         weights,
     };
-    fresh(q, FieldRows(0), TrimRows(0))
+    let rows = TwoTables {
+        field: FieldRows(0),
+        trim: TrimRows(0),
+        card: 0,
+    };
+    fresh(q, rows)
 }
 
 // Opening: a record with nothing read, or the number that it is refused by and a record of zeros.
-pub fn start(q: Query, f: &[i32], t: &[i32]) -> Step
-    ensures { λ r. ⌜ r ≡ openCall q (now (f .entry)) (now (t .entry)) ⌝ }
+pub fn start(q: Query, kinds: Kinds, f: &[i32], t: &[i32]) -> Step
+    ensures { λ r. ⌜ r ≡ openCall q (fieldTable kinds (now (f .entry))) (trimTable kinds (now (t .entry))) ⌝ }
 {
-    let code = open_code(q, f, t);
+    let m = cards::field_coordinates(kinds);
+    let n = cards::trim_coordinates(kinds);
+    let code = open_code(q, m, f, n, t);
     if code != 0 {
         let s = all_zeros();
         return Step {
@@ -80,9 +97,12 @@ pub fn start(q: Query, f: &[i32], t: &[i32]) -> Step
             session: s,
         };
     }
-    let m = FieldRows(tables::row_count(f) as u32);
-    let n = TrimRows(tables::row_count(t) as u32);
-    let s = fresh(q, m, n);
+    let rows = TwoTables {
+        field: FieldRows(tables::rows_lent(m, f) as u32),
+        trim: TrimRows(tables::rows_lent(n, t) as u32),
+        card: m,
+    };
+    let s = fresh(q, rows);
     Step {
         answer: Answer::Opened,
         session: s,

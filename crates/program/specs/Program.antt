@@ -5,14 +5,15 @@ use mathlib.Core.Bool.{Bool, true, false, cond}
 use mathlib.Core.List.{List, [], _∷_}
 use Prim.Native.Nat.{ℕ, _≤_}
 use lib.Dec.{eqb}
-use lib.IntN.{ℤ, pos}
 use lib.ListN.{length}
 use borrow.Author.Tests.{eqb-false, ne-eqb}
 use Rattle.lists.specs.Bools.{clash}
 use Rattle.rules.specs.declared.Query.{Query}
+use Rattle.rules.specs.Tables.{Table}
 use Rattle.rules.specs.Numbers.{first}
 use Rattle.rules.specs.Calls.{openCode}
-use Rattle.rules.specs.Query.{listing, programFileCode, inputCode, inputQuery, tableOf}
+use Rattle.rules.specs.Query.{listing, programFileCode, inputCode, inputQuery, fieldFileKind, trimFileKind}
+use Rattle.rules.specs.Query.{fieldFileTable, trimFileTable}
 use Rattle.rules.specs.Query.{refusalLine, wholeQueryCode, wholeQuery}
 use Rattle.printing.specs.Put.{putAt}
 use Rattle.listing.specs.Shown.{listingRoom}
@@ -55,22 +56,25 @@ refusal-first c d l b = go (eqb c 0) refl
 
 -- ---- The whole: the checks one after the other
 
-unfoldable pub answerBytes : Query → List ℤ → List ℤ → List ℕ
+unfoldable pub answerBytes : Query → Table → Table → List ℕ
 answerBytes q f t = orRefusal (openCode q f t) (listing q f t)
 
-unfoldable pub inputBytes : List ℕ → List ℤ → List ℤ → List ℕ
+unfoldable pub inputBytes : List ℕ → Table → Table → List ℕ
 inputBytes input f t = orRefusal (inputCode input) (answerBytes (inputQuery input) f t)
 
 pub whole-is : (field trim input : List ℕ) →
     wholeQuery field trim input
-    ≡ orRefusal (programFileCode field (pos 1))
-    (orRefusal (programFileCode trim (pos 2)) (inputBytes input (tableOf field) (tableOf trim)))
+    ≡ orRefusal (programFileCode field (fieldFileKind field))
+    (orRefusal (programFileCode trim (trimFileKind trim))
+    (inputBytes input (fieldFileTable field) (trimFileTable trim)))
 unfolding wholeQuery wholeQueryCode inputBytes answerBytes orRefusal
 whole-is field trim input =
-    let a = programFileCode field (pos 1) in
-    let b = programFileCode trim (pos 2) in
+    let f = fieldFileTable field in
+    let t = trimFileTable trim in
+    let a = programFileCode field (fieldFileKind field) in
+    let b = programFileCode trim (trimFileKind trim) in
     let c = inputCode input in
-    let d = openCode (inputQuery input) (tableOf field) (tableOf trim) in
-    let l = listing (inputQuery input) (tableOf field) (tableOf trim) in
+    let d = openCode (inputQuery input) f t in
+    let l = listing (inputQuery input) f t in
     refusal-first a b (c ∷ d ∷ []) l
     ∙ ap (orRefusal a) (refusal-first b c (d ∷ []) l ∙ ap (orRefusal b) (refusal-first c d [] l))

@@ -1,10 +1,14 @@
 // The pairing program's answer: from the bytes of its two files and its input to the bytes that it prints.
+use rules::FieldKind;
+use rules::Kinds;
 use rules::Loaded;
 use rules::Query;
+use rules::TrimKind;
 ghost use mathlib.Core.Path.{_≡_};
 ghost use mathlib.Core.List.{_++_};
 ghost use Prim.Native.Nat.{_≤_};
 ghost use lib.ListN.{length, drop};
+ghost use Rattle.rules.specs.Tables.{table, kindCoordinates, HasRows, firstRows, fieldTable, trimTable};
 ghost use Rattle.rules.specs.Numbers.{saidOf, refusal};
 ghost use Rattle.rules.specs.Query.{refusalLine, wholeQuery};
 ghost use Rattle.printing.specs.Lines.{refusalLength};
@@ -34,29 +38,39 @@ fn refuse(out: &mut [u8], code: u32) -> usize
 }
 
 // The listing, or the refusal of the opening.
-fn put_answer(out: &mut [u8], q: Query, f: &[i32], t: &[i32]) -> usize
+fn put_answer(out: &mut [u8], q: Query, kinds: Kinds, f: &[i32], t: &[i32]) -> usize
     requires { ⌜ listingRoom ≤ length (now out) ⌝ }
-    ensures { λ r. ⌜ Written (answerBytes q (now (f .entry)) (now (t .entry)))
+    ensures { λ r. ⌜ Written
+        (answerBytes q (fieldTable kinds (now (f .entry))) (trimTable kinds (now (t .entry))))
         (now (out .entry)) (now (out .exit)) r ⌝ }
 {
-    let run = run_query::run(q, f, t);
+    let run = run_query::run(q, kinds, f, t);
     if run.opening != 0 {
         return refuse(out, run.opening);
     }
-    listing::put_listing(out, f, t, run)
+    listing::put_listing(out, run.session.rows.card, f, t, run)
 }
 
 // The same of the query that the input asks for.
-fn put_asked(out: &mut [u8], input: &[u8], f: &[i32], t: &[i32]) -> usize
+fn put_asked(out: &mut [u8], input: &[u8], kinds: Kinds, f: &[i32], t: &[i32]) -> usize
     requires { ⌜ listingRoom ≤ length (now out) ⌝ }
-    ensures { λ r. ⌜ Written (inputBytes (now (input .entry)) (now (f .entry)) (now (t .entry)))
+    ensures { λ r. ⌜ Written
+        (inputBytes (now (input .entry)) (fieldTable kinds (now (f .entry))) (trimTable kinds (now (t .entry))))
         (now (out .entry)) (now (out .exit)) r ⌝ }
 {
     let asked = program_input::read_input(input);
     if asked.code != 0 {
         return refuse(out, asked.code);
     }
-    put_answer(out, asked.query, f, t)
+    put_answer(out, asked.query, kinds, f, t)
+}
+
+// The first m rows of a table of this kind.
+fn rows_of<'a>(kind: u32, t: &'a [i32], m: u32) -> &'a [i32]
+    requires { ⌜ HasRows (table (kindCoordinates kind) (now t)) m ⌝ }
+    ensures { λ r. ⌜ now r ≡ firstRows m (table (kindCoordinates kind) (now (t .entry))) .numbers ⌝ }
+{
+    tables::first_rows(cards::kind_coordinates(kind), t, m as usize)
 }
 
 // What the program prints, at the front of `out`: how many bytes it is.
@@ -65,19 +79,25 @@ fn put_whole(out: &mut [u8], field: &[u8], trim: &[u8], input: &[u8]) -> usize
     ensures { λ r. ⌜ Written (wholeQuery (now (field .entry)) (now (trim .entry)) (now (input .entry)))
         (now (out .entry)) (now (out .exit)) r ⌝ }
 {
+    let of_field = program_input::file_kind(1, 3, field);
     let mut f = [0i32; program_input::TABLE_ROOM];
-    let a = program_input::load_table(field, 1, &mut f);
+    let a = program_input::load_table(field, of_field, &mut f);
     let Loaded::Rows(m) = a else {
         return refuse(out, refusal(a));
     };
+    let of_trim = program_input::file_kind(2, 4, trim);
     let mut t = [0i32; program_input::TABLE_ROOM];
-    let b = program_input::load_table(trim, 2, &mut t);
+    let b = program_input::load_table(trim, of_trim, &mut t);
     let Loaded::Rows(n) = b else {
         return refuse(out, refusal(b));
     };
-    let fields = tables::first_rows(&f, m as usize);
-    let trims = tables::first_rows(&t, n as usize);
-    put_asked(out, input, fields, trims)
+    let fields = rows_of(of_field, &f, m);
+    let trims = rows_of(of_trim, &t, n);
+    let kinds = Kinds {
+        field: FieldKind(of_field),
+        trim: TrimKind(of_trim),
+    };
+    put_asked(out, input, kinds, fields, trims)
 }
 
 // What the program prints, at the front of a place for the longest listing: how many bytes it is. The rest of the place

@@ -4,7 +4,6 @@ use mathlib.Core.Bool.{Bool, true, false}
 use mathlib.Core.List.{List, [], _∷_, _++_}
 use Prim.Native.Nat.{ℕ, _+_}
 use lib.Dec.{leb}
-use lib.IntN.{ℤ}
 use lib.ListN.{length}
 use Rattle.lists.specs.Lists.{each}
 use Rattle.rules.specs.declared.Pair.{Pair}
@@ -19,6 +18,7 @@ use Rattle.listing.specs.Shown.{lineOf}
 use Rattle.query_numbers.specs.Answers.{headLength, queryRoom, rootsRoom, pairNumbers, rootNumbers, listNumbers}
 use Rattle.query_numbers.specs.Answers.{listRoots, headNumbers, queryNumbers, answered}
 use Rattle.query_numbers.specs.Parts.{partLength, partNumbers, part-length, listParts}
+use Rattle.rules.specs.Tables.{Table}
 
 -- a number, then others
 pub then-one : (at x y : ℕ) (b l : List ℕ) → putAt at (x ∷ y ∷ b) l ≡ putAt (at + 1) (y ∷ b) (putAt at (x ∷ []) l)
@@ -30,7 +30,7 @@ then-three : (at x y z : ℕ) (b l : List ℕ) →
 then-three at x y z b l = put-on at (x ∷ y ∷ z ∷ []) b l
 
 -- what is told of a pair, written: two numbers, or six
-pub roots-put : (f t : List ℤ) (p : Pair) (x : Line) (at : ℕ) (out a b : List ℕ) → x ≡ lineOf f t 0 p →
+pub roots-put : (f t : Table) (p : Pair) (x : Line) (at : ℕ) (out a b : List ℕ) → x ≡ lineOf f t 0 p →
     a ≡ putAt at (x .root ∷ []) out → b ≡ putAt (at + 1) (x .rest ∷ []) a → b ≡ putAt at (rootNumbers f t p) out
 unfolding rootNumbers lineOf
 roots-put f t p x at out a b e ea eb =
@@ -40,7 +40,7 @@ roots-put f t p x at out a b e ea eb =
     ∙ ap (putAt (at + 1) (z .rest ∷ [])) (ea ∙ ap (λ (y : Line). putAt at (y .root ∷ []) out) e)
     ∙ sym (then-one at (z .root) (z .rest) [] out)
 
-pub pair-put : (f t : List ℤ) (p : Pair) (x : Line) (at : ℕ) (out a b : List ℕ) → x ≡ lineOf f t 0 p →
+pub pair-put : (f t : Table) (p : Pair) (x : Line) (at : ℕ) (out a b : List ℕ) → x ≡ lineOf f t 0 p →
     a ≡ putAt at (p .sum ∷ p .field ∷ p .trim ∷ []) out →
     b ≡ putAt (at + 3) (x .field ∷ x .trim ∷ x .distance ∷ []) a → b ≡ putAt at (pairNumbers f t p) out
 unfolding pairNumbers lineOf
@@ -52,10 +52,10 @@ pair-put f t p x at out a b e ea eb =
     ∙ sym (then-three at (p .sum) (p .field) (p .trim) (z .field ∷ z .trim ∷ z .distance ∷ []) out)
 
 -- the part of pair n + 1
-abbrev pub partAt : Bool → List ℤ → List ℤ → ℕ → Pair → List ℕ
+abbrev pub partAt : Bool → Table → Table → ℕ → Pair → List ℕ
 partAt roots f t n p = partNumbers roots f t p
 
-module _ (roots : Bool) (f t : List ℤ) where
+module _ (roots : Bool) (f t : Table) where
   pub partAt-length : (n : ℕ) (p : Pair) → length (partAt roots f t n p) ≡ partLength roots
   partAt-length n p = part-length roots f t p
 
@@ -68,7 +68,7 @@ module _ (roots : Bool) (f t : List ℤ) where
   unfolding listParts
   parts-laid q = each-laid 0 (list q f t)
 
-module _ (f t : List ℤ) where
+module _ (f t : Table) where
   parts-numbers : (q : Query) → listParts false q f t ≡ listNumbers q f t
   unfolding listParts partNumbers listNumbers
   parts-numbers q = refl

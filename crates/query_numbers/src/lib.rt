@@ -5,6 +5,7 @@ ghost use mathlib.Core.Path.{_≡_};
 ghost use mathlib.Core.List.{[], _∷_};
 ghost use Prim.Native.Nat.{_+_, _*_, _≤_, _<_};
 ghost use lib.ListN.{length};
+ghost use Rattle.rules.specs.Tables.{table};
 ghost use Rattle.rules.specs.Session.{placeCount};
 ghost use Rattle.printing.specs.Put.{putAt};
 ghost use Rattle.run_query.specs.Outcomes.{OutcomeOf};
@@ -45,37 +46,39 @@ fn put_three(out: &mut [u64], at: usize, x: u64, y: u64, z: u64)
 }
 
 // A pair's numbers.
-fn put_pair(out: &mut [u64], at: usize, f: &[i32], t: &[i32], p: Pair)
-    requires { ⌜ (at + pairLength ≤ length (now out)) × Shown (now f) (now t) p ⌝ }
-    ensures { λ _. ⌜ now (out .exit) ≡ putAt at (pairNumbers (now (f .entry)) (now (t .entry)) p) (now (out .entry)) ⌝ }
+fn put_pair(out: &mut [u64], at: usize, n: u32, f: &[i32], t: &[i32], p: Pair)
+    requires { ⌜ (at + pairLength ≤ length (now out)) × Shown (table n (now f)) (table n (now t)) p ⌝ }
+    ensures { λ _. ⌜ now (out .exit) ≡ putAt at (pairNumbers (table n (now (f .entry))) (table n (now (t .entry))) p)
+        (now (out .entry)) ⌝ }
 {
     let b = at + 3;
-    let line = listing::line_of(f, t, 0, p);
+    let line = listing::line_of(n, f, t, 0, p);
     put_three(out, at, p.sum as u64, p.field as u64, p.trim as u64);
     put_three(out, b, line.field as u64, line.trim as u64, line.distance);
 }
 
 // The root of its squared distance, and the remainder.
-fn put_root(out: &mut [u64], at: usize, f: &[i32], t: &[i32], p: Pair)
-    requires { ⌜ (at + rootLength ≤ length (now out)) × Shown (now f) (now t) p ⌝ }
-    ensures { λ _. ⌜ now (out .exit) ≡ putAt at (rootNumbers (now (f .entry)) (now (t .entry)) p) (now (out .entry)) ⌝ }
+fn put_root(out: &mut [u64], at: usize, n: u32, f: &[i32], t: &[i32], p: Pair)
+    requires { ⌜ (at + rootLength ≤ length (now out)) × Shown (table n (now f)) (table n (now t)) p ⌝ }
+    ensures { λ _. ⌜ now (out .exit) ≡ putAt at (rootNumbers (table n (now (f .entry))) (table n (now (t .entry))) p)
+        (now (out .entry)) ⌝ }
 {
     let b = at + 1;
-    let line = listing::line_of(f, t, 0, p);
+    let line = listing::line_of(n, f, t, 0, p);
     put_one(out, at, line.root);
     put_one(out, b, line.rest);
 }
 
 // The one or the other.
-fn put_part(roots: bool, out: &mut [u64], at: usize, f: &[i32], t: &[i32], p: Pair)
-    requires { ⌜ (at + partLength roots ≤ length (now out)) × Shown (now f) (now t) p ⌝ }
+fn put_part(roots: bool, out: &mut [u64], at: usize, n: u32, f: &[i32], t: &[i32], p: Pair)
+    requires { ⌜ (at + partLength roots ≤ length (now out)) × Shown (table n (now f)) (table n (now t)) p ⌝ }
     ensures { λ _. ⌜ now (out .exit)
-        ≡ putAt at (partNumbers roots (now (f .entry)) (now (t .entry)) p) (now (out .entry)) ⌝ }
+        ≡ putAt at (partNumbers roots (table n (now (f .entry))) (table n (now (t .entry))) p) (now (out .entry)) ⌝ }
 {
     if roots {
-        put_root(out, at, f, t, p);
+        put_root(out, at, n, f, t, p);
     } else {
-        put_pair(out, at, f, t, p);
+        put_pair(out, at, n, f, t, p);
     }
 }
 
@@ -85,35 +88,38 @@ fn put_parts(
     wide: usize,
     out: &mut [u64],
     at: usize,
+    n: u32,
     f: &[i32],
     t: &[i32],
     run: Outcome,
 )
     requires { ⌜ (wide ≡ partLength roots) × (at + partLength roots * placeCount ≤ length (now out)) ⌝ }
-    requires { ⌜ OutcomeOf (now f) (now t) run ⌝ }
+    requires { ⌜ OutcomeOf (table n (now f)) (table n (now t)) run ⌝ }
     ensures { λ _. ⌜ now (out .exit)
-        ≡ putAt at (listParts roots (run .query) (now (f .entry)) (now (t .entry))) (now (out .entry)) ⌝ }
+        ≡ putAt at (listParts roots (run .query) (table n (now (f .entry))) (table n (now (t .entry))))
+        (now (out .entry)) ⌝ }
 {
     let mut i: usize = 0;
     while i < run.count {
         let p = run.pairs[i];
-        put_part(roots, out, at + wide * i, f, t, p);
+        put_part(roots, out, at + wide * i, n, f, t, p);
         i += 1;
     }
 }
 
 // The numbers of a query that was run, from the front of `out`; the roots behind them, if there is room.
-pub fn put_numbers(out: &mut [u64], f: &[i32], t: &[i32], run: Outcome)
-    requires { ⌜ (queryRoom ≤ length (now out)) × OutcomeOf (now f) (now t) run ⌝ }
-    ensures { λ _. ⌜ now (out .exit) ≡ answered (run .query) (now (f .entry)) (now (t .entry)) (now (out .entry)) ⌝ }
+pub fn put_numbers(out: &mut [u64], n: u32, f: &[i32], t: &[i32], run: Outcome)
+    requires { ⌜ (queryRoom ≤ length (now out)) × OutcomeOf (table n (now f)) (table n (now t)) run ⌝ }
+    ensures { λ _. ⌜ now (out .exit) ≡ answered (run .query) (table n (now (f .entry))) (table n (now (t .entry)))
+        (now (out .entry)) ⌝ }
 {
     let more = ROOTS_ROOM <= out.len();
     let settled = run.session;
     let field = settled.depth.field.0 as u64;
     let trim = settled.depth.trim.0 as u64;
     put_three(out, 0, field, trim, settled.joined);
-    put_parts(false, PAIR_LENGTH, out, HEAD_LENGTH, f, t, run);
+    put_parts(false, PAIR_LENGTH, out, HEAD_LENGTH, n, f, t, run);
     if more {
-        put_parts(true, ROOT_LENGTH, out, ROOM, f, t, run);
+        put_parts(true, ROOT_LENGTH, out, ROOM, n, f, t, run);
     }
 }

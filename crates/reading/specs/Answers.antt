@@ -1,12 +1,10 @@
 -- A read's answer, of the code that its checks gave, and the record that goes with it. Assumes nothing.
 use mathlib.Core.Path.{_≡_, refl, sym, ap, _∙_}
 use mathlib.Core.Bool.{Bool, true, false, cond}
-use mathlib.Core.List.{List}
 use Prim.Native.Nat.{ℕ}
 use lib.Dec.{eqb}
 use borrow.Author.Tests.{eqb-true}
 use Rattle.lists.specs.Bools.{clash}
-use lib.IntN.{ℤ}
 use Rattle.rules.specs.declared.Session.{Session}
 use Rattle.rules.specs.declared.Step.{Step}
 use Rattle.rules.specs.declared.Answer.{Answer}
@@ -15,15 +13,16 @@ use Rattle.rules.specs.Session.{settled}
 use Rattle.rules.specs.Read.{readBlock}
 use Rattle.rules.specs.Query.{wasRead}
 use Rattle.rules.specs.Calls.{callCode, newBlockCode, step, readCallBy, readCall}
+use Rattle.rules.specs.Tables.{Table}
 
-unfoldable pub readAnswer : ℕ → List ℤ → List ℤ → Session → Answer
+unfoldable pub readAnswer : ℕ → Table → Table → Session → Answer
 readAnswer code f t s =
     cond (eqb code 0)
     (cond (settled f t s) Settled (cond (eqb (newBlockCode f t s) 0) Read (Refused (newBlockCode f t s))))
     (Refused code)
 
 -- the record that goes with an answer: only a block that is read changes it
-module _ (f t : List ℤ) (s : Session) where
+module _ (f t : Table) (s : Session) where
   abbrev pub afterRead : Answer → Session
   afterRead a = cond (wasRead a) (readBlock f t s) s
 
@@ -52,7 +51,7 @@ module _ (f t : List ℤ) (s : Session) where
       ∙ ap (λ (b : Bool). cond b (readBlock f t s) s) (ap (λ (x : Step). wasRead (x .answer)) read-is ∙ h)
 
 -- a block is read: the checks passed, those of the new block too, and the session was not settled
-module _ (code : ℕ) (f t : List ℤ) (s : Session) where
+module _ (code : ℕ) (f t : Table) (s : Session) where
   pub read-asked : readAnswer code f t s ≡ Read → (code ≡ 0) × (settled f t s ≡ false) × (newBlockCode f t s ≡ 0)
   unfolding readAnswer
   read-asked e = go (eqb code 0) refl (settled f t s) refl (eqb (newBlockCode f t s) 0) refl e

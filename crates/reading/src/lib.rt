@@ -11,12 +11,13 @@ ghost use Rattle.rules.specs.Calls.{readCall};
 ghost use Rattle.session_laws.specs.Calls.{Accepted};
 ghost use Rattle.checks.specs.Codes.{LastHeld};
 ghost use Rattle.reading.specs.Answers.{readAnswer};
+ghost use Rattle.rules.specs.Session.{lentTable};
 
 // What a read answers, of the code that the checks gave: refused; settled; or a block is read, unless 6 or 7 refuses
 // it.
 fn read_answer(code: u32, f: &[i32], t: &[i32], s: Session, last: Pair) -> Answer
-    requires { ⌜ (code ≡ 0 → Accepted (now f) (now t) s × LastHeld s last) ⌝ }
-    ensures { λ r. ⌜ r ≡ readAnswer code (now (f .entry)) (now (t .entry)) s ⌝ }
+    requires { ⌜ (code ≡ 0 → Accepted (lentTable s (now f)) (lentTable s (now t)) s × LastHeld s last) ⌝ }
+    ensures { λ r. ⌜ r ≡ readAnswer code (lentTable s (now (f .entry))) (lentTable s (now (t .entry))) s ⌝ }
 {
     if code != 0 {
         return Answer::Refused(code);
@@ -35,7 +36,7 @@ fn read_answer(code: u32, f: &[i32], t: &[i32], s: Session, last: Pair) -> Answe
 // places are looked through here, and in take, as in `checks::fits`, and filled here: handed on, the record would be
 // copied once more. While blocks meet, the pairs held are keys, lent to whoever puts one among them.
 pub fn read(f: &[i32], t: &[i32], s: Session) -> Step
-    ensures { λ r. ⌜ r ≡ readCall (now (f .entry)) (now (t .entry)) s ⌝ }
+    ensures { λ r. ⌜ r ≡ readCall (lentTable s (now (f .entry))) (lentTable s (now (t .entry))) s ⌝ }
 {
     let mut r = s;
     let n = r.held as usize;

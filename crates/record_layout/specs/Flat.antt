@@ -1,10 +1,11 @@
--- The session's record laid out flat: 206 numbers of 32 bits, as include/furzeladle.h lists them. Definitions only.
+-- The session's record laid out flat: 207 numbers of 32 bits, as include/furzeladle.h lists them. Definitions only.
 -- Assumes nothing.
 use Prim.Native.Nat.{ℕ, _+_, _*_, _/_, _%_}
 use mathlib.Core.List.{List, [], _∷_, _++_, map}
 use lib.ListN.{length, getD, take, drop}
 use Rattle.lists.specs.Lists.{range, each}
 use Rattle.rules.specs.declared.Pair.{Pair}
+use Rattle.rules.specs.declared.Kinds.{Kinds}
 use Rattle.rules.specs.declared.Query.{Query}
 use Rattle.rules.specs.declared.Weights.{Weights}
 use Rattle.rules.specs.declared.Session.{Session}
@@ -54,12 +55,18 @@ joinedHighAt = 11
 abbrev pub pairsAt : ℕ
 pairsAt = 12
 
--- a lent query: k, block, radius as in a record, then its two weights, which need not be lent
+-- a lent query: k, block, radius as in a record, then its two weights and the tables' two kinds, which need not be lent
 abbrev pub fieldWeightInQuery : ℕ
 fieldWeightInQuery = 3
 
 abbrev pub trimWeightInQuery : ℕ
 trimWeightInQuery = 4
+
+abbrev pub fieldKindInQuery : ℕ
+fieldKindInQuery = 5
+
+abbrev pub trimKindInQuery : ℕ
+trimKindInQuery = 6
 
 -- how many numbers a lent query is at least
 abbrev pub querySize : ℕ
@@ -80,9 +87,13 @@ fieldWeightAt = pairAt placeCount
 abbrev pub trimWeightAt : ℕ
 trimWeightAt = fieldWeightAt + 1
 
--- a record: 206
+-- and last the tables' card, by the number of its coordinates
+abbrev pub cardAt : ℕ
+cardAt = trimWeightAt + 1
+
+-- a record: 207
 abbrev pub flatSize : ℕ
-flatSize = trimWeightAt + 1
+flatSize = cardAt + 1
 
 -- the first number above 32 bits
 abbrev pub word : ℕ
@@ -113,12 +124,9 @@ flatHead s =
     ∷ s .joined / word
     ∷ []
 
-unfoldable pub flatWeights : Weights → List ℕ
-flatWeights w = w .field .0 ∷ w .trim .0 ∷ []
-
 -- the numbers behind the pair places
 unfoldable pub flatTail : Session → List ℕ
-flatTail s = flatWeights (s .query .weights)
+flatTail s = s .query .weights .field .0 ∷ s .query .weights .trim .0 ∷ s .rows .card ∷ []
 
 unfoldable pub flatten : Session → List ℕ
 flatten s = flatHead s ++ each flatPair (s .pairs) ++ flatTail s
@@ -137,6 +145,11 @@ queryWith l w = record { k = getD l kAt 0; block = getD l blockAt 0; radius = ge
 unfoldable pub queryIn : List ℕ → Query
 queryIn l = queryWith l (weights (getD l fieldWeightInQuery 1) (getD l trimWeightInQuery 1))
 
+-- the kinds that go with it: a kind that is not lent is the old card's, 1 for field and 2 for trim
+unfoldable pub kindsIn : List ℕ → Kinds
+kindsIn l =
+    record { field = record { 0 = getD l fieldKindInQuery 1 }; trim = record { 0 = getD l trimKindInQuery 2 } }
+
 unfoldable pub pairIn : List ℕ → ℕ → Pair
 pairIn l i =
     record { sum = getD l (pairAt i) 0; field = getD l (pairAt i + 1) 0; trim = getD l (pairAt i + 2) 0 }
@@ -150,7 +163,12 @@ unfoldable pub withPairs : List ℕ → List Pair → Session
 withPairs l pairs =
     record {
       query = queryWith l (weights (getD l fieldWeightAt 0) (getD l trimWeightAt 0));
-      rows = record { field = record { 0 = getD l fieldRowsAt 0 }; trim = record { 0 = getD l trimRowsAt 0 } };
+      rows =
+          record {
+            field = record { 0 = getD l fieldRowsAt 0 };
+            trim = record { 0 = getD l trimRowsAt 0 };
+            card = getD l cardAt 0;
+          };
       depth = record { field = record { 0 = getD l fieldDepthAt 0 }; trim = record { 0 = getD l trimDepthAt 0 } };
       last = getD l lastAt 0;
       out = getD l outAt 0;

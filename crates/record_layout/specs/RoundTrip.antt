@@ -11,12 +11,16 @@ use Rattle.lists.specs.Appends.{each-append, range-end}
 use Rattle.rules.specs.declared.Pair.{Pair}
 use Rattle.rules.specs.declared.Session.{Session}
 use Rattle.rules.specs.Session.{noPair, placeCount}
-use Rattle.record_layout.specs.Flat.{joinedAt, joinedHighAt, pairsAt, pairSize, pairAt, fieldWeightAt, flatSize}
-use Rattle.record_layout.specs.Flat.{word, flatPair, flatHead, flatWeights, flatTail, flatten, queryWith, pairIn}
-use Rattle.record_layout.specs.Flat.{pairsIn, withPairs, unflatten}
+use Rattle.record_layout.specs.Flat.{joinedAt, joinedHighAt, pairsAt, pairSize, pairAt, fieldWeightAt}
+use Rattle.record_layout.specs.Flat.{trimWeightAt, cardAt, flatSize, word, flatPair, flatHead, flatTail}
+use Rattle.record_layout.specs.Flat.{flatten, queryWith, pairIn, pairsIn, withPairs, unflatten}
 
 zero-add : (n : ℕ) → 0 + n ≡ n
 zero-add n = omega arith
+
+-- how many numbers stand behind the pair places
+abbrev tailSize : ℕ
+tailSize = 3
 
 -- the pair that three numbers are, from place n on
 abbrev three : List ℕ → ℕ → Pair
@@ -94,13 +98,14 @@ module _ (s : Session) (rest : List ℕ) (full : length (s .pairs) ≡ placeCoun
       ∙ getD-append-add (each flatPair (s .pairs)) tail n 0
 
   pub back : unflatten (flatten s ++ rest) ≡ s
-  unfolding flatHead flatTail flatWeights unflatten withPairs queryWith
+  unfolding flatHead flatTail unflatten withPairs queryWith
   back =
       let pairs = pairs-back s tail placeCount (omega arith) ∙ take-all placeCount (s .pairs) (omega arith) in
       let n = s .joined in
       let joined : n % word + n / word * word ≡ n = omega (arith, div-add-mod' n word) in
       let field = tail-back 0 in
       let trim = tail-back 1 in
+      let card = tail-back 2 in
       ap unflatten laid-out
       ∙ (λ i.
       record {
@@ -110,7 +115,7 @@ module _ (s : Session) (rest : List ℕ) (full : length (s .pairs) ≡ placeCoun
           radius = s .query .radius;
           weights = record { field = record { 0 = field i }; trim = record { 0 = trim i } };
         };
-        rows = s .rows;
+        rows = record { field = s .rows .field; trim = s .rows .trim; card = card i };
         depth = s .depth;
         last = s .last;
         out = s .out;
@@ -172,9 +177,14 @@ module _ (l : List ℕ) (long : flatSize ≤ length l) where
         one-from 0 11 (omega arith),
       ))
 
-  tail-forth : flatTail (unflatten l) ≡ take 2 (drop fieldWeightAt l)
-  unfolding flatTail flatWeights unflatten withPairs queryWith
-  tail-forth = rw (one-from 1 fieldWeightAt (omega arith), one-from 0 (suc fieldWeightAt) (omega arith))
+  tail-forth : flatTail (unflatten l) ≡ take tailSize (drop fieldWeightAt l)
+  unfolding flatTail unflatten withPairs queryWith
+  tail-forth =
+      rw (
+        one-from 2 fieldWeightAt (omega arith),
+        one-from 1 trimWeightAt (omega arith),
+        one-from 0 cardAt (omega arith),
+      )
 
   -- the record that stands in a lent slice, laid out in it, changes no number
   pub forth : getD l joinedAt 0 < word → flatten (unflatten l) ++ drop flatSize l ≡ l
@@ -187,5 +197,5 @@ module _ (l : List ℕ) (long : flatSize ≤ length l) where
       ∙ ap (λ (r : List ℕ). r ++ flatTail (unflatten l) ++ drop flatSize l)
       (sym (take-add pairsAt (pairSize * placeCount) l))
       ∙ ap (λ (r : List ℕ). take fieldWeightAt l ++ r ++ drop flatSize l) tail-forth
-      ∙ ap (λ (r : List ℕ). r ++ drop flatSize l) (sym (take-add fieldWeightAt 2 l))
+      ∙ ap (λ (r : List ℕ). r ++ drop flatSize l) (sym (take-add fieldWeightAt tailSize l))
       ∙ take-append-drop flatSize l

@@ -2,13 +2,12 @@
 use rules::PLACES;
 use rules::Pair;
 use rules::Session;
-use rules::Weights;
 ghost use mathlib.Core.Path.{_≡_};
 ghost use mathlib.Core.List.{[], _∷_};
 ghost use Prim.Native.Nat.{_+_, _≤_};
 ghost use lib.ListN.{length};
 ghost use Rattle.record_layout.specs.Flat.{pairSize, fieldWeightAt, flatSize, laidAt, laidIn};
-ghost use Rattle.record_layout.specs.Flat.{flatPair, flatHead, flatWeights};
+ghost use Rattle.record_layout.specs.Flat.{flatPair, flatHead, flatTail};
 
 // Where a record's numbers stand: first three of the query's.
 pub const K: usize = 0;
@@ -44,12 +43,15 @@ pub const FIELD_WEIGHT: usize = PAIRS + PAIR_SIZE * PLACES;
 
 pub const TRIM_WEIGHT: usize = FIELD_WEIGHT + 1;
 
+// And last the tables' card, by the number of its coordinates.
+pub const CARD: usize = TRIM_WEIGHT + 1;
+
 // How many numbers a lent query is at least, a pair is, and a record.
 pub const QUERY_SIZE: usize = 3;
 
 pub const PAIR_SIZE: usize = 3;
 
-pub const SIZE: usize = TRIM_WEIGHT + 1;
+pub const SIZE: usize = CARD + 1;
 
 // The first number above 32 bits.
 pub const WORD: u64 = 4294967296;
@@ -91,16 +93,16 @@ fn put_head(out: &mut [u32], s: Session)
     put_three(out, HELD, s.held, low, high);
 }
 
-// The two weights, behind the pair places.
-fn put_weights(out: &mut [u32], w: Weights)
+// The two weights and the card, behind the pair places.
+fn put_tail(out: &mut [u32], s: Session)
     requires { ⌜ flatSize ≤ length (now out) ⌝ }
-    ensures { λ _. ⌜ now (out .exit) ≡ laidAt fieldWeightAt (flatWeights w) (now (out .entry)) ⌝ }
+    ensures { λ _. ⌜ now (out .exit) ≡ laidAt fieldWeightAt (flatTail s) (now (out .entry)) ⌝ }
 {
-    out[FIELD_WEIGHT] = w.field.0;
-    out[TRIM_WEIGHT] = w.trim.0;
+    let w = s.query.weights;
+    put_three(out, FIELD_WEIGHT, w.field.0, w.trim.0, s.rows.card);
 }
 
-// A record laid out in the first 206 numbers; the rest is left as it was.
+// A record laid out in the first 207 numbers; the rest is left as it was.
 pub fn pack(s: Session, out: &mut [u32])
     requires { ⌜ flatSize ≤ length (now out) ⌝ }
     ensures { λ _. ⌜ now (out .exit) ≡ laidIn (now (out .entry)) s ⌝ }
@@ -112,5 +114,5 @@ pub fn pack(s: Session, out: &mut [u32])
         put_pair(out, PAIRS + PAIR_SIZE * i, p);
         i += 1;
     }
-    put_weights(out, s.query.weights);
+    put_tail(out, s);
 }

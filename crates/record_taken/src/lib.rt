@@ -1,5 +1,6 @@
 // A session's record, and a query, taken from the numbers that a caller in C or Rust lends.
 use record_layout::BLOCK_ROWS;
+use record_layout::CARD;
 use record_layout::FIELD_DEPTH;
 use record_layout::FIELD_ROWS;
 use record_layout::FIELD_WEIGHT;
@@ -17,25 +18,34 @@ use record_layout::TRIM_ROWS;
 use record_layout::TRIM_WEIGHT;
 use record_layout::WORD;
 use rules::Counts;
+use rules::FieldKind;
 use rules::FieldRows;
 use rules::FieldWeight;
+use rules::Kinds;
 use rules::PLACES;
 use rules::Pair;
 use rules::Query;
 use rules::Session;
+use rules::TrimKind;
 use rules::TrimRows;
 use rules::TrimWeight;
+use rules::TwoTables;
 use rules::Weights;
 ghost use mathlib.Core.Path.{_≡_};
 ghost use Prim.Native.Nat.{_≤_, _<_};
 ghost use lib.ListN.{length, getD, replicate};
 ghost use Rattle.rules.specs.Session.{noPair, placeCount};
-ghost use Rattle.record_layout.specs.Flat.{joinedAt, flatSize, word, queryWith, queryIn, pairIn, withPairs, unflatten};
+ghost use Rattle.record_layout.specs.Flat.{joinedAt, flatSize, word, queryWith, queryIn, kindsIn};
+ghost use Rattle.record_layout.specs.Flat.{pairIn, withPairs, unflatten};
 
-// The two weights of a lent query, behind k, block and radius.
+// The two weights of a lent query, behind k, block and radius, and the tables' two kinds.
 const FIELD_WEIGHT_IN_QUERY: usize = 3;
 
 const TRIM_WEIGHT_IN_QUERY: usize = 4;
+
+const FIELD_KIND_IN_QUERY: usize = 5;
+
+const TRIM_KIND_IN_QUERY: usize = 6;
 
 // Number i, another past the end.
 fn number_or(l: &[u32], i: usize, otherwise: u32) -> u32
@@ -70,6 +80,16 @@ pub fn query_in(l: &[u32]) -> Query
     query_with(l, weights)
 }
 
+// The kinds behind a lent query's weights; a kind that is not lent is 1 for field and 2 for trim.
+pub fn kinds_in(l: &[u32]) -> Kinds
+    ensures { λ r. ⌜ r ≡ kindsIn (now (l .entry)) ⌝ }
+{
+    Kinds {
+        field: FieldKind(number_or(l, FIELD_KIND_IN_QUERY, 1)),
+        trim: TrimKind(number_or(l, TRIM_KIND_IN_QUERY, 2)),
+    }
+}
+
 // Pair place i + 1.
 fn pair_in(l: &[u32], i: usize) -> Pair
     requires { ⌜ (i < placeCount) × (flatSize ≤ length (now l)) ⌝ }
@@ -94,9 +114,10 @@ fn head_in(l: &[u32]) -> Session
         trim: TrimWeight(l[TRIM_WEIGHT]),
     };
     let query = query_with(l, weights);
-    let rows = Counts {
+    let rows = TwoTables {
         field: FieldRows(l[FIELD_ROWS]),
         trim: TrimRows(l[TRIM_ROWS]),
+        card: l[CARD],
     };
     let depth = Counts {
         field: FieldRows(l[FIELD_DEPTH]),
@@ -117,7 +138,7 @@ fn head_in(l: &[u32]) -> Session
     }
 }
 
-// The record that the first 206 numbers are, whatever they are. Its places are filled where they stand.
+// The record that the first 207 numbers are, whatever they are. Its places are filled where they stand.
 pub fn unpack(l: &[u32]) -> Session
     requires { ⌜ flatSize ≤ length (now l) ⌝ }
     ensures { λ r. ⌜ r ≡ unflatten (now (l .entry)) ⌝ }

@@ -7,18 +7,21 @@ use lib.Dec.{leb, ltb, eqb}
 use lib.IntN.{ℤ}
 use lib.ListN.{drop}
 use Rattle.lists.specs.Lists.{every, all, ranked}
+use Rattle.rules.specs.declared.Card.the-variants.{Old, New}
 use Rattle.rules.specs.declared.Pair.{Pair}
 use Rattle.rules.specs.declared.Query.{Query}
 use Rattle.rules.specs.declared.Session.{Session}
 use Rattle.rules.specs.declared.Step.{Step}
 use Rattle.rules.specs.declared.Answer.{Answer}
 use Rattle.rules.specs.declared.Answer.the-variants.{Refused, Opened, Read, Settled, Given, NotYet, Finished}
-use Rattle.rules.specs.Tables.{Terms, terms, width, mostRows, rowCount, rowInRange, rowInOrder, sizeFits, ahead}
-use Rattle.rules.specs.Session.{opened, zeros, heldPairs, settledBy}
+use Rattle.rules.specs.Tables.{Table, coordinates, Terms, terms, width, mostRows, rowCount, rowInRange}
+use Rattle.rules.specs.Tables.{rowInOrder}
+use Rattle.rules.specs.Tables.{sizeFits, ahead}
+use Rattle.rules.specs.Session.{twoTables, opened, zeros, heldPairs, settledBy}
 use Rattle.rules.specs.Read.{blockCount, fieldNextBy, oldDepth, newDepth, readBlockBy}
 use Rattle.rules.specs.Take.{firstHeld, givesPairBy, movedOut, finished, lastBlock, shownRows}
 use Rattle.rules.specs.Numbers.{listLength, blockSize, radiusRange, weightRange, tableSize, badRecord, rowLimit}
-use Rattle.rules.specs.Numbers.{rowOrder, unless, first}
+use Rattle.rules.specs.Numbers.{rowOrder, wrongKind, otherCard, unless, first}
 
 abbrev pub between : ℕ → ℕ → ℕ → Bool
 between low high n = leb low n && leb n high
@@ -34,20 +37,20 @@ queryCode q =
     ∷ unless (between 1 9 (q .weights .trim .0)) weightRange
     ∷ [])
 
--- 4, at opening: "slice length not a multiple of 4, more than 65,535 rows"
-unfoldable pub sizeCode : List ℤ → ℕ
+-- 4, at opening: "slice length not a multiple of" a row's numbers, "more than 65,535 rows"
+unfoldable pub sizeCode : Table → ℕ
 sizeCode t = unless (sizeFits t) tableSize
 
 -- 4, later: "or a row count other than at opening"
-unfoldable pub sameSizeCode : ℕ → List ℤ → ℕ
+unfoldable pub sameSizeCode : ℕ → Table → ℕ
 sameSizeCode rows t = unless (sizeFits t && eqb (rowCount t) rows) tableSize
 
 -- 6 and 7 for row i + 1: "6 before 7"
-unfoldable pub rowCode : List ℤ → ℕ → ℕ
+unfoldable pub rowCode : Table → ℕ → ℕ
 rowCode t i = first (unless (rowInRange t i) rowLimit ∷ unless (rowInOrder t i) rowOrder ∷ [])
 
 -- "6 and 7 .. row by row": rows a + 1 to a + n
-unfoldable pub rowsCode : List ℤ → ℕ → ℕ → ℕ
+unfoldable pub rowsCode : Table → ℕ → ℕ → ℕ
 rowsCode t a zero = 0
 rowsCode t a (suc n) = first (rowsCode t a n ∷ rowCode t (a + n) ∷ [])
 
@@ -77,6 +80,10 @@ markFits s =
 abbrev pub isZeros : Pair → Bool
 isZeros p = eqb (p .sum) 0 && (eqb (p .field) 0 && eqb (p .trim) 0)
 
+-- 5: "a card that is neither of the two", by the number of its coordinates
+abbrev pub isCard : ℕ → Bool
+isCard n = eqb n (coordinates Old) || eqb n (coordinates New)
+
 -- 5: its grounds, in the rules' order, as tests that must all pass
 abbrev pub recordGrounds : Session → List Bool
 recordGrounds s =
@@ -90,6 +97,7 @@ recordGrounds s =
     ∷ every isZeros (drop (s .held) (s .pairs))
     ∷ leb (s .joined)
     (blockCount (s .query .block) (s .depth .field .0) * blockCount (s .query .block) (s .depth .trim .0))
+    ∷ isCard (s .rows .card)
     ∷ []
 
 unfoldable pub recordFits : Session → Bool
@@ -99,39 +107,48 @@ unfoldable pub recordCode : Session → ℕ
 recordCode s = unless (recordFits s) badRecord
 
 -- 5, 4: what show looks at, and read and take look at first
-unfoldable pub lentCode : List ℤ → List ℤ → Session → ℕ
+unfoldable pub lentCode : Table → Table → Session → ℕ
 lentCode f t s =
     first (recordCode s ∷ sameSizeCode (s .rows .field .0) f ∷ sameSizeCode (s .rows .trim .0) t ∷ [])
 
 -- "Read and take check 5, 4, then 6 and 7 over the rows up to the depths, field first"
-unfoldable pub callCode : List ℤ → List ℤ → Session → ℕ
+unfoldable pub callCode : Table → Table → Session → ℕ
 callCode f t s =
     first (lentCode f t s ∷ rowsCode f 0 (s .depth .field .0) ∷ rowsCode t 0 (s .depth .trim .0) ∷ [])
 
 -- "else it checks its new block by 6 and 7"
-unfoldable pub newBlockCodeBy : (Query → Terms) → List ℤ → List ℤ → Session → ℕ
+unfoldable pub newBlockCodeBy : (Query → Terms) → Table → Table → Session → ℕ
 newBlockCodeBy g f t s =
     let field = fieldNextBy g f t s in
     rowsCode (cond field f t) (oldDepth field s) (newDepth field s - oldDepth field s)
 
-abbrev pub newBlockCode : List ℤ → List ℤ → Session → ℕ
+abbrev pub newBlockCode : Table → Table → Session → ℕ
 newBlockCode = newBlockCodeBy terms
 
 abbrev pub step : Answer → Session → Step
 step a s = record { answer = a; session = s }
 
--- "Opening checks 1, 2, 3, 4 (field, then trim), 12 after 3; refused, its record is all zeros."
-unfoldable pub openCode : Query → List ℤ → List ℤ → ℕ
-openCode q f t = first (queryCode q ∷ sizeCode f ∷ sizeCode t ∷ [])
+-- 10: a kind that is not the table's has no card
+unfoldable pub kindCode : Table → ℕ
+kindCode t = unless (isCard (t .coordinates)) wrongKind
 
-unfoldable pub openCall : Query → List ℤ → List ℤ → Step
+-- 15, "the two tables opened .. are on different cards"
+unfoldable pub cardsCode : Table → Table → ℕ
+cardsCode f t = unless (eqb (f .coordinates) (t .coordinates)) otherCard
+
+-- "Opening checks 1, 2, 3, 4 (field, then trim), 12 after 3", 10 "just before 4", of both tables, 15 "after the 4 of
+-- both"; "refused, its record is all zeros."
+unfoldable pub openCode : Query → Table → Table → ℕ
+openCode q f t = first (queryCode q ∷ kindCode f ∷ kindCode t ∷ sizeCode f ∷ sizeCode t ∷ cardsCode f t ∷ [])
+
+unfoldable pub openCall : Query → Table → Table → Step
 openCall q f t =
-    cond (eqb (openCode q f t) 0) (step Opened (opened q (record { 0 = rowCount f }) (record { 0 = rowCount t })))
+    cond (eqb (openCode q f t) 0) (step Opened (opened q (twoTables f t)))
     (step (Refused (openCode q f t)) zeros)
 
 -- Read. "A refused read or take returns the record it was given." "In a settled session it answers "settled", reads
 -- nothing and gives back the same record."
-unfoldable pub readCallBy : (Query → Terms) → List ℤ → List ℤ → Session → Step
+unfoldable pub readCallBy : (Query → Terms) → Table → Table → Session → Step
 readCallBy g f t s =
     let new = newBlockCodeBy g f t s in
     cond (eqb (callCode f t s) 0)
@@ -139,24 +156,24 @@ readCallBy g f t s =
     (cond (eqb new 0) (step Read (readBlockBy g f t s)) (step (Refused new) s)))
     (step (Refused (callCode f t s)) s)
 
-abbrev pub readCall : List ℤ → List ℤ → Session → Step
+abbrev pub readCall : Table → Table → Session → Step
 readCall = readCallBy terms
 
 -- Take. "It answers the first held pair, if secured, and moves it out. "Finished" if .. Else "not yet". Only an
 -- answered pair changes the record."
-unfoldable pub takeCallBy : (Query → Terms) → List ℤ → List ℤ → Session → Step
+unfoldable pub takeCallBy : (Query → Terms) → Table → Table → Session → Step
 takeCallBy g f t s =
     cond (eqb (callCode f t s) 0)
     (cond (givesPairBy g f t s) (step (Given (firstHeld s)) (movedOut s))
     (cond (finished f t s) (step Finished s) (step NotYet s)))
     (step (Refused (callCode f t s)) s)
 
-abbrev pub takeCall : List ℤ → List ℤ → Session → Step
+abbrev pub takeCall : Table → Table → Session → Step
 takeCall = takeCallBy terms
 
 -- Show. "Nothing read, or a refusal by 5 or 4: the empty part at the front of the field table, and no number goes with
 -- it."
-unfoldable pub showCall : List ℤ → List ℤ → Session → List ℤ
+unfoldable pub showCall : Table → Table → Session → List ℤ
 showCall f t s = cond (eqb (lentCode f t s) 0) (shownRows f t s) []
 
 -- a place in memory, as block and byte, moved on by n numbers of four bytes each
@@ -164,10 +181,10 @@ abbrev pub movedOn : ℕ × ℕ → ℕ → ℕ × ℕ
 movedOn place n = (place .0, n * 4 + place .1)
 
 -- where what show returns stands in memory, of the places where the two lent tables stand: it is a part of one of them
-unfoldable pub showPlace : List ℤ → List ℤ → ℕ × ℕ → ℕ × ℕ → Session → ℕ × ℕ
+unfoldable pub showPlace : Table → Table → ℕ × ℕ → ℕ × ℕ → Session → ℕ × ℕ
 showPlace f t atField atTrim s =
     let b = s .query .block in
     cond (eqb (lentCode f t s) 0)
-    (cond (eqb (s .last) 1) (movedOn atField (width * lastBlock b (s .depth .field .0)))
-    (cond (eqb (s .last) 2) (movedOn atTrim (width * lastBlock b (s .depth .trim .0))) atField))
+    (cond (eqb (s .last) 1) (movedOn atField (width (f .coordinates) * lastBlock b (s .depth .field .0)))
+    (cond (eqb (s .last) 2) (movedOn atTrim (width (t .coordinates) * lastBlock b (s .depth .trim .0))) atField))
     atField

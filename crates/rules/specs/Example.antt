@@ -7,16 +7,15 @@ use mathlib.Core.Bool.{Bool, true, false, cond}
 use mathlib.Core.List.{List, [], _∷_, _++_, map}
 use lib.IntN.{ℤ, pos, negsuc}
 use lib.ListN.{getD, List·getD-map}
-use Rattle.rules.specs.declared.Shade.{Shade}
 use Rattle.rules.specs.declared.Query.{Query}
 use Rattle.rules.specs.declared.Session.{Session}
 use Rattle.rules.specs.declared.Answer.{Answer}
 use Rattle.rules.specs.Numbers.{said}
-use Rattle.rules.specs.Tables.{qualifies}
+use Rattle.rules.specs.Tables.{Table, oldTable, qualifies}
 use Rattle.rules.specs.Session.{places, ceiling}
 use Rattle.rules.specs.Calls.{openCall, readCall, takeCall}
 use Rattle.rules.specs.File.{lineFeed, columnFits, columnNumber}
-use Rattle.rules.specs.Query.{wholeQuery, settledSession, tableOf, inputQuery}
+use Rattle.rules.specs.Query.{wholeQuery, settledSession, fieldFileTable, trimFileTable, inputQuery}
 use Rattle.rules.specs.Run.{run}
 
 abbrev pub bytesFrom : String → ℕ → ℕ → List ℕ
@@ -71,11 +70,11 @@ pub worked : wholeQuery fieldFile trimFile input ≡ output
 unfolding run
 worked = refl
 
-abbrev pub fields : List ℤ
-fields = tableOf fieldFile
+abbrev pub fields : Table
+fields = fieldFileTable fieldFile
 
-abbrev pub trims : List ℤ
-trims = tableOf trimFile
+abbrev pub trims : Table
+trims = trimFileTable trimFile
 
 abbrev pub query : Query
 query = inputQuery input
@@ -85,8 +84,8 @@ unfoldable pub afterReads : ℕ → Session
 afterReads zero = openCall query fields trims .session
 afterReads (suc n) = readCall fields trims (afterReads n) .session
 
-abbrev pub shade : ℤ → ℤ → Shade
-shade a b = record { a = a; b = b }
+abbrev pub shade : ℤ → ℤ → List ℤ
+shade a b = a ∷ b ∷ []
 
 -- what an entry of the table finds: whether it holds, a number, or what a take answers (2 and the pair's sum and rows;
 -- 4 is finished)
@@ -114,7 +113,7 @@ abbrev five : Session
 five =
     record {
       query = query;
-      rows = record { field = record { 0 = 5 }; trim = record { 0 = 5 } };
+      rows = record { field = record { 0 = 5 }; trim = record { 0 = 5 }; card = 2 };
       depth = record { field = record { 0 = 3 }; trim = record { 0 = 2 } };
       last = 1;
       out = 0;
@@ -141,7 +140,7 @@ tableAt s =
     ∷ entry (pos (ceiling fields trims s) ∷ []) (pos 140 ∷ [])
     ∷ entry (told (takeCall fields trims s .answer)) (pos 2 ∷ pos 140 ∷ pos 1 ∷ pos 2 ∷ [])
     ∷ entry (account (settledSession query fields trims)) (pos 4 ∷ pos 4 ∷ pos 10 ∷ [])
-    ∷ entry (told (takeCall [] trims (openCall query [] trims .session) .answer)) (pos 4 ∷ [])
+    ∷ entry (told (takeCall (oldTable []) trims (openCall query (oldTable []) trims .session) .answer)) (pos 4 ∷ [])
     ∷ []
 
 pub table : List Entry

@@ -1,14 +1,14 @@
 -- docs/RULES.md, "The strict file". Definitions only. Assumes nothing.
 use Prim.Native.Nat.{ℕ, zero, suc, _+_, _*_, _-_}
 use mathlib.Core.Bool.{Bool, true, false, cond, _&&_, not}
-use mathlib.Core.List.{List, [], _∷_, _++_}
+use mathlib.Core.List.{List, [], _∷_, _++_, map}
 use lib.Dec.{leb, ltb, eqb}
 use lib.IntN.{ℤ, pos, negℤ}
 use lib.ListN.{length, getD, take, drop}
 use Rattle.lists.specs.Lists.{every, range, each}
 use Rattle.rules.specs.declared.Loaded.{Loaded}
 use Rattle.rules.specs.declared.Loaded.the-variants.{Rows, Unfit}
-use Rattle.rules.specs.Tables.{width, afterRows, mostRows, natOf}
+use Rattle.rules.specs.Tables.{Table, table, kindCoordinates, width, afterRows, mostRows, natOf}
 use Rattle.rules.specs.Numbers.{tableSize, cutFile, badColumn, wrongKind, shortSlice, unless, first, saidOf}
 use Rattle.rules.specs.Numbers.{signed}
 use Rattle.rules.specs.Calls.{between, rowCode}
@@ -75,9 +75,22 @@ columns bytes o w = take w (drop o bytes)
 abbrev pub headerBytes : ℕ
 headerBytes = 13
 
--- "Each row, 27 bytes"
-abbrev pub rowBytes : ℕ
-rowBytes = 27
+-- A row's columns, number j of a row in the one of its place: "pattern number 1-6, score 7-12, a 13-19, b 20-26", and
+-- "L .. in columns 27-32". "In a and b a minus may precede the digits".
+abbrev pub isSigned : ℕ → Bool
+isSigned j = between 2 3 j
+
+abbrev pub columnBytes : ℕ → ℕ
+columnBytes j = cond (isSigned j) 7 6
+
+-- how many bytes the columns before it have
+unfoldable pub columnStart : ℕ → ℕ
+columnStart zero = 0
+columnStart (suc j) = columnStart j + columnBytes j
+
+-- the bytes of a row on a card of n coordinates: its columns, and LF
+unfoldable pub rowBytes : ℕ → ℕ
+rowBytes n = columnStart (width n) + 1
 
 abbrev pub endsLine : List ℕ → ℕ → Bool
 endsLine bytes o = eqb (getD bytes o 0) lineFeed
@@ -94,52 +107,57 @@ unfoldable pub fileKind : List ℕ → ℕ
 fileKind bytes = natOf (columnNumber false (columns bytes 6 6))
 
 -- where row i + 1 begins
-abbrev pub rowStart : ℕ → ℕ
-rowStart i = headerBytes + rowBytes * i
+abbrev pub rowStart : ℕ → ℕ → ℕ
+rowStart n i = headerBytes + rowBytes n * i
 
--- "pattern number 1-6, score 7-12, a 13-19, b 20-26, LF"
-unfoldable pub rowColumnsFit : List ℕ → ℕ → Bool
-rowColumnsFit bytes i =
-    let o = rowStart i in
-    columnFits false (columns bytes o 6)
-    && (columnFits false (columns bytes (o + 6) 6)
-    && (columnFits true (columns bytes (o + 12) 7)
-    && (columnFits true (columns bytes (o + 19) 7) && endsLine bytes (o + 26))))
+-- the bytes of number j of the row that begins at o; whether they are formed as they must be, and the number
+abbrev pub columnAt : List ℕ → ℕ → ℕ → List ℕ
+columnAt bytes o j = columns bytes (o + columnStart j) (columnBytes j)
 
--- the four numbers of row i + 1
-unfoldable pub rowNumbers : List ℕ → ℕ → List ℤ
-rowNumbers bytes i =
-    let o = rowStart i in
-    columnNumber false (columns bytes o 6)
-    ∷ columnNumber false (columns bytes (o + 6) 6)
-    ∷ columnNumber true (columns bytes (o + 12) 7)
-    ∷ columnNumber true (columns bytes (o + 19) 7)
-    ∷ []
+unfoldable pub columnFitsAt : List ℕ → ℕ → ℕ → Bool
+columnFitsAt bytes o j = columnFits (isSigned j) (columnAt bytes o j)
 
--- the first n rows, as a table
-unfoldable pub fileTable : List ℕ → ℕ → List ℤ
-fileTable bytes n = each (rowNumbers bytes) (range 0 n)
+unfoldable pub numberAt : List ℕ → ℕ → ℕ → ℤ
+numberAt bytes o j = columnNumber (isSigned j) (columnAt bytes o j)
+
+-- row i + 1: its columns, then LF
+unfoldable pub rowColumnsFit : ℕ → List ℕ → ℕ → Bool
+rowColumnsFit n bytes i =
+    let o = rowStart n i in
+    every (columnFitsAt bytes o) (range 0 (width n)) && endsLine bytes (o + columnStart (width n))
+
+-- its numbers
+unfoldable pub rowNumbers : ℕ → List ℕ → ℕ → List ℤ
+rowNumbers n bytes i = map (numberAt bytes (rowStart n i)) (range 0 (width n))
+
+-- the first m rows, as a table
+unfoldable pub fileTable : ℕ → List ℕ → ℕ → Table
+fileTable n bytes m = table n (each (rowNumbers n bytes) (range 0 m))
 
 -- "each row by 9, 6, 7": row i + 1, t being the file's table
-unfoldable pub fileRowCode : List ℕ → List ℤ → ℕ → ℕ
-fileRowCode bytes t i = first (unless (rowColumnsFit bytes i) badColumn ∷ rowCode t i ∷ [])
+unfoldable pub fileRowCode : List ℕ → Table → ℕ → ℕ
+fileRowCode bytes t i = first (unless (rowColumnsFit (t .coordinates) bytes i) badColumn ∷ rowCode t i ∷ [])
 
 -- the answer where row n + 1 follows rows that were answered so: "Refusals 6, 7, 9 add the row number"
-unfoldable pub andRow : List ℕ → List ℤ → ℕ → Loaded → Loaded
+unfoldable pub andRow : List ℕ → Table → ℕ → Loaded → Loaded
 andRow bytes t n (Rows m) = cond (eqb (fileRowCode bytes t n) 0) (Rows (n + 1)) (Unfit (fileRowCode bytes t n) (n + 1))
 andRow bytes t n (Unfit code row) = Unfit code row
 
 -- the first n rows
-unfoldable pub rowsLoaded : List ℕ → List ℤ → ℕ → Loaded
+unfoldable pub rowsLoaded : List ℕ → Table → ℕ → Loaded
 rowsLoaded bytes t zero = Rows 0
 rowsLoaded bytes t (suc n) = andRow bytes t n (rowsLoaded bytes t n)
 
--- "kind (10)": "header's kind isn't the one wanted, or the wanted one isn't 1 or 2"
+-- "kind (10)": "header's kind isn't the one wanted, or the wanted one isn't" 1 to 4
 unfoldable pub kindFits : List ℕ → ℤ → Bool
-kindFits bytes kind = between 1 2 (natOf kind) && eqb (fileKind bytes) (natOf kind)
+kindFits bytes kind = between 1 4 (natOf kind) && eqb (fileKind bytes) (natOf kind)
+
+-- how many coordinates the wanted kind's card has
+abbrev pub wanted : ℤ → ℕ
+wanted kind = kindCoordinates (natOf kind)
 
 -- "Order: fewer than 13 bytes (8); header columns or LF (9); kind (10); count above 65,535 (4); length other than
--- 13 + 27 × count (8)"
+-- 13 + 27 × count (8)", or 33
 unfoldable pub headCode : List ℕ → ℤ → ℕ
 headCode bytes kind =
     first
@@ -147,31 +165,32 @@ headCode bytes kind =
     ∷ unless (headerFits bytes) badColumn
     ∷ unless (kindFits bytes kind) wrongKind
     ∷ unless (leb (fileCount bytes) mostRows) tableSize
-    ∷ unless (eqb (length bytes) (rowStart (fileCount bytes))) cutFile
+    ∷ unless (eqb (length bytes) (rowStart (wanted kind) (fileCount bytes))) cutFile
     ∷ [])
 
 -- A file without a slice: these checks, which add 0, then "each row by 9, 6, 7".
 unfoldable pub checkFile : List ℕ → ℤ → Loaded
 checkFile bytes kind =
-    cond (eqb (headCode bytes kind) 0) (rowsLoaded bytes (fileTable bytes (fileCount bytes)) (fileCount bytes))
+    let count = fileCount bytes in
+    cond (eqb (headCode bytes kind) 0) (rowsLoaded bytes (fileTable (wanted kind) bytes count) count)
     (Unfit (headCode bytes kind) 0)
 
--- "then 11": the answer where a slice of so many numbers is lent
-unfoldable pub andSlice : ℕ → Loaded → Loaded
-andSlice lent (Rows n) = cond (ltb lent (width * n)) (Unfit shortSlice 0) (Rows n)
-andSlice lent (Unfit code row) = Unfit code row
+-- "then 11": the answer where a slice of so many numbers is lent, for rows of n coordinates
+unfoldable pub andSlice : ℕ → ℕ → Loaded → Loaded
+andSlice n room (Rows m) = cond (ltb room (width n * m)) (Unfit shortSlice 0) (Rows m)
+andSlice n room (Unfit code row) = Unfit code row
 
 -- the lent numbers after an answer: "the first 4 × count numbers are the rows, the rest untouched"
-unfoldable pub loadedInto : List ℕ → List ℤ → Loaded → List ℤ
-loadedInto bytes lent (Rows n) = fileTable bytes n ++ afterRows n lent
-loadedInto bytes lent (Unfit code row) = lent
+unfoldable pub loadedInto : ℕ → List ℕ → List ℤ → Loaded → List ℤ
+loadedInto n bytes out (Rows m) = fileTable n bytes m .numbers ++ afterRows m (table n out) .numbers
+loadedInto n bytes out (Unfit code row) = out
 
 -- Reading a file into a lent slice: the answer, and the slice after it
 unfoldable pub loadAnswer : List ℕ → ℤ → List ℤ → Loaded
-loadAnswer bytes kind lent = andSlice (length lent) (checkFile bytes kind)
+loadAnswer bytes kind out = andSlice (wanted kind) (length out) (checkFile bytes kind)
 
 unfoldable pub loadNumbers : List ℕ → ℤ → List ℤ → List ℤ
-loadNumbers bytes kind lent = loadedInto bytes lent (loadAnswer bytes kind lent)
+loadNumbers bytes kind out = loadedInto (wanted kind) bytes out (loadAnswer bytes kind out)
 
 -- "A check alone, without a slice and so without 11 .. returns the row count, or minus the refusal number."
 unfoldable pub checkAlone : List ℕ → ℤ → ℤ

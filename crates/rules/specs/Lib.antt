@@ -1,5 +1,6 @@
 pub mod Tables
 pub mod Widths
+pub mod Squares
 pub mod Session
 pub mod Read
 pub mod Take
@@ -15,3 +16,5 @@ pub mod Meaning
 pub mod Run
 pub mod Example
 pub mod Small
+pub mod OldCard
+pub mod CardCases

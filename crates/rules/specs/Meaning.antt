@@ -1,33 +1,31 @@
 -- What single rules mean where a slip would not show in the rules' worked query: one law a rule. Assumes nothing.
 use mathlib.Core.Path.{_≡_}
 use mathlib.Core.Bool.{true, false}
-use mathlib.Core.List.{List}
 use Prim.Native.Nat.{ℕ, _+_, _<_}
 use native.Mathlib.Omega.{arith}
 use lib.Dec.{eqb, leb}
-use lib.IntN.{ℤ}
 use borrow.Author.Tests.{lt-ltb, le-ltb, ne-eqb}
 use Rattle.lists.specs.Bools.{and-false}
 use Rattle.rules.specs.declared.Session.{Session}
-use Rattle.rules.specs.Tables.{terms, Block}
+use Rattle.rules.specs.Tables.{Table, terms, Block}
 use Rattle.rules.specs.Session.{firstScore, lastScore, fieldReadOut, trimReadOut, heldPairs, ceilingBy, ceiling}
 use Rattle.rules.specs.Read.{scoreDrop, fieldNextBy, fieldNext, lowest, skippedBy, skipped}
 
 -- ---- the ceiling: a table that is read out has no part in it
 
-pub ceiling-trim-read-out : (f t : List ℤ) (s : Session) → trimReadOut t s ≡ true → fieldReadOut f s ≡ false →
+pub ceiling-trim-read-out : (f t : Table) (s : Session) → trimReadOut t s ≡ true → fieldReadOut f s ≡ false →
     ceiling f t s ≡ lastScore (terms (s .query) .field) f (s .depth .field .0) + firstScore (terms (s .query) .trim) t
 unfolding ceilingBy
 ceiling-trim-read-out f t s h k = simp (h, k) (omega arith)
 
-pub ceiling-field-read-out : (f t : List ℤ) (s : Session) → trimReadOut t s ≡ false → fieldReadOut f s ≡ true →
+pub ceiling-field-read-out : (f t : Table) (s : Session) → trimReadOut t s ≡ false → fieldReadOut f s ≡ true →
     ceiling f t s ≡ firstScore (terms (s .query) .field) f + lastScore (terms (s .query) .trim) t (s .depth .trim .0)
 unfolding ceilingBy
 ceiling-field-read-out f t s h k = simp (h, k) (omega arith)
 
 -- ---- the table read next, both having been read and neither to its end
 
-module _ (f t : List ℤ) (s : Session) (p : 0 < s .depth .field .0) (q : 0 < s .depth .trim .0)
+module _ (f t : Table) (s : Session) (p : 0 < s .depth .field .0) (q : 0 < s .depth .trim .0)
     (h : trimReadOut t s ≡ false) (k : fieldReadOut f s ≡ false) where
   abbrev d : ℕ
   d = s .depth .field .0

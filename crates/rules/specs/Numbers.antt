@@ -45,9 +45,12 @@ shortSlice = 11
 abbrev pub weightRange : ℕ
 weightRange = 12
 
+abbrev pub otherCard : ℕ
+otherCard = 15
+
 -- a number of the table, or 0
 abbrev pub IsRefusal : ℕ → Type 0
-IsRefusal n = n ≤ weightRange
+IsRefusal n = n ≤ otherCard
 
 -- number n, unless the test passes
 abbrev pub unless : Bool → ℕ → ℕ

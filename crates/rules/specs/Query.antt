@@ -1,24 +1,24 @@
 -- docs/RULES.md, "One whole query": two files and the input as bytes in, the listing as bytes out. Definitions only.
 -- Assumes nothing.
 use Prim.Native.Nat.{ℕ, zero, suc, _+_, _-_, _/_, _%_}
-use mathlib.Core.Bool.{Bool, true, false, _&&_}
+use mathlib.Core.Bool.{Bool, true, false, cond, _&&_}
 use mathlib.Core.List.{List, [], _∷_, _++_}
 use lib.Dec.{leb, ltb, eqb}
 use lib.IntN.{ℤ, pos}
-use lib.ListN.{length, replicate}
+use lib.ListN.{length, getD, replicate}
 use Rattle.rules.specs.declared.Pair.{Pair}
 use Rattle.rules.specs.declared.Query.{Query}
 use Rattle.rules.specs.declared.Session.{Session}
 use Rattle.rules.specs.declared.Step.{Step}
 use Rattle.rules.specs.declared.Answer.{Answer}
-use Rattle.rules.specs.Tables.{natOf, row, squaredDistance}
+use Rattle.rules.specs.Tables.{Table, kindCoordinates, natOf, row, squaredDistance}
 use Rattle.rules.specs.Session.{weights}
 use Rattle.rules.specs.Numbers.{tableSize, cutFile, badColumn, unless, first, said, saidOf, refusal}
 use Rattle.rules.specs.Calls.{openCode, openCall, readCall, takeCall}
 use Rattle.rules.specs.File.{blank, lineFeed, columns, columnFits, columnNumber, endsLine, fileCount, fileTable}
-use Rattle.rules.specs.File.{checkFile}
+use Rattle.rules.specs.File.{rowStart, checkFile}
 use Rattle.rules.specs.Root.{root, remainder}
-use Rattle.lists.specs.Lists.{all}
+use Rattle.lists.specs.Lists.{all, every}
 
 -- the answer that a block was read
 abbrev pub wasRead : Answer → Bool
@@ -31,7 +31,7 @@ readUntilSettledBy read (suc n) s =
     let r = read s in
     elim (wasRead (r .answer)) [ true ↦ readUntilSettledBy read n (r .session) | false ↦ s ]
 
-abbrev pub readUntilSettled : ℕ → List ℤ → List ℤ → Session → Session
+abbrev pub readUntilSettled : ℕ → Table → Table → Session → Session
 readUntilSettled n f t = readUntilSettledBy (readCall f t) n
 
 -- the pair that three values are
@@ -55,17 +55,17 @@ takeUntilFinishedBy take (suc n) s =
     let r = take s in
     elim (wasGiven (r .answer)) [ true ↦ given (r .answer) ++ takeUntilFinishedBy take n (r .session) | false ↦ [] ]
 
-abbrev pub takeUntilFinished : ℕ → List ℤ → List ℤ → Session → List Pair
+abbrev pub takeUntilFinished : ℕ → Table → Table → Session → List Pair
 takeUntilFinished n f t = takeUntilFinishedBy (takeCall f t) n
 
 -- the record when it is settled; each read reads a row at least, so that the bound is never what ends it
-unfoldable pub settledSession : Query → List ℤ → List ℤ → Session
+unfoldable pub settledSession : Query → Table → Table → Session
 settledSession q f t =
     let s = openCall q f t .session in
     readUntilSettled (s .rows .field .0 + s .rows .trim .0 + 1) f t s
 
 -- the list; at most k pairs come out, so that the bound is never what ends it
-unfoldable pub list : Query → List ℤ → List ℤ → List Pair
+unfoldable pub list : Query → Table → Table → List Pair
 list q f t = takeUntilFinished (q .k + 1) f t (settledSession q f t)
 
 -- a number right-justified in w columns
@@ -76,7 +76,7 @@ decimal (suc w) n =
 
 -- "Pairs: rank, sum, field number, trim number (six columns each)"; "s and the remainder, eight columns each, in place
 -- of the squared distance"
-unfoldable pub pairLine : List ℤ → List ℤ → ℕ → Pair → List ℕ
+unfoldable pub pairLine : Table → Table → ℕ → Pair → List ℕ
 pairLine f t rank p =
     let x = row f (p .field - 1) in
     let y = row t (p .trim - 1) in
@@ -87,7 +87,7 @@ pairLine f t rank p =
     ++ (decimal 6 (y .pattern) ++ (decimal 8 (root n) ++ (decimal 8 (remainder n) ++ (lineFeed ∷ []))))))
 
 -- the lines of a list whose first pair has this rank
-unfoldable pub pairLines : List ℤ → List ℤ → ℕ → List Pair → List ℕ
+unfoldable pub pairLines : Table → Table → ℕ → List Pair → List ℕ
 pairLines f t rank [] = []
 pairLines f t rank (p ∷ l) = pairLine f t rank p ++ pairLines f t (rank + 1) l
 
@@ -101,17 +101,35 @@ lastLine s =
     decimal 6 (s .depth .field .0)
     ++ (decimal 6 (s .depth .trim .0) ++ (decimal 12 (s .joined) ++ (lineFeed ∷ [])))
 
-unfoldable pub listing : Query → List ℤ → List ℤ → List ℕ
+unfoldable pub listing : Query → Table → Table → List ℕ
 listing q f t = queryLine q ++ (pairLines f t 1 (list q f t) ++ lastLine (settledSession q f t))
 
--- "A file above 13,837 bytes": 512 rows
-abbrev pub mostFileBytes : ℕ
-mostFileBytes = 13837
+-- "where columns 7-12 are five spaces and that digit, the file is read as that kind .. every other file is read as kind
+-- 1 or 2": as kind `new` or as kind `old`
+abbrev pub peeked : ℕ → List ℕ → Bool
+peeked kind bytes = every (eqb blank) (columns bytes 6 5) && eqb (getD bytes 11 0) (48 + kind)
+
+unfoldable pub programKind : ℕ → ℕ → List ℕ → ℕ
+programKind old new bytes = cond (peeked new bytes) new old
+
+-- FIELD.TAB's kind, and TRIM.TAB's
+abbrev pub fieldFileKind : List ℕ → ℕ
+fieldFileKind = programKind 1 3
+
+abbrev pub trimFileKind : List ℕ → ℕ
+trimFileKind = programKind 2 4
+
+-- "A file above 13,837 bytes", 16,909 on the new card: 512 rows
+abbrev pub mostFileBytes : ℕ → ℕ
+mostFileBytes n = rowStart n 512
 
 -- it "is 4 before any other check of it"
-unfoldable pub programFileCode : List ℕ → ℤ → ℕ
+unfoldable pub programFileCode : List ℕ → ℕ → ℕ
 programFileCode bytes kind =
-    first (unless (leb (length bytes) mostFileBytes) tableSize ∷ refusal (saidOf (checkFile bytes kind)) ∷ [])
+    first
+    (unless (leb (length bytes) (mostFileBytes (kindCoordinates kind))) tableSize
+    ∷ refusal (saidOf (checkFile bytes (pos kind)))
+    ∷ [])
 
 -- "k, block, radius, six columns each, then LF"
 abbrev pub inputLength : ℕ
@@ -141,9 +159,16 @@ inputQuery input =
       weights = weights 1 1;
     }
 
--- the table of an accepted file
-abbrev pub tableOf : List ℕ → List ℤ
-tableOf bytes = fileTable bytes (fileCount bytes)
+-- the table of an accepted file, read as that kind
+abbrev pub tableOf : ℕ → List ℕ → Table
+tableOf kind bytes = fileTable (kindCoordinates kind) bytes (fileCount bytes)
+
+-- the program's two tables
+abbrev pub fieldFileTable : List ℕ → Table
+fieldFileTable bytes = tableOf (fieldFileKind bytes) bytes
+
+abbrev pub trimFileTable : List ℕ → Table
+trimFileTable bytes = tableOf (trimFileKind bytes) bytes
 
 -- "A refusal prints its number alone, in six columns, and LF."
 unfoldable pub refusalLine : ℕ → List ℕ
@@ -153,10 +178,10 @@ refusalLine code = decimal 6 code ++ (lineFeed ∷ [])
 unfoldable pub wholeQueryCode : List ℕ → List ℕ → List ℕ → ℕ
 wholeQueryCode field trim input =
     first
-    (programFileCode field (pos 1)
-    ∷ programFileCode trim (pos 2)
+    (programFileCode field (fieldFileKind field)
+    ∷ programFileCode trim (trimFileKind trim)
     ∷ inputCode input
-    ∷ openCode (inputQuery input) (tableOf field) (tableOf trim)
+    ∷ openCode (inputQuery input) (fieldFileTable field) (trimFileTable trim)
     ∷ [])
 
 -- what the pairing program prints
@@ -164,6 +189,6 @@ unfoldable pub wholeQuery : List ℕ → List ℕ → List ℕ → List ℕ
 wholeQuery field trim input =
     let code = wholeQueryCode field trim input in
     elim (eqb code 0) [
-      | true ↦ listing (inputQuery input) (tableOf field) (tableOf trim)
+      | true ↦ listing (inputQuery input) (fieldFileTable field) (trimFileTable trim)
       | false ↦ refusalLine code
     ]

@@ -3,23 +3,22 @@ use Prim.Native.Nat.{ℕ, zero, suc, _+_, _*_, _-_, _/_, min}
 use mathlib.Core.Bool.{Bool, true, false, cond, _&&_}
 use mathlib.Core.List.{List, [], _∷_, _++_}
 use lib.Dec.{leb, ltb, eqb}
-use lib.IntN.{ℤ}
 use lib.ListN.{length, take}
 use Rattle.lists.specs.Lists.{sort}
 use Rattle.rules.specs.declared.Pair.{Pair}
 use Rattle.rules.specs.declared.Query.{Query}
 use Rattle.rules.specs.declared.Session.{Session}
-use Rattle.rules.specs.Tables.{Row, Terms, terms, part, ahead, Block, qualifying}
+use Rattle.rules.specs.Tables.{Table, Row, Terms, terms, part, ahead, Block, qualifying}
 use Rattle.rules.specs.Session.{places, heldPairs, firstScore, lastScore, fieldReadOut, trimReadOut}
 
 -- "the .. drop (HF - LF against HT - LT)"
-abbrev pub scoreDrop : (Row → ℕ) → List ℤ → ℕ → ℕ
+abbrev pub scoreDrop : (Row → ℕ) → Table → ℕ → ℕ
 scoreDrop score t depth = firstScore score t - lastScore score t depth
 
 -- Whether the field table is read next. "it chooses the field table if its depth is 0; else trim if its depth is 0;
 -- else the one not read out, if the other is. Else it takes the table with the smaller drop, at equal drops the one
 -- with fewer rows read, and still equal the field table."
-unfoldable pub fieldNextBy : (Query → Terms) → List ℤ → List ℤ → Session → Bool
+unfoldable pub fieldNextBy : (Query → Terms) → Table → Table → Session → Bool
 fieldNextBy g f t s =
     let d = s .depth .field .0 in
     let e = s .depth .trim .0 in
@@ -33,7 +32,7 @@ fieldNextBy g f t s =
     (cond (ltb y x) false
     (leb d e))))))
 
-abbrev pub fieldNext : List ℤ → List ℤ → Session → Bool
+abbrev pub fieldNext : Table → Table → Session → Bool
 fieldNext = fieldNextBy terms
 
 -- "It reads one block, or the rows that remain": the depth after
@@ -41,7 +40,7 @@ abbrev pub nextDepth : ℕ → ℕ → ℕ → ℕ
 nextDepth block rows depth = min (depth + block) rows
 
 -- rows a + 1 to e of a table
-abbrev pub rowsBetween : List ℤ → ℕ → ℕ → Block
+abbrev pub rowsBetween : Table → ℕ → ℕ → Block
 rowsBetween t a e = record { start = a; rows = part t a (e - a) }
 
 -- how many blocks the first `depth` rows are, a short last one included
@@ -49,7 +48,7 @@ abbrev pub blockCount : ℕ → ℕ → ℕ
 blockCount block depth = (depth + block - 1) / block
 
 -- block i + 1 of the first `depth` rows of a table
-abbrev pub blockAt : List ℤ → ℕ → ℕ → ℕ → Block
+abbrev pub blockAt : Table → ℕ → ℕ → ℕ → Block
 blockAt t block depth i = rowsBetween t (i * block) (min (i * block + block) depth)
 
 -- "the lowest held sum"
@@ -96,14 +95,14 @@ meet = meetBy terms
 
 -- The new block "meets the blocks already read of the other table in their order": the first n of them. The flag says
 -- whether the new block is of the field table.
-unfoldable pub meetBlocksBy : (Query → Terms) → Bool → Session → Block → List ℤ → ℕ → ℕ → Session
+unfoldable pub meetBlocksBy : (Query → Terms) → Bool → Session → Block → Table → ℕ → ℕ → Session
 meetBlocksBy g field s new t depth zero = s
 meetBlocksBy g field s new t depth (suc n) =
     let r = meetBlocksBy g field s new t depth n in
     let old = blockAt t (s .query .block) depth n in
     meetBy g r (cond field new old) (cond field old new)
 
-abbrev pub meetBlocks : Bool → Session → Block → List ℤ → ℕ → ℕ → Session
+abbrev pub meetBlocks : Bool → Session → Block → Table → ℕ → ℕ → Session
 meetBlocks = meetBlocksBy terms
 
 -- the record with one table read down to depth e, and marked as the table read last
@@ -132,19 +131,19 @@ abbrev pub newDepth : Bool → Session → ℕ
 newDepth field s = nextDepth (s .query .block) (cond field (s .rows .field .0) (s .rows .trim .0)) (oldDepth field s)
 
 -- the record after one block of the field table, or of the trim table, was read and met the other table's
-unfoldable pub readTableBy : (Query → Terms) → Bool → List ℤ → List ℤ → Session → Session
+unfoldable pub readTableBy : (Query → Terms) → Bool → Table → Table → Session → Session
 readTableBy g field f t s =
     let new = rowsBetween (cond field f t) (oldDepth field s) (newDepth field s) in
     let depth = cond field (s .depth .trim .0) (s .depth .field .0) in
     readTo field (newDepth field s)
     (meetBlocksBy g field s new (cond field t f) depth (blockCount (s .query .block) depth))
 
-abbrev pub readTable : Bool → List ℤ → List ℤ → Session → Session
+abbrev pub readTable : Bool → Table → Table → Session → Session
 readTable = readTableBy terms
 
 -- the record after an unsettled session's read
-abbrev pub readBlockBy : (Query → Terms) → List ℤ → List ℤ → Session → Session
+abbrev pub readBlockBy : (Query → Terms) → Table → Table → Session → Session
 readBlockBy g f t s = readTableBy g (fieldNextBy g f t s) f t s
 
-abbrev pub readBlock : List ℤ → List ℤ → Session → Session
+abbrev pub readBlock : Table → Table → Session → Session
 readBlock = readBlockBy terms

@@ -6,13 +6,12 @@ use lib.Dec.{leb, ltb, eqb}
 use lib.IntN.{ℤ}
 use lib.ListN.{length, take, replicate}
 use Rattle.lists.specs.Lists.{every}
-use Rattle.rules.specs.declared.FieldRows.{FieldRows}
-use Rattle.rules.specs.declared.TrimRows.{TrimRows}
+use Rattle.rules.specs.declared.TwoTables.{TwoTables}
 use Rattle.rules.specs.declared.Pair.{Pair}
 use Rattle.rules.specs.declared.Weights.{Weights}
 use Rattle.rules.specs.declared.Query.{Query}
 use Rattle.rules.specs.declared.Session.{Session}
-use Rattle.rules.specs.Tables.{Row, row, withdrawn, Terms, terms}
+use Rattle.rules.specs.Tables.{Table, table, rowCount, Row, row, withdrawn, Terms, terms}
 
 abbrev pub noPair : Pair
 noPair = record { sum = 0; field = 0; trim = 0 }
@@ -25,12 +24,21 @@ placeCount = 64
 unfoldable pub places : List Pair → List Pair
 places l = l ++ replicate (placeCount - length l) noPair
 
--- "Opening gives a record with nothing read": of a query and the tables' row counts
-unfoldable pub opened : Query → FieldRows → TrimRows → Session
-opened q m n =
+-- what opening fixes of two tables: their row counts, and "keeps the card in the record"
+abbrev pub twoTables : Table → Table → TwoTables
+twoTables f t =
+    record { field = record { 0 = rowCount f }; trim = record { 0 = rowCount t }; card = f .coordinates }
+
+-- lent numbers as a table, on a record's card
+abbrev pub lentTable : Session → List ℤ → Table
+lentTable s l = table (s .rows .card) l
+
+-- "Opening gives a record with nothing read": of a query and two tables
+unfoldable pub opened : Query → TwoTables → Session
+opened q tables =
     record {
       query = q;
-      rows = record { field = m; trim = n };
+      rows = tables;
       depth = record { field = record { 0 = 0 }; trim = record { 0 = 0 } };
       last = 0;
       out = 0;
@@ -45,7 +53,9 @@ weights v w = record { field = record { 0 = v }; trim = record { 0 = w } }
 
 -- "its record is all zeros"
 unfoldable pub zeros : Session
-zeros = opened (record { k = 0; block = 0; radius = 0; weights = weights 0 0 }) (record { 0 = 0 }) (record { 0 = 0 })
+zeros =
+    opened (record { k = 0; block = 0; radius = 0; weights = weights 0 0 })
+    (record { field = record { 0 = 0 }; trim = record { 0 = 0 }; card = 0 })
 
 -- "pairs held (at most k less those out, ranked ..)": those in the first places
 abbrev pub heldPairs : Session → List Pair
@@ -54,37 +64,37 @@ heldPairs s = take (s .held) (s .pairs)
 -- Scores below are what a row adds to a sum: of one table's rows, by its terms.
 
 -- "HF and HT are the scores of the first rows"
-abbrev pub firstScore : (Row → ℕ) → List ℤ → ℕ
+abbrev pub firstScore : (Row → ℕ) → Table → ℕ
 firstScore score t = score (row t 0)
 
 -- "LF and LT those of the last rows read"
-abbrev pub lastScore : (Row → ℕ) → List ℤ → ℕ → ℕ
+abbrev pub lastScore : (Row → ℕ) → Table → ℕ → ℕ
 lastScore score t depth = score (row t (depth - 1))
 
 -- whether a withdrawn row is among the first n of a table
-unfoldable pub withdrawnWithin : List ℤ → ℕ → Bool
+unfoldable pub withdrawnWithin : Table → ℕ → Bool
 withdrawnWithin t zero = false
 withdrawnWithin t (suc n) = withdrawnWithin t n || withdrawn (row t n)
 
 -- "read out", of a table, its row count and a depth: all its rows are read; "Because scores fall, a table counts as
 -- read out .. once a row of score 0 has been read"
-unfoldable pub readOut : List ℤ → ℕ → ℕ → Bool
+unfoldable pub readOut : Table → ℕ → ℕ → Bool
 readOut t rows depth = eqb depth rows || withdrawnWithin t depth
 
 -- "empty", of the same: it has no rows; "and as empty once such a first row has been read"
-unfoldable pub isEmpty : List ℤ → ℕ → ℕ → Bool
+unfoldable pub isEmpty : Table → ℕ → ℕ → Bool
 isEmpty t rows depth = eqb rows 0 || (ltb 0 depth && withdrawn (row t 0))
 
-abbrev pub fieldReadOut : List ℤ → Session → Bool
+abbrev pub fieldReadOut : Table → Session → Bool
 fieldReadOut f s = readOut f (s .rows .field .0) (s .depth .field .0)
 
-abbrev pub trimReadOut : List ℤ → Session → Bool
+abbrev pub trimReadOut : Table → Session → Bool
 trimReadOut t s = readOut t (s .rows .trim .0) (s .depth .trim .0)
 
-abbrev pub bothReadOut : List ℤ → List ℤ → Session → Bool
+abbrev pub bothReadOut : Table → Table → Session → Bool
 bothReadOut f t s = fieldReadOut f s && trimReadOut t s
 
-abbrev pub aTableIsEmpty : List ℤ → List ℤ → Session → Bool
+abbrev pub aTableIsEmpty : Table → Table → Session → Bool
 aTableIsEmpty f t s =
     isEmpty f (s .rows .field .0) (s .depth .field .0) || isEmpty t (s .rows .trim .0) (s .depth .trim .0)
 
@@ -96,34 +106,34 @@ aDepthIsZero s = eqb (s .depth .field .0) 0 || eqb (s .depth .trim .0) 0
 
 -- "Ceiling: the higher of HF + LT, if trim rows are unread, and LF + HT, if field rows are unread."
 -- The threshold that a held pair is judged by; a part that is not there counts as 0.
-unfoldable pub ceilingBy : (Query → Terms) → List ℤ → List ℤ → Session → ℕ
+unfoldable pub ceilingBy : (Query → Terms) → Table → Table → Session → ℕ
 ceilingBy g f t s =
     let w = g (s .query) in
     max
     (cond (trimReadOut t s) 0 (firstScore (w .field) f + lastScore (w .trim) t (s .depth .trim .0)))
     (cond (fieldReadOut f s) 0 (lastScore (w .field) f (s .depth .field .0) + firstScore (w .trim) t))
 
-abbrev pub ceiling : List ℤ → List ℤ → Session → ℕ
+abbrev pub ceiling : Table → Table → Session → ℕ
 ceiling = ceilingBy terms
 
 -- "While a depth is 0 and both tables have rows, nothing is secured. When both are read out, everything held is
 -- secured. Otherwise a held pair is secured if its sum is at least the ceiling."
-unfoldable pub securedBy : (Query → Terms) → List ℤ → List ℤ → Session → Pair → Bool
+unfoldable pub securedBy : (Query → Terms) → Table → Table → Session → Pair → Bool
 securedBy g f t s p =
     cond (aDepthIsZero s && not (aTableIsEmpty f t s)) false
     (cond (bothReadOut f t s) true (leb (ceilingBy g f t s) (p .sum)))
 
-abbrev pub secured : List ℤ → List ℤ → Session → Pair → Bool
+abbrev pub secured : Table → Table → Session → Pair → Bool
 secured = securedBy terms
 
 -- "Settled: a table is empty, or both are read out, or k pairs are out, or out plus held is k and every held pair
 -- is secured."
-unfoldable pub settledBy : (Query → Terms) → List ℤ → List ℤ → Session → Bool
+unfoldable pub settledBy : (Query → Terms) → Table → Table → Session → Bool
 settledBy g f t s =
     aTableIsEmpty f t s
     || (bothReadOut f t s
     || (eqb (s .out) (s .query .k)
     || (eqb (s .out + s .held) (s .query .k) && every (securedBy g f t s) (heldPairs s))))
 
-abbrev pub settled : List ℤ → List ℤ → Session → Bool
+abbrev pub settled : Table → Table → Session → Bool
 settled = settledBy terms

@@ -8,7 +8,7 @@ use lib.IntN.{ℤ, pos}
 use lib.ListN.{set, replicate}
 use Rattle.rules.specs.declared.Query.{Query}
 use Rattle.rules.specs.declared.Session.{Session}
-use Rattle.rules.specs.Tables.{part}
+use Rattle.rules.specs.Tables.{Table, oldTable, part}
 use Rattle.lists.specs.Lists.{each}
 use Rattle.rules.specs.Session.{weights, places, zeros, readOut, isEmpty, ceiling}
 use Rattle.rules.specs.Read.{fieldNext, skipped, rowsBetween}
@@ -31,15 +31,15 @@ last-block-short = refl
 
 -- ---- Show at the worked query
 
-pub show-first : showCall fields trims (afterReads 1) ≡ part fields 0 1
+pub show-first : showCall fields trims (afterReads 1) ≡ part fields 0 1 .numbers
 unfolding run afterReads
 show-first = refl
 
-pub show-fifth : showCall fields trims (afterReads 5) ≡ part fields 2 1
+pub show-fifth : showCall fields trims (afterReads 5) ≡ part fields 2 1 .numbers
 unfolding run afterReads
 show-fifth = refl
 
-pub show-sixth : showCall fields trims (afterReads 6) ≡ part trims 2 1
+pub show-sixth : showCall fields trims (afterReads 6) ≡ part trims 2 1 .numbers
 unfolding run afterReads
 show-sixth = refl
 
@@ -48,15 +48,15 @@ unfolding run afterReads
 show-nothing-read = refl
 
 -- a field table whose first score, which was read, is out of its range
-abbrev badFields : List ℤ
-badFields = set fields 1 (pos 10000)
+abbrev badFields : Table
+badFields = oldTable (set (fields .numbers) 1 (pos 10000))
 
 -- read and take refuse it; show, which checks 5 and 4 only, shows its rows
 pub bad-row-refused : callCode badFields trims (afterReads 1) ≡ 6
 unfolding run afterReads
 bad-row-refused = refl
 
-pub bad-row-shown : showCall badFields trims (afterReads 1) ≡ part badFields 0 1
+pub bad-row-shown : showCall badFields trims (afterReads 1) ≡ part badFields 0 1 .numbers
 unfolding run afterReads
 bad-row-shown = refl
 
@@ -110,10 +110,10 @@ refusals =
     queryCode (asked 0 1 5)
     ∷ queryCode (asked 2 0 5)
     ∷ queryCode (asked 2 1 40001)
-    ∷ sizeCode (pos 1 ∷ [])
+    ∷ sizeCode (oldTable (pos 1 ∷ []))
     ∷ recordCode zeros
     ∷ rowsCode badFields 0 1
-    ∷ rowsCode (set fields 5 (pos 91)) 0 2
+    ∷ rowsCode (oldTable (set (fields .numbers) 5 (pos 91))) 0 2
     ∷ loaded "     1     1\n" 4
     ∷ loaded "    01     1\n" 4
     ∷ loaded "     0     2\n" 4
@@ -134,7 +134,7 @@ weightCodes =
     ∷ queryCode (weighing 1 0 (asked 2 1 5))
     ∷ queryCode (weighing 1 10 (asked 2 1 5))
     ∷ queryCode (weighing 0 0 (asked 2 1 40001))
-    ∷ openCode (weighing 0 0 (asked 2 1 5)) (pos 1 ∷ []) []
+    ∷ openCode (weighing 0 0 (asked 2 1 5)) (oldTable (pos 1 ∷ [])) (oldTable [])
     ∷ []
 
 pub weights-in-order : weightCodes ≡ 0 ∷ 12 ∷ 12 ∷ 12 ∷ 3 ∷ 12 ∷ []
@@ -155,13 +155,13 @@ sums-1-3 = refl
 
 -- Three rows each, no two of which qualify, a trim score counting twice. Two of each are read: the field table's score
 -- dropped by 10, the trim table's by 6, which is 12.
-abbrev apart : ℤ → List ℤ → List ℤ
-apart place scores = each (λ score. pos 1 ∷ score ∷ place ∷ pos 0 ∷ []) scores
+abbrev apart : ℤ → List ℤ → Table
+apart a scores = oldTable (each (λ score. pos 1 ∷ score ∷ a ∷ pos 0 ∷ []) scores)
 
-abbrev tens : List ℤ
+abbrev tens : Table
 tens = apart (pos 0) (pos 20 ∷ pos 10 ∷ pos 0 ∷ [])
 
-abbrev sixes : List ℤ
+abbrev sixes : Table
 sixes = apart (pos 9) (pos 20 ∷ pos 14 ∷ pos 0 ∷ [])
 
 abbrev readTwice : Session
@@ -201,16 +201,16 @@ skipping-weighted = refl
 -- ---- Withdrawn rows
 
 -- three rows at one place, by their scores
-abbrev together : List ℤ → List ℤ
-together scores = each (λ score. pos 1 ∷ score ∷ pos 0 ∷ pos 0 ∷ []) scores
+abbrev together : List ℤ → Table
+together scores = oldTable (each (λ score. pos 1 ∷ score ∷ pos 0 ∷ pos 0 ∷ []) scores)
 
-abbrev oneLive : List ℤ
+abbrev oneLive : Table
 oneLive = together (pos 5 ∷ pos 0 ∷ pos 0 ∷ [])
 
-abbrev allLive : List ℤ
+abbrev allLive : Table
 allLive = together (pos 4 ∷ pos 3 ∷ pos 2 ∷ [])
 
-abbrev noneLive : List ℤ
+abbrev noneLive : Table
 noneLive = together (pos 0 ∷ pos 0 ∷ [])
 
 -- no pair with a withdrawn row is listed
@@ -240,12 +240,12 @@ depthsOf s = s .depth .field .0 ∷ s .depth .trim .0 ∷ []
 
 pub begins-withdrawn : depthsOf (settledSession (asked 1 1 0) noneLive allLive)
     ∷ depthsOf (settledSession (asked 1 1 0) allLive noneLive)
-    ∷ depthsOf (settledSession (asked 1 1 0) noneLive [])
+    ∷ depthsOf (settledSession (asked 1 1 0) noneLive (oldTable []))
     ∷ [] ≡ (1 ∷ 0 ∷ []) ∷ (1 ∷ 1 ∷ []) ∷ (0 ∷ 0 ∷ []) ∷ []
 unfolding run
 begins-withdrawn = refl
 
--- ---- What a refused reading leaves in the lent numbers: a bad column in the second row, and too short a slice
+-- ---- What a refused reading leaves in the oldTable numbers: a bad column in the second row, and too short a slice
 
 abbrev twoRows : String
 twoRows = "     2     1\n     7     9      0      0\n     8     9      0     -0\n"
@@ -274,11 +274,11 @@ pub remainders : map remainder squares ≡ 0 ∷ 0 ∷ 1 ∷ 2 ∷ 0 ∷ 8 ∷ 0
 unfolding run
 remainders = refl
 
-abbrev one : List ℤ
-one = pos 7 ∷ pos 90 ∷ pos 0 ∷ pos 0 ∷ []
+abbrev one : Table
+one = oldTable (pos 7 ∷ pos 90 ∷ pos 0 ∷ pos 0 ∷ [])
 
-abbrev near : List ℤ
-near = pos 8 ∷ pos 50 ∷ pos 1 ∷ pos 5 ∷ []
+abbrev near : Table
+near = oldTable (pos 8 ∷ pos 50 ∷ pos 1 ∷ pos 5 ∷ [])
 
 -- "For 25 it prints 5 and 0" stands in the worked query; "for 26, 5 and 1"
 pub prints-26 :

@@ -1,68 +1,119 @@
 -- docs/RULES.md, "Tables". Definitions only. Assumes nothing.
 use Prim.Native.Nat.{ℕ, _+_, _*_, _-_, _/_, _%_, _≤_}
-use mathlib.Core.Bool.{Bool, _&&_, _||_, not}
-use mathlib.Core.List.{List, map}
+use mathlib.Core.Bool.{Bool, cond, _&&_, _||_, not}
+use mathlib.Core.List.{List, [], _∷_, map}
 use lib.Dec.{leb, ltb, eqb}
 use lib.IntN.{ℤ, pos, negsuc, natAbs, _-ℤ_}
 use lib.Signed.{leZ}
 use lib.ListN.{length, getD, take, drop}
 use Rattle.lists.specs.Lists.{keep, every, range, each}
-use Rattle.rules.specs.declared.Shade.{Shade}
+use Rattle.rules.specs.declared.Card.{Card}
+use Rattle.rules.specs.declared.Card.the-variants.{Old, New}
+use Rattle.rules.specs.declared.Kinds.{Kinds}
 use Rattle.rules.specs.declared.Pair.{Pair}
 use Rattle.rules.specs.declared.Query.{Query}
 
--- "four to a row"
-abbrev pub width : ℕ
-width = 4
+-- A table: how many coordinates a shade has on its card, and its numbers, row by row.
+pub record Table : Type 0 where
+  pub coordinates : ℕ
+  pub numbers : List ℤ
+
+-- numbers as a table whose shades have n coordinates
+abbrev pub table : ℕ → List ℤ → Table
+table n l = record { coordinates = n; numbers = l }
+
+-- The cards, and how many coordinates a shade has on each: "distance over L*, a* and b*" on the new one.
+abbrev pub coordinates : Card → ℕ
+coordinates Old = 2
+coordinates New = 3
+
+-- "Kinds 3 and 4 are field and trim on the new card"
+abbrev pub kindCard : ℕ → Card
+kindCard kind = cond (leb kind 2) Old New
+
+-- the coordinates of a kind's card; another kind has none
+unfoldable pub kindCoordinates : ℕ → ℕ
+kindCoordinates kind = cond (leb 1 kind && leb kind 4) (coordinates (kindCard kind)) 0
+
+-- "each table's kind, 1 or 3 for field and 2 or 4 for trim": lent numbers as a field table, and as a trim table
+abbrev pub fieldTable : Kinds → List ℤ → Table
+fieldTable kinds l =
+    let kind = kinds .field .0 in
+    table (cond (eqb kind 1 || eqb kind 3) (kindCoordinates kind) 0) l
+
+abbrev pub trimTable : Kinds → List ℤ → Table
+trimTable kinds l =
+    let kind = kinds .trim .0 in
+    table (cond (eqb kind 2 || eqb kind 4) (kindCoordinates kind) 0) l
+
+-- a table on the old card
+abbrev pub oldTable : List ℤ → Table
+oldTable l = table (coordinates Old) l
+
+-- how many numbers a row has: pattern number, score, and a shade of n coordinates
+abbrev pub width : ℕ → ℕ
+width n = n + 2
 
 -- number j of row i + 1 (rows are numbered from 1)
-abbrev pub num : List ℤ → ℕ → ℕ → ℤ
-num t i j = getD t (width * i + j) (pos 0)
+abbrev pub num : Table → ℕ → ℕ → ℤ
+num t i j = getD (t .numbers) (width (t .coordinates) * i + j) (pos 0)
 
-abbrev pub rowCount : List ℤ → ℕ
-rowCount t = length t / width
+abbrev pub rowCount : Table → ℕ
+rowCount t = length (t .numbers) / width (t .coordinates)
 
--- the table has row i + 1; its first n rows
-abbrev pub HasRow : List ℤ → ℕ → Type 0
-HasRow t i = width * i + width ≤ length t
+-- the table has row i + 1; its first m rows
+abbrev pub HasRow : Table → ℕ → Type 0
+HasRow t i = width (t .coordinates) * i + width (t .coordinates) ≤ length (t .numbers)
 
-abbrev pub HasRows : List ℤ → ℕ → Type 0
-HasRows t n = width * n ≤ length t
+abbrev pub HasRows : Table → ℕ → Type 0
+HasRows t m = width (t .coordinates) * m ≤ length (t .numbers)
 
--- its first n rows, and what follows them
-abbrev pub firstRows : ℕ → List ℤ → List ℤ
-firstRows n t = take (width * n) t
+-- its first m rows, and what follows them
+abbrev pub firstRows : ℕ → Table → Table
+firstRows m t = table (t .coordinates) (take (width (t .coordinates) * m) (t .numbers))
 
-abbrev pub afterRows : ℕ → List ℤ → List ℤ
-afterRows n t = drop (width * n) t
+abbrev pub afterRows : ℕ → Table → Table
+afterRows m t = table (t .coordinates) (drop (width (t .coordinates) * m) (t .numbers))
 
 unfoldable pub within : ℤ → ℤ → ℤ → Bool
 within low high x = leZ low x && leZ x high
 
--- "pattern number 1 to 999,999; score 0 to 9,999; a and b, each -12,800 to 12,700"
-unfoldable pub inRange : ℤ → ℤ → ℤ → ℤ → Bool
-inRange pattern score a b =
-    within (pos 1) (pos 999999) pattern
-    && (within (pos 0) (pos 9999) score
-    && (within (negsuc 12799) (pos 12700) a && within (negsuc 12799) (pos 12700) b))
+-- "a and b, each -12,800 to 12,700", then "L, 0 to 10,000": coordinate k of a shade, from 0 on
+unfoldable pub coordinateFits : ℕ → ℤ → Bool
+coordinateFits k x = cond (ltb k 2) (within (negsuc 12799) (pos 12700) x) (within (pos 0) (pos 10000) x)
 
-unfoldable pub rowInRange : List ℤ → ℕ → Bool
-rowInRange t i = inRange (num t i 0) (num t i 1) (num t i 2) (num t i 3)
+unfoldable pub fitsAt : List ℤ → ℕ → Bool
+fitsAt shade k = coordinateFits k (getD shade k (pos 0))
+
+unfoldable pub shadeFits : List ℤ → Bool
+shadeFits shade = every (fitsAt shade) (range 0 (length shade))
+
+-- "pattern number 1 to 999,999; score 0 to 9,999", and the shade
+unfoldable pub inRange : ℤ → ℤ → List ℤ → Bool
+inRange pattern score shade =
+    within (pos 1) (pos 999999) pattern && (within (pos 0) (pos 9999) score && shadeFits shade)
+
+-- the coordinates of row i + 1, its last numbers
+abbrev pub shadeAt : Table → ℕ → List ℤ
+shadeAt t i = take (t .coordinates) (drop (width (t .coordinates) * i + 2) (t .numbers))
+
+unfoldable pub rowInRange : Table → ℕ → Bool
+rowInRange t i = inRange (num t i 0) (num t i 1) (shadeAt t i)
 
 -- "no score exceeds the one before it"
-unfoldable pub rowInOrder : List ℤ → ℕ → Bool
+unfoldable pub rowInOrder : Table → ℕ → Bool
 rowInOrder t i = eqb i 0 || leZ (num t i 1) (num t (i - 1) 1)
 
 -- "A table has 0 to 65,535 rows"
 abbrev pub mostRows : ℕ
 mostRows = 65535
 
--- and four numbers to each
-unfoldable pub sizeFits : List ℤ → Bool
-sizeFits t = eqb (length t % width) 0 && leb (rowCount t) mostRows
+-- whole rows, and not more of them
+unfoldable pub sizeFits : Table → Bool
+sizeFits t = eqb (length (t .numbers) % width (t .coordinates)) 0 && leb (rowCount t) mostRows
 
 -- "It is legal if every row keeps these ranges and no score exceeds the one before it."
-unfoldable pub legal : List ℤ → Bool
+unfoldable pub legal : Table → Bool
 legal t = sizeFits t && every (λ i. rowInRange t i && rowInOrder t i) (range 0 (rowCount t))
 
 abbrev pub natOf : ℤ → ℕ
@@ -73,31 +124,32 @@ natOf (negsuc n) = 0
 pub record Row : Type 0 where
   pub pattern : ℕ
   pub score : ℕ
-  pub shade : Shade
+  pub shade : List ℤ
 
 -- row i + 1
-unfoldable pub row : List ℤ → ℕ → Row
-row t i =
-    record {
-      pattern = natOf (num t i 0);
-      score = natOf (num t i 1);
-      shade = record { a = num t i 2; b = num t i 3 };
-    }
+unfoldable pub row : Table → ℕ → Row
+row t i = record { pattern = natOf (num t i 0); score = natOf (num t i 1); shade = shadeAt t i }
 
--- rows a + 1 to a + n, as a part of their table
-abbrev pub part : List ℤ → ℕ → ℕ → List ℤ
-part t a n = firstRows n (afterRows a t)
+-- rows a + 1 to a + m, as a part of their table
+abbrev pub part : Table → ℕ → ℕ → Table
+part t a m = firstRows m (afterRows a t)
 
 -- how far apart two numbers lie
 unfoldable pub gap : ℤ → ℤ → ℕ
 gap x y = natAbs (x -ℤ y)
 
--- "da × da + db × db .. da and db being the differences of a and of b"
-unfoldable pub squaredDistance : Shade → Shade → ℕ
-squaredDistance x y = gap (x .a) (y .a) * gap (x .a) (y .a) + gap (x .b) (y .b) * gap (x .b) (y .b)
+-- what two lists differ by, place by place, squared and added up
+unfoldable pub squares : {A : Type 0} → (A → A → ℕ) → List A → List A → ℕ
+squares f [] l = 0
+squares f (x ∷ k) [] = 0
+squares f (x ∷ k) (y ∷ l) = f x y * f x y + squares f k l
+
+-- "da × da + db × db .. da and db being the differences of a and of b": of any number of coordinates
+abbrev pub squaredDistance : List ℤ → List ℤ → ℕ
+squaredDistance = squares gap
 
 -- "qualifies if da × da + db × db ≤ radius × radius"
-unfoldable pub qualifies : ℕ → Shade → Shade → Bool
+unfoldable pub qualifies : ℕ → List ℤ → List ℤ → Bool
 qualifies radius x y = leb (squaredDistance x y) (radius * radius)
 
 -- "a score of 0 means that the pattern is out of the collection"
@@ -145,7 +197,7 @@ ahead p q =
 -- some rows of a table: those after the first `start`, as a part of it
 pub record Block : Type 0 where
   pub start : ℕ
-  pub rows : List ℤ
+  pub rows : Table
 
 -- the pair of row i + 1 of a field block and row j + 1 of a trim block
 unfoldable pub pairAt : Terms → Block → Block → ℕ → ℕ → Pair

@@ -26,11 +26,10 @@ pub const SHORT_SLICE: u32 = 11;
 
 pub const WEIGHT_RANGE: u32 = 12;
 
+pub const OTHER_CARD: u32 = 15;
+
 // The largest list length: so many pair places has a record.
 pub const PLACES: usize = 64;
-
-// The numbers of a table's row.
-pub const ROW_NUMBERS: usize = 4;
 
 // The rows of the longest table.
 pub const MOST_ROWS: u32 = 65535;
@@ -38,20 +37,18 @@ pub const MOST_ROWS: u32 = 65535;
 // The largest sum of two weighted scores, 9 times 9,999 each.
 pub const MOST_SUM: u32 = 179982;
 
-// The bytes of a strict file's header, and of each of its rows.
+// The bytes of a strict file's header.
 pub const HEADER_BYTES: usize = 13;
 
-pub const ROW_BYTES: usize = 27;
-
-// The bytes of the program's longest file, and of its input.
-pub const MOST_FILE_BYTES: usize = 13837;
+// The rows of the program's longest file, and the bytes of its input.
+pub const PROGRAM_ROWS: usize = 512;
 
 pub const INPUT_LENGTH: usize = 19;
 
-// A place in the colour plane: hundredths of a* and b*.
-pub struct Shade {
-    pub a: i32,
-    pub b: i32,
+// What a shade is measured by, in hundredths: a* and b*; or a*, b* and L*.
+pub enum Card {
+    Old,
+    New,
 }
 
 // A count of field rows: the field table's row count, or its depth (d_R in Qi, Bouros and Mamoulis, Top-k Spatial
@@ -65,6 +62,23 @@ pub struct TrimRows(pub u32);
 pub struct Counts {
     pub field: FieldRows,
     pub trim: TrimRows,
+}
+
+// The kind of a field table, 1 or 3, and of a trim table, 2 or 4: the lower one is on the old card.
+pub struct FieldKind(pub u32);
+
+pub struct TrimKind(pub u32);
+
+pub struct Kinds {
+    pub field: FieldKind,
+    pub trim: TrimKind,
+}
+
+// What opening fixes of the two tables: their row counts, and their card, by the number of its coordinates.
+pub struct TwoTables {
+    pub field: FieldRows,
+    pub trim: TrimRows,
+    pub card: u32,
 }
 
 // What a field row's score counts for, 1 to 9 times.
@@ -104,8 +118,8 @@ pub const NO_PAIR: Pair = Pair {
 // The session's record: a value that goes in and comes back.
 pub struct Session {
     pub query: Query,
-    // The tables' row counts.
-    pub rows: Counts,
+    // The tables' row counts, and their card.
+    pub rows: TwoTables,
     // Rows read of each table.
     pub depth: Counts,
     // The table read last: 0 none, 1 field, 2 trim.

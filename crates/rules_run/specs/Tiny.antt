@@ -8,7 +8,7 @@ use lib.Dec.{eqb}
 use lib.IntN.{ℤ, pos}
 use Rattle.lists.specs.Lists.{every, keep, each, best}
 use Rattle.rules.specs.declared.Query.{Query}
-use Rattle.rules.specs.Tables.{legal}
+use Rattle.rules.specs.Tables.{Table, oldTable, legal}
 use Rattle.rules.specs.Session.{weights}
 use Rattle.rules.specs.Sure.{qualifyingSums}
 use Rattle.rules.specs.Query.{list}
@@ -25,23 +25,23 @@ pub rows : List ℕ → List ℕ → List (List ℤ)
 rows scores places = each (λ score. map (λ a. pos 1 ∷ pos score ∷ pos a ∷ pos 0 ∷ []) places) scores
 
 -- all legal tables of up to two of these rows
-pub tables : List (List ℤ) → List (List ℤ)
-tables some = keep legal ([] ∷ (some ++ each (λ x. map (λ y. x ++ y) some) some))
+pub tables : List (List ℤ) → List Table
+tables some = keep legal (map oldTable ([] ∷ (some ++ each (λ x. map (λ y. x ++ y) some) some)))
 
 -- Places 0 and 1 against 0 and 2, at radius 1: nearer, just as far, and farther.
-abbrev pub fieldTables : List (List ℤ)
+abbrev pub fieldTables : List Table
 fieldTables = tables (rows (0 ∷ 1 ∷ 2 ∷ []) (0 ∷ 1 ∷ []))
 
-abbrev pub trimTables : List (List ℤ)
+abbrev pub trimTables : List Table
 trimTables = tables (rows (0 ∷ 1 ∷ []) (0 ∷ 2 ∷ []))
 
 pub query : ℕ → ℕ → Query
 query k block = record { k = k; block = block; radius = 1; weights = weights 1 1 }
 
-pub right : Query → List ℤ → List ℤ → Bool
+pub right : Query → Table → Table → Bool
 right q f t = same (map (λ p. p .sum) (list q f t)) (best (q .k) (qualifyingSums q f t))
 
-pub allRight : Query → List (List ℤ) → List (List ℤ) → Bool
+pub allRight : Query → List Table → List Table → Bool
 allRight q fs ts = every (λ f. every (right q f) ts) fs
 
 pub k1-block1 : allRight (query 1 1) fieldTables trimTables ≡ true

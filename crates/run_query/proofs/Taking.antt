@@ -5,7 +5,6 @@ use mathlib.Core.Bool.{false}
 use mathlib.Core.List.{List, [], _∷_, _++_, append-nil}
 use Prim.Native.Nat.{ℕ, suc, _+_, _-_, _≤_, _<_}
 use native.Mathlib.Omega.{arith}
-use lib.IntN.{ℤ}
 use lib.ListN.{length, take, drop, set, replicate, length-set, take-append-drop}
 use lib.Seq.{take-suc-set, drop-set-lt, drop-cons, append-snoc, length-take-le}
 use Rattle.rules.specs.declared.Pair.{Pair}
@@ -18,13 +17,14 @@ use Rattle.rules.specs.Query.{wasGiven, takeUntilFinishedBy, takeUntilFinished}
 use Rattle.run_query.specs.declared.TakenOut.{TakenOut}
 use Rattle.run_query.specs.Until.{take-more, take-ends}
 use Rattle.run_query.specs.Outcomes.{takenOut}
+use Rattle.rules.specs.Tables.{Table}
 
 -- the pairs that are still to come after n
-abbrev pub left : List ℤ → List ℤ → ℕ → Session → List Pair
+abbrev pub left : Table → Table → ℕ → Session → List Pair
 left f t n s = takeUntilFinished (placeCount - n) f t s
 
 -- before turn n + 1, r being the record that is left of s: n pairs are out
-pub record Taking (f t : List ℤ) (s : Session) (n : ℕ) (pairs : List Pair) (r : Session) : Type 0 where
+pub record Taking (f t : Table) (s : Session) (n : ℕ) (pairs : List Pair) (r : Session) : Type 0 where
   pub within : n ≤ placeCount
   pub long : length pairs ≡ placeCount
   pub so-far : take n pairs ++ left f t n r ≡ takeUntilFinished placeCount f t s
@@ -47,10 +47,10 @@ module _ (l : List Pair) (n : ℕ) (p : Pair) (h : n < placeCount) (long : lengt
       let split = sym (drop-cons l n noPair (omega arith)) ∙ e ∙ ap (λ (i : ℕ). replicate i noPair) m in
       drop-set-lt (n + 1) l n p (omega arith) ∙ ap (λ (i : ℕ). drop i l) k ∙ ap (drop 1) split
 
-pub taking-starts : (f t : List ℤ) (s : Session) → Taking f t s 0 (replicate placeCount noPair) s
+pub taking-starts : (f t : Table) (s : Session) → Taking f t s 0 (replicate placeCount noPair) s
 taking-starts f t s = record { within = omega arith; long = refl; so-far = refl; free = refl }
 
-module _ {f t : List ℤ} {s : Session} {n : ℕ} {pairs : List Pair} {r : Session} (h : Taking f t s n pairs r) where
+module _ {f t : Table} {s : Session} {n : ℕ} {pairs : List Pair} {r : Session} (h : Taking f t s n pairs r) where
   -- a take that brings a pair out
   pub taking-on : n < placeCount → (x : Step) (p : Pair) → x ≡ takeCall f t r → x .answer ≡ Given p →
       Taking f t s (n + 1) (set pairs n p) (x .session)

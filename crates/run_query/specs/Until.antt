@@ -4,7 +4,6 @@ use mathlib.Core.Bool.{Bool, true, false}
 use mathlib.Core.List.{List, [], _∷_, _++_}
 use Prim.Native.Nat.{ℕ, zero, suc, _+_, _≤_}
 use native.Mathlib.Omega.{arith}
-use lib.IntN.{ℤ}
 use lib.ListN.{length}
 use Rattle.lists.specs.Bools.{clash}
 use Rattle.rules.specs.declared.Pair.{Pair}
@@ -22,6 +21,7 @@ use Rattle.rules.specs.Query.{settledSession, list}
 use Rattle.session_laws.specs.Calls.{was-given-out}
 use Rattle.session_laws.specs.Read.{unreadRows}
 use Rattle.session_laws.specs.Until.{fewer-unread, reads-end, wanted, fewer-wanted, takes-end, list-bound}
+use Rattle.rules.specs.Tables.{Table}
 
 -- a choice by a test that is known
 module _ {A : Type 0} (x y : A) where
@@ -36,10 +36,10 @@ module _ {A : Type 0} (x y : A) where
 -- ---- Reading
 
 -- the record when it is settled, of a record that is not
-unfoldable pub readOn : List ℤ → List ℤ → Session → Session
+unfoldable pub readOn : Table → Table → Session → Session
 readOn f t s = readUntilSettled (suc (unreadRows s)) f t s
 
-module _ (f t : List ℤ) (s : Session) where
+module _ (f t : Table) (s : Session) where
   pub read-more : wasRead (readCall f t s .answer) ≡ true → readOn f t (readCall f t s .session) ≡ readOn f t s
   unfolding readOn readUntilSettledBy
   read-more h =
@@ -55,7 +55,7 @@ module _ (f t : List ℤ) (s : Session) where
       sym (other (readUntilSettled (unreadRows s) f t (r .session)) s (wasRead (r .answer)) h)
 
 -- from the opening on
-pub settled-on : (q : Query) (f t : List ℤ) → readOn f t (openCall q f t .session) ≡ settledSession q f t
+pub settled-on : (q : Query) (f t : Table) → readOn f t (openCall q f t .session) ≡ settledSession q f t
 unfolding readOn settledSession
 settled-on q f t =
     let s = openCall q f t .session in
@@ -63,7 +63,7 @@ settled-on q f t =
 
 -- ---- Taking
 
-pub take-more : (n : ℕ) (f t : List ℤ) (s : Session) (p : Pair) → takeCall f t s .answer ≡ Given p →
+pub take-more : (n : ℕ) (f t : Table) (s : Session) (p : Pair) → takeCall f t s .answer ≡ Given p →
     takeUntilFinished (suc n) f t s ≡ p ∷ takeUntilFinished n f t (takeCall f t s .session)
 unfolding takeUntilFinishedBy
 take-more n f t s p h =
@@ -72,7 +72,7 @@ take-more n f t s p h =
     chosen (given a ++ rest) [] (wasGiven a) (ap (λ (a : Answer). wasGiven a) h)
     ∙ ap (λ (a : Answer). given a ++ rest) h
 
-pub take-ends : (n : ℕ) (f t : List ℤ) (s : Session) → wasGiven (takeCall f t s .answer) ≡ false →
+pub take-ends : (n : ℕ) (f t : Table) (s : Session) → wasGiven (takeCall f t s .answer) ≡ false →
     takeUntilFinished n f t s ≡ []
 unfolding takeUntilFinishedBy
 take-ends zero f t s h = refl
@@ -81,7 +81,7 @@ take-ends (suc n) f t s h =
     other (given a ++ takeUntilFinished n f t (takeCall f t s .session)) [] (wasGiven a) h
 
 -- as many takes as pairs are wanted
-just-wanted : (n : ℕ) (f t : List ℤ) (s : Session) → wanted s ≤ n →
+just-wanted : (n : ℕ) (f t : Table) (s : Session) → wanted s ≤ n →
     takeUntilFinished n f t s ≡ takeUntilFinished (suc n) f t s
 just-wanted zero f t s h = go (wasGiven (takeCall f t s .answer)) refl
   where
@@ -105,7 +105,7 @@ just-wanted (suc n) f t s h = go (wasGiven (takeCall f t s .answer)) refl (just-
     go false e ih = take-ends (suc n) f t s e ∙ sym (take-ends (suc (suc n)) f t s e)
 
 -- so 64 takes bring out the list
-pub list-taken : (q : Query) (f t : List ℤ) → takeUntilFinished placeCount f t (settledSession q f t) ≡ list q f t
+pub list-taken : (q : Query) (f t : Table) → takeUntilFinished placeCount f t (settledSession q f t) ≡ list q f t
 list-taken q f t = go (wasGiven (takeCall f t (settledSession q f t) .answer)) refl
   where
     s : Session
@@ -121,7 +121,7 @@ list-taken q f t = go (wasGiven (takeCall f t (settledSession q f t) .answer)) r
         take-ends placeCount f t s e ∙ sym (take-ends (q .k + 1) f t s e) ∙ list-bound q f t (q .k + 1) (omega arith)
 
 -- so the list has at most 64 pairs
-takes-few : (n : ℕ) (f t : List ℤ) (s : Session) → length (takeUntilFinished n f t s) ≤ n
+takes-few : (n : ℕ) (f t : Table) (s : Session) → length (takeUntilFinished n f t s) ≤ n
 unfolding takeUntilFinishedBy
 takes-few zero f t s = omega arith
 takes-few (suc n) f t s = go (wasGiven (takeCall f t s .answer)) refl (takes-few n f t (takeCall f t s .session))
@@ -139,7 +139,7 @@ takes-few (suc n) f t s = go (wasGiven (takeCall f t s .answer)) refl (takes-few
     go false e ih =
         let k : length (takeUntilFinished (suc n) f t s) ≡ 0 = ap length (take-ends (suc n) f t s e) in omega arith
 
-pub list-few : (q : Query) (f t : List ℤ) → length (list q f t) ≤ placeCount
+pub list-few : (q : Query) (f t : Table) → length (list q f t) ≤ placeCount
 list-few q f t =
     let s = settledSession q f t in
     let k : length (takeUntilFinished placeCount f t s) ≡ length (list q f t) = ap length (list-taken q f t) in

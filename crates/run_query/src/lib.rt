@@ -1,9 +1,12 @@
 // One whole query over two lent tables, run once: opened, read until settled, taken until finished.
 use rules::Answer;
+use rules::Kinds;
 use rules::Pair;
 use rules::Query;
 use rules::Session;
 ghost use mathlib.Core.Path.{_≡_};
+ghost use Rattle.rules.specs.Tables.{fieldTable, trimTable};
+ghost use Rattle.rules.specs.Session.{lentTable};
 ghost use Rattle.rules.specs.Numbers.{said, refusal};
 ghost use Rattle.run_query.specs.Outcomes.{readOut, takenOut, queryOutcome};
 
@@ -25,7 +28,7 @@ struct ReadOut {
 
 // Reads until settled.
 fn read_on(f: &[i32], t: &[i32], s: Session) -> ReadOut
-    ensures { λ r. ⌜ r ≡ readOut (now (f .entry)) (now (t .entry)) s ⌝ }
+    ensures { λ r. ⌜ r ≡ readOut (lentTable s (now (f .entry))) (lentTable s (now (t .entry))) s ⌝ }
 {
     let mut at = s;
     loop {
@@ -50,7 +53,7 @@ struct TakenOut {
 
 // Takes until finished.
 fn take_on(f: &[i32], t: &[i32], s: Session) -> TakenOut
-    ensures { λ r. ⌜ r ≡ takenOut (now (f .entry)) (now (t .entry)) s ⌝ }
+    ensures { λ r. ⌜ r ≡ takenOut (lentTable s (now (f .entry))) (lentTable s (now (t .entry))) s ⌝ }
 {
     let mut pairs = [rules::NO_PAIR; rules::PLACES];
     let mut left = s;
@@ -84,10 +87,10 @@ pub struct Outcome {
 
 // Opens, reads until settled and takes until finished. A refused opening's record is zeros: reading it ends with 5, and
 // no pair comes out.
-pub fn run(q: Query, f: &[i32], t: &[i32]) -> Outcome
-    ensures { λ r. ⌜ r ≡ queryOutcome q (now (f .entry)) (now (t .entry)) ⌝ }
+pub fn run(q: Query, kinds: Kinds, f: &[i32], t: &[i32]) -> Outcome
+    ensures { λ r. ⌜ r ≡ queryOutcome q (fieldTable kinds (now (f .entry))) (trimTable kinds (now (t .entry))) ⌝ }
 {
-    let opened = opening::start(q, f, t);
+    let opened = opening::start(q, kinds, f, t);
     let answer = opened.answer;
     let s = opened.session;
     let read = read_on(f, t, s);

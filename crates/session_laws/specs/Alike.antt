@@ -2,24 +2,22 @@
 -- rows of a table are a table by themselves. Assumes nothing.
 use mathlib.Core.Path.{_≡_, refl, sym, ap, ap₂, _∙_}
 use mathlib.Core.Bool.{Bool, true, false, cond, _&&_, _||_, not}
-use mathlib.Core.List.{List, [], _∷_}
+use mathlib.Core.List.{[]}
 use Prim.Native.Nat.{ℕ, zero, suc, _+_, _*_, _-_, _≤_, _<_, min}
-use native.Mathlib.Nat.{mul-le-mul-left}
 use native.Mathlib.Omega.{arith}
 use native.Mathlib.Decide.{decLe}
 use lib.Dec.{leb, ltb, eqb, lit≤}
-use lib.IntN.{ℤ}
-use lib.ListN.{take, drop}
-use lib.Seq.{take-take, take-nil}
 use borrow.Author.Tests.{eqb-false, ltb-true}
 use Rattle.lists.specs.Lists.{every}
 use Rattle.lists.specs.Bools.{or-none-out}
 use Rattle.lists.specs.Parts.{every-same}
 use Rattle.rules.specs.declared.Pair.{Pair}
 use Rattle.rules.specs.declared.Session.{Session}
+use Rattle.rules.specs.Tables.{Table, table, shadeAt}
 use Rattle.rules.specs.Tables.{num, mostRows, rowCount, rowInRange, rowInOrder, legal, natOf, row, withdrawn, Terms}
 use Rattle.rules.specs.Tables.{terms, width, firstRows, part, Block}
-use Rattle.rules.specs.Widths.{has-rows, first-length, first-count, first-num}
+use Rattle.rules.specs.Widths.{has-rows, first-length, first-count, first-num, first-shade, first-first, part-first}
+use Rattle.rules.specs.Widths.{part-none}
 use Rattle.rules.specs.Session.{withdrawnWithin, readOut, isEmpty}
 use Rattle.rules.specs.Session.{heldPairs, firstScore, lastScore, fieldReadOut, trimReadOut, bothReadOut}
 use Rattle.rules.specs.Session.{aTableIsEmpty, aDepthIsZero, ceilingBy, ceiling, securedBy, secured, settledBy, settled}
@@ -30,32 +28,22 @@ use Rattle.rules.specs.Take.{finished}
 use Rattle.session_laws.specs.Tables.{RowFits, legal-in}
 
 -- two tables with the same first n rows
-abbrev pub SameRows : ℕ → List ℤ → List ℤ → Type 0
+abbrev pub SameRows : ℕ → Table → Table → Type 0
 SameRows n t u = firstRows n u ≡ firstRows n t
 
--- of lists alike up to n, those alike up to m
-take-less : (m n : ℕ) (t u : List ℤ) → m ≤ n → take n u ≡ take n t → take m u ≡ take m t
-take-less m n t u h e = sym (take-take m n u h) ∙ ap (take m) e ∙ take-take m n t h
-
-pub same-less : (m n : ℕ) (t u : List ℤ) → m ≤ n → SameRows n t u → SameRows m t u
-same-less m n t u h e = take-less (width * m) (width * n) t u (mul-le-mul-left width h) e
-
-take-drop : (m j : ℕ) (l : List ℤ) → take m (drop j l) ≡ drop j (take (j + m) l)
-take-drop m zero l = ap (λ n. take n l) (let z : m ≡ 0 + m = omega arith in z)
-take-drop m (suc j) [] = take-nil m ∙ sym (ap (drop (suc j)) (take-nil (suc j + m)))
-take-drop m (suc j) (x ∷ l) =
-    let e : suc (j + m) ≡ suc j + m = omega arith in
-    take-drop m j l ∙ ap (λ n. drop (suc j) (take n (x ∷ l))) e
-
-same-slice : (m j n : ℕ) (t u : List ℤ) → take n u ≡ take n t → j + m ≤ n → take m (drop j u) ≡ take m (drop j t)
-same-slice m j n t u e h =
-    take-drop m j u ∙ ap (drop j) (take-less (j + m) n t u h e) ∙ sym (take-drop m j t)
+pub same-less : (m n : ℕ) (t u : Table) → m ≤ n → SameRows n t u → SameRows m t u
+same-less m n t u h e = sym (first-first u n m h) ∙ ap (firstRows m) e ∙ first-first t n m h
 
 -- ---- Rows and parts
 
-module _ (n : ℕ) (t u : List ℤ) (same : SameRows n t u) where
-  same-num : (i j : ℕ) → i < n → j < width → num u i j ≡ num t i j
-  same-num i j h k = sym (first-num u n i j h k) ∙ ap (λ l. num l i j) same ∙ first-num t n i j h k
+module _ (n : ℕ) (t u : Table) (same : SameRows n t u) where
+  -- a pattern number or a score
+  same-num : (i j : ℕ) → i < n → j < 2 → num u i j ≡ num t i j
+  same-num i j h k =
+      sym (first-num u n i j h (omega arith)) ∙ ap (λ l. num l i j) same ∙ first-num t n i j h (omega arith)
+
+  same-shade : (i : ℕ) → i < n → shadeAt u i ≡ shadeAt t i
+  same-shade i h = sym (first-shade u n i h) ∙ ap (λ l. shadeAt l i) same ∙ first-shade t n i h
 
   same-row : (i : ℕ) → i < n → row u i ≡ row t i
   unfolding row
@@ -64,7 +52,7 @@ module _ (n : ℕ) (t u : List ℤ) (same : SameRows n t u) where
       record {
         pattern = natOf (same-num i 0 h (lit≤ tt) k);
         score = natOf (same-num i 1 h (lit≤ tt) k);
-        shade = record { a = same-num i 2 h (lit≤ tt) k; b = same-num i 3 h (lit≤ tt) k };
+        shade = same-shade i h k;
       }
 
   same-fits : (i : ℕ) → i < n → RowFits t i → RowFits u i
@@ -72,25 +60,27 @@ module _ (n : ℕ) (t u : List ℤ) (same : SameRows n t u) where
   same-fits i h fits =
       let score = same-num i 1 h (lit≤ tt) in
       record {
-        range = rw (same-num i 0 h (lit≤ tt), score, same-num i 2 h (lit≤ tt), same-num i 3 h (lit≤ tt)) (fits .range);
+        range = rw (same-num i 0 h (lit≤ tt), score, same-shade i h) (fits .range);
         order = rw (score, same-num (i - 1) 1 (omega arith) (lit≤ tt)) (fits .order);
       }
 
   pub same-part : (a b : ℕ) → b ≤ n → rowsBetween u a b ≡ rowsBetween t a b
   same-part a b h = ap (λ l. record { start = a; rows = l }) (go (decLe a b))
     where
-      fits : a ≤ b → width * a + width * (b - a) ≤ width * n
-      fits k = let e : a + (b - a) ≡ b = omega arith in omega (arith, mul-le-mul-left width h, ap (_*_ width) e)
-
       go : Dec (a ≤ b) → part u a (b - a) ≡ part t a (b - a)
-      go (yes k) = same-slice (width * (b - a)) (width * a) (width * n) t u same (fits k)
+      go (yes k) =
+          let e : a + (b - a) ≤ n = omega arith in
+          sym (part-first u n a (b - a) e) ∙ ap (λ l. part l a (b - a)) same ∙ part-first t n a (b - a) e
       go (no k) =
           let z : b - a ≡ 0 = omega arith in
-          ap (part u a) z ∙ sym (ap (part t a) z)
+          ap (part u a) z
+          ∙ part-none u a
+          ∙ ap (λ l. table (l .coordinates) []) same
+          ∙ sym (ap (part t a) z ∙ part-none t a)
 
 -- ---- Read out, and empty
 
-module _ (n : ℕ) (t u : List ℤ) (same : SameRows n t u) where
+module _ (n : ℕ) (t u : Table) (same : SameRows n t u) where
   same-within : (k : ℕ) → k ≤ n → withdrawnWithin u k ≡ withdrawnWithin t k
   unfolding withdrawnWithin
   same-within zero h = refl
@@ -111,9 +101,9 @@ module _ (n : ℕ) (t u : List ℤ) (same : SameRows n t u) where
 
 -- ---- The first n rows of a table, as a table by themselves
 
-module _ (t : List ℤ) (n : ℕ) (fits : n ≤ rowCount t) where
+module _ (t : Table) (n : ℕ) (fits : n ≤ rowCount t) where
   pub cut-same : SameRows n t (firstRows n t)
-  cut-same = take-take (width * n) (width * n) t (omega arith)
+  cut-same = first-first t n n (omega arith)
 
   pub cut-count : rowCount (firstRows n t) ≡ n
   cut-count = first-count t n (has-rows t n fits)
@@ -126,7 +116,7 @@ module _ (t : List ℤ) (n : ℕ) (fits : n ≤ rowCount t) where
         size =
             record {
               few = omega (arith, cut-count);
-              whole = ap (_*_ width) cut-count ∙ sym (first-length t n (has-rows t n fits));
+              whole = ap (_*_ (width (t .coordinates))) cut-count ∙ sym (first-length t n (has-rows t n fits));
             };
         rows =
             λ i h.
@@ -136,7 +126,7 @@ module _ (t : List ℤ) (n : ℕ) (fits : n ≤ rowCount t) where
 
 -- ---- Judging
 
-module _ (f t f′ t′ : List ℤ) (s : Session) (ef : SameRows (s .depth .field .0) f f′)
+module _ (f t f′ t′ : Table) (s : Session) (ef : SameRows (s .depth .field .0) f f′)
     (et : SameRows (s .depth .trim .0) t t′) where
   abbrev d : ℕ
   d = s .depth .field .0
@@ -245,7 +235,7 @@ module _ (f t f′ t′ : List ℤ) (s : Session) (ef : SameRows (s .depth .fiel
 
 -- ---- Reading
 
-same-blocks : (field : Bool) (s : Session) (new : Block) (t u : List ℤ) (depth n : ℕ) → SameRows depth t u
+same-blocks : (field : Bool) (s : Session) (new : Block) (t u : Table) (depth n : ℕ) → SameRows depth t u
     → meetBlocks field s new u depth n ≡ meetBlocks field s new t depth n
 unfolding meetBlocksBy
 same-blocks field s new t u depth zero e = refl
@@ -254,7 +244,7 @@ same-blocks field s new t u depth (suc n) e =
     (same-part depth t u e (n * s .query .block) (min (n * s .query .block + s .query .block) depth) (omega arith))
 
 -- of tables alike down to the depths after the read, the table that is read and the other one
-module _ (f t f′ t′ : List ℤ) (b d e : ℕ) where
+module _ (f t f′ t′ : Table) (b d e : ℕ) where
   same-own : (field : Bool) → SameRows (cond field b d) f f′ → SameRows (cond field e b) t t′
       → SameRows b (cond field f t) (cond field f′ t′)
   same-own true h k = h
@@ -266,7 +256,7 @@ module _ (f t f′ t′ : List ℤ) (b d e : ℕ) where
   same-other false h k = h
 
 -- the new block and the other table's rows
-module _ (field : Bool) (f t f′ t′ : List ℤ) (s : Session)
+module _ (field : Bool) (f t f′ t′ : Table) (s : Session)
     (h : SameRows (cond field (newDepth field s) (s .depth .field .0)) f f′)
     (k : SameRows (cond field (s .depth .trim .0) (newDepth field s)) t t′) where
   pub same-new : rowsBetween (cond field f′ t′) (oldDepth field s) (newDepth field s)

@@ -1,60 +1,80 @@
 -- What the calls know once their checks have passed, what they then answer, and which checks legal tables pass. Assumes
 -- nothing.
-use mathlib.Core.Path.{_≡_, refl, sym, ap}
+use mathlib.Core.Path.{_≡_, refl, sym, ap, subst}
 use mathlib.Core.Bool.{Bool, true, false, cond, _&&_}
-use mathlib.Core.List.{List, [], _∷_}
+use mathlib.Core.List.{[], _∷_}
 use Prim.Native.Nat.{ℕ, _-_, _≤_, _<_}
 use native.Mathlib.Omega.{arith}
 use native.Mathlib.Decide.{decLe}
 use lib.Dec.{eqb}
-use lib.IntN.{ℤ}
 use borrow.Author.Tests.{eqb-true, eq-eqb}
 use Rattle.lists.specs.Bools.{clash, and-out}
 use Rattle.rules.specs.declared.Query.{Query}
 use Rattle.rules.specs.declared.Session.{Session}
 use Rattle.rules.specs.declared.Answer.{Answer}
 use Rattle.rules.specs.declared.Answer.the-variants.{Refused, Opened, Read, Settled, Given, NotYet, Finished}
-use Rattle.rules.specs.Tables.{rowCount, sizeFits, legal}
-use Rattle.rules.specs.Session.{opened, zeros, settled}
+use Rattle.rules.specs.Tables.{Table, rowCount, sizeFits, legal}
+use Rattle.rules.specs.Session.{twoTables, opened, zeros, settled}
 use Rattle.rules.specs.Read.{fieldNext, oldDepth, newDepth, readBlock}
 use Rattle.rules.specs.Take.{firstHeld, givesPair, movedOut, finished}
-use Rattle.rules.specs.Numbers.{tableSize, badRecord, said, refusal}
+use Rattle.rules.specs.Numbers.{tableSize, badRecord, wrongKind, otherCard, said, refusal}
 use Rattle.rules.specs.Checks.{first-out, unless-out}
-use Rattle.rules.specs.Calls.{queryCode, sizeCode, sameSizeCode, rowsCode, recordFits, recordCode, lentCode, callCode}
+use Rattle.rules.specs.Calls.{queryCode, isCard, kindCode, cardsCode, sizeCode, sameSizeCode, rowsCode, recordFits}
 use Rattle.rules.specs.Calls.{newBlockCodeBy, newBlockCode, step, openCode, openCall, readCallBy, readCall, takeCallBy}
-use Rattle.rules.specs.Calls.{takeCall}
+use Rattle.rules.specs.Calls.{recordCode, lentCode, callCode, takeCall}
 use Rattle.rules.specs.Query.{wasRead, wasGiven}
 use Rattle.session_laws.specs.Tables.{Sized, size-out, size-in, RowFits, rows-out, rows-in, legal-out}
 use Rattle.session_laws.specs.Record.{RecordFits, record-out, record-in}
 
 -- ---- Opening
 
-pub record Opening (q : Query) (f t : List ℤ) : Type 0 where
+-- two tables on one of the two cards
+pub record OneCard (f t : Table) : Type 0 where
+  pub known : isCard (f .coordinates) ≡ true
+  pub same : f .coordinates ≡ t .coordinates
+
+pub record Opening (q : Query) (f t : Table) : Type 0 where
   pub query : queryCode q ≡ 0
   pub field : Sized f
   pub trim : Sized t
+  pub cards : OneCard f t
 
-module _ (q : Query) (f t : List ℤ) where
+module _ (q : Query) (f t : Table) where
   pub open-out : openCode q f t ≡ 0 → Opening q f t
-  unfolding openCode sizeCode
+  unfolding openCode kindCode sizeCode cardsCode
   open-out h =
-      let passes = first-out (queryCode q ∷ sizeCode f ∷ sizeCode t ∷ []) h in
+      let sizes = sizeCode f ∷ sizeCode t ∷ cardsCode f t ∷ [] in
+      let passes = first-out (queryCode q ∷ kindCode f ∷ kindCode t ∷ sizes) h in
+      let same = eqb (f .coordinates) (t .coordinates) in
       record {
         query = passes 0;
-        field = size-out f (unless-out (sizeFits f) tableSize (omega arith) (passes 1));
-        trim = size-out t (unless-out (sizeFits t) tableSize (omega arith) (passes 2));
+        field = size-out f (unless-out (sizeFits f) tableSize (omega arith) (passes 3));
+        trim = size-out t (unless-out (sizeFits t) tableSize (omega arith) (passes 4));
+        cards =
+            record {
+              known = unless-out (isCard (f .coordinates)) wrongKind (omega arith) (passes 1);
+              same = eqb-true (f .coordinates) (t .coordinates) (unless-out same otherCard (omega arith) (passes 5));
+            };
       }
 
   pub open-in : Opening q f t → openCode q f t ≡ 0
-  unfolding openCode sizeCode
-  open-in h = rw (h .query, size-in f (h .field), size-in t (h .trim))
+  unfolding openCode kindCode sizeCode cardsCode
+  open-in h =
+      rw (
+        h .query,
+        h .cards .known,
+        subst (λ n. isCard n ≡ true) (h .cards .same) (h .cards .known),
+        size-in f (h .field),
+        size-in t (h .trim),
+        eq-eqb (f .coordinates) (t .coordinates) (h .cards .same),
+      )
 
   pub opened-code : openCall q f t .answer ≡ Opened → openCode q f t ≡ 0
   unfolding openCall
   opened-code e = go (eqb (openCode q f t) 0) refl e
     where
       go : (b : Bool) → eqb (openCode q f t) 0 ≡ b
-          → cond b (step Opened (opened q (record { 0 = rowCount f }) (record { 0 = rowCount t })))
+          → cond b (step Opened (opened q (twoTables f t)))
           (step (Refused (openCode q f t)) zeros) .answer
           ≡ Opened
           → openCode q f t ≡ 0
@@ -64,21 +84,25 @@ module _ (q : Query) (f t : List ℤ) where
   pub opened-query : openCall q f t .answer ≡ Opened → queryCode q ≡ 0
   opened-query e = open-out (opened-code e) .query
 
-  -- a query that is accepted opens any two legal tables
-  pub legal-opened : queryCode q ≡ 0 → legal f ≡ true → legal t ≡ true
-      → openCall q f t ≡ step Opened (opened q (record { 0 = rowCount f }) (record { 0 = rowCount t }))
+  pub opened-cards : openCall q f t .answer ≡ Opened → OneCard f t
+  opened-cards e = open-out (opened-code e) .cards
+
+  -- a query that is accepted opens any two legal tables on one card
+  pub legal-opened : queryCode q ≡ 0 → OneCard f t → legal f ≡ true → legal t ≡ true
+      → openCall q f t ≡ step Opened (opened q (twoTables f t))
   unfolding openCall
-  legal-opened e g h =
-      let fits : Opening q f t = record { query = e; field = legal-out f g .size; trim = legal-out t h .size } in
+  legal-opened e cards g h =
+      let fits : Opening q f t =
+      record { query = e; field = legal-out f g .size; trim = legal-out t h .size; cards = cards } in
       rw (eq-eqb (openCode q f t) 0 (open-in fits))
 
 -- ---- 4, later: a slice of the row count at opening
 
-pub record SameSize (rows : ℕ) (t : List ℤ) : Type 0 where
+pub record SameSize (rows : ℕ) (t : Table) : Type 0 where
   pub size : Sized t
   pub count : rowCount t ≡ rows
 
-module _ (rows : ℕ) (t : List ℤ) where
+module _ (rows : ℕ) (t : Table) where
   pub same-size-out : sameSizeCode rows t ≡ 0 → SameSize rows t
   unfolding sameSizeCode
   same-size-out h =
@@ -93,18 +117,18 @@ module _ (rows : ℕ) (t : List ℤ) where
 -- ---- 5, 4, 6, 7: a record and two slices
 
 -- neither by 5 nor by 4
-pub record Lent (f t : List ℤ) (s : Session) : Type 0 where
+pub record Lent (f t : Table) (s : Session) : Type 0 where
   pub fits : RecordFits s
   pub field : SameSize (s .rows .field .0) f
   pub trim : SameSize (s .rows .trim .0) t
 
 -- nor by 6 or 7
-pub record Accepted (f t : List ℤ) (s : Session) : Type 0 where
+pub record Accepted (f t : Table) (s : Session) : Type 0 where
   pub lent : Lent f t s
   pub field-rows : (i : ℕ) → i < s .depth .field .0 → RowFits f i
   pub trim-rows : (i : ℕ) → i < s .depth .trim .0 → RowFits t i
 
-module _ (f t : List ℤ) (s : Session) where
+module _ (f t : Table) (s : Session) where
   pub lent-out : lentCode f t s ≡ 0 → Lent f t s
   unfolding lentCode recordCode
   lent-out h =
@@ -152,10 +176,10 @@ module _ (f t : List ℤ) (s : Session) where
 -- ---- 6 and 7: a read's new block
 
 -- the rows of the new block, of the field table or of the trim table
-abbrev pub NewRowsFit : Bool → List ℤ → List ℤ → Session → Type 0
+abbrev pub NewRowsFit : Bool → Table → Table → Session → Type 0
 NewRowsFit field f t s = (i : ℕ) → oldDepth field s ≤ i → i < newDepth field s → RowFits (cond field f t) i
 
-module _ (f t : List ℤ) (s : Session) where
+module _ (f t : Table) (s : Session) where
   pub new-block-out : newBlockCode f t s ≡ 0 → NewRowsFit (fieldNext f t s) f t s
   unfolding newBlockCodeBy
   new-block-out h i k l =
@@ -169,7 +193,7 @@ module _ (f t : List ℤ) (s : Session) where
       rows-in (cond field f t) (oldDepth field s) (newDepth field s - oldDepth field s) (λ i k l. h i k (omega arith))
 
 -- every row down to the depths after the read
-pub read-rows : (field : Bool) (f t : List ℤ) (s : Session) → Accepted f t s → NewRowsFit field f t s
+pub read-rows : (field : Bool) (f t : Table) (s : Session) → Accepted f t s → NewRowsFit field f t s
     → ((i : ℕ) → i < cond field (newDepth field s) (s .depth .field .0) → RowFits f i)
     × ((i : ℕ) → i < cond field (s .depth .trim .0) (newDepth field s) → RowFits t i)
 read-rows true f t s a new = (λ i h. go i h (decLe (s .depth .field .0) i), a .trim-rows)
@@ -185,7 +209,7 @@ read-rows false f t s a new = (a .field-rows, λ i h. go i h (decLe (s .depth .t
 
 -- ---- Legal tables: only the record could be refused
 
-module _ (f t : List ℤ) (s : Session) (g : legal f ≡ true) (h : legal t ≡ true) (m : s .rows .field .0 ≡ rowCount f)
+module _ (f t : Table) (s : Session) (g : legal f ≡ true) (h : legal t ≡ true) (m : s .rows .field .0 ≡ rowCount f)
     (n : s .rows .trim .0 ≡ rowCount t) (d : s .depth .field .0 ≤ rowCount f) (e : s .depth .trim .0 ≤ rowCount t) where
   pub call-accepted : recordFits s ≡ true → callCode f t s ≡ 0
   call-accepted fits =
@@ -212,7 +236,7 @@ module _ (f t : List ℤ) (s : Session) (g : legal f ≡ true) (h : legal t ≡ 
 
 -- ---- What an accepted call answers
 
-module _ (f t : List ℤ) (s : Session) (a : callCode f t s ≡ 0) where
+module _ (f t : Table) (s : Session) (a : callCode f t s ≡ 0) where
   pub read-settled : settled f t s ≡ true → readCall f t s ≡ step Settled s
   unfolding readCallBy
   read-settled e = rw (eq-eqb (callCode f t s) 0 a, e)
@@ -236,19 +260,19 @@ module _ (f t : List ℤ) (s : Session) (a : callCode f t s ≡ 0) where
 -- ---- What an answer says of the call
 
 -- a read that reads a block was accepted, and not settled
-pub record Reads (f t : List ℤ) (s : Session) : Type 0 where
+pub record Reads (f t : Table) (s : Session) : Type 0 where
   pub accepted : callCode f t s ≡ 0
   pub unsettled : settled f t s ≡ false
   pub new-block : newBlockCode f t s ≡ 0
   pub after : readCall f t s ≡ step Read (readBlock f t s)
 
 -- a take that answers a pair was accepted, and moved it out
-pub record Takes (f t : List ℤ) (s : Session) : Type 0 where
+pub record Takes (f t : Table) (s : Session) : Type 0 where
   pub accepted : callCode f t s ≡ 0
   pub gives : givesPair f t s ≡ true
   pub after : takeCall f t s ≡ step (Given (firstHeld s)) (movedOut s)
 
-module _ (f t : List ℤ) (s : Session) where
+module _ (f t : Table) (s : Session) where
   pub was-read-out : wasRead (readCall f t s .answer) ≡ true → Reads f t s
   unfolding readCallBy
   was-read-out h = go (eqb (callCode f t s) 0) (settled f t s) (eqb (newBlockCode f t s) 0) refl refl refl h

@@ -6,5 +6,7 @@ pub mod Read
 pub mod Take
 pub mod Until
 pub mod Zeros
+pub mod Cards
+pub mod Shades
 pub mod Sound
 pub mod Alike

@@ -1,16 +1,14 @@
 -- An unsettled read: what it keeps, which table it reads, and that it raises a depth. Assumes nothing.
 use mathlib.Core.Path.{_≡_, refl, ap, _∙_}
 use mathlib.Core.Bool.{Bool, true, false, cond, _&&_, _||_}
-use mathlib.Core.List.{List}
 use Prim.Native.Nat.{ℕ, zero, suc, _+_, _-_, _≤_, _<_}
 use native.Mathlib.Omega.{arith}
 use lib.Dec.{eqb, leb, ltb}
-use lib.IntN.{ℤ}
 use borrow.Author.Tests.{eqb-false, eq-eqb}
 use Rattle.lists.specs.Lists.{every}
 use Rattle.lists.specs.Bools.{clash, or-none-out}
 use Rattle.rules.specs.declared.Session.{Session}
-use Rattle.rules.specs.Tables.{rowCount, terms, Block, qualifying}
+use Rattle.rules.specs.Tables.{Table, rowCount, terms, Block, qualifying}
 use Rattle.session_laws.specs.ReadOut.{unread-out, unread-first, live-out}
 use Rattle.rules.specs.Session.{isEmpty, fieldReadOut, trimReadOut, bothReadOut, aTableIsEmpty, heldPairs, secured}
 use Rattle.rules.specs.Session.{settledBy}
@@ -58,7 +56,7 @@ meet-joined s x y = go (skipped s x y)
     go true = omega arith
     go false = omega arith
 
-module _ (field : Bool) (s : Session) (new : Block) (t : List ℤ) (depth : ℕ) where
+module _ (field : Bool) (s : Session) (new : Block) (t : Table) (depth : ℕ) where
   pub blocks-keep : (n : ℕ) → Kept s (meetBlocks field s new t depth n)
   unfolding meetBlocksBy
   blocks-keep zero = keeps-refl s
@@ -74,7 +72,7 @@ module _ (field : Bool) (s : Session) (new : Block) (t : List ℤ) (depth : ℕ)
 
 -- ---- The depths after a read
 
-module _ (field : Bool) (f t : List ℤ) (s : Session) where
+module _ (field : Bool) (f t : Table) (s : Session) where
   -- the record before its depth is raised
   abbrev pub metAll : Session
   metAll =
@@ -114,13 +112,13 @@ module _ (s : Session) (m : s .depth .field .0 ≤ s .rows .field .0) (n : s .de
   new-within false = (m, omega arith)
 
 -- tables that have these rows: the one that is read has those down to b, the other one its own
-pub own-within : (field : Bool) (f t : List ℤ) (b d e : ℕ) → cond field b d ≤ rowCount f → cond field e b ≤ rowCount t
+pub own-within : (field : Bool) (f t : Table) (b d e : ℕ) → cond field b d ≤ rowCount f → cond field e b ≤ rowCount t
     → (b ≤ rowCount (cond field f t)) × (cond field e d ≤ rowCount (cond field t f))
 own-within true f t b d e x y = (x, y)
 own-within false f t b d e x y = (y, x)
 
 -- neither depth falls
-pub read-grows : (field : Bool) (f t : List ℤ) (s : Session)
+pub read-grows : (field : Bool) (f t : Table) (s : Session)
     → s .depth .field .0 ≤ s .rows .field .0 → s .depth .trim .0 ≤ s .rows .trim .0
     → (s .depth .field .0 ≤ readTable field f t s .depth .field .0)
     × (s .depth .trim .0 ≤ readTable field f t s .depth .trim .0)
@@ -130,7 +128,7 @@ read-grows false f t s h k = (omega (arith, read-field false f t s), omega (arit
 -- ---- An unsettled session
 
 -- the grounds of settled, none of which holds
-pub record Unsettled (f t : List ℤ) (s : Session) : Type 0 where
+pub record Unsettled (f t : Table) (s : Session) : Type 0 where
   pub field-live : isEmpty f (s .rows .field .0) (s .depth .field .0) ≡ false
   pub trim-live : isEmpty t (s .rows .trim .0) (s .depth .trim .0) ≡ false
   pub field-some : s .rows .field .0 ≡ 0 → ⊥
@@ -139,7 +137,7 @@ pub record Unsettled (f t : List ℤ) (s : Session) : Type 0 where
   pub wanted : s .out ≡ s .query .k → ⊥
   pub unsecured : s .out + s .held ≡ s .query .k → every (secured f t s) (heldPairs s) ≡ true → ⊥
 
-pub unsettled-out : (f t : List ℤ) (s : Session) → settled f t s ≡ false → Unsettled f t s
+pub unsettled-out : (f t : Table) (s : Session) → settled f t s ≡ false → Unsettled f t s
 unfolding settledBy
 unsettled-out f t s h =
     let last = eqb (s .out + s .held) (s .query .k) && every (secured f t s) (heldPairs s) in
@@ -175,7 +173,7 @@ unread false false false true g h k l = refl
 unread false false false false true h k l = refl
 unread false false false false false h k l = refl
 
-module _ (f t : List ℤ) (s : Session) (u : Unsettled f t s) where
+module _ (f t : Table) (s : Session) (u : Unsettled f t s) where
   chosen-unread : cond (fieldNext f t s) (fieldReadOut f s) (trimReadOut t s) ≡ false
   unfolding fieldNextBy
   chosen-unread =
@@ -207,7 +205,7 @@ depths s = s .depth .field .0 + s .depth .trim .0
 abbrev pub unreadRows : Session → ℕ
 unreadRows s = (s .rows .field .0 - s .depth .field .0) + (s .rows .trim .0 - s .depth .trim .0)
 
-module _ (f t : List ℤ) (s : Session) (h : settled f t s ≡ false) (size : 1 ≤ s .query .block)
+module _ (f t : Table) (s : Session) (h : settled f t s ≡ false) (size : 1 ≤ s .query .block)
     (m : s .depth .field .0 ≤ s .rows .field .0) (n : s .depth .trim .0 ≤ s .rows .trim .0) where
   pub read-raises : oldDepth (fieldNext f t s) s < newDepth (fieldNext f t s) s
   read-raises = let k = next-unread f t s (unsettled-out f t s h) m n in omega arith

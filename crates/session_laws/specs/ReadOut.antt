@@ -2,17 +2,15 @@
 -- nothing.
 use mathlib.Core.Path.{_≡_, refl, sym, ap, subst₂, _∙_}
 use mathlib.Core.Bool.{Bool, true, false, _&&_, _||_, not}
-use mathlib.Core.List.{List}
 use mathlib.Core.Logic.{_⊎_, inl, inr, ⊎-elim}
 use Prim.Native.Nat.{ℕ, zero, suc, _-_, _≤_, _<_}
 use native.Mathlib.Omega.{arith}
 use native.Mathlib.Decide.{le-ind, decLe}
 use lib.Dec.{eqb, ltb}
-use lib.IntN.{ℤ}
 use lib.Signed.{leZ}
 use borrow.Author.Tests.{eqb-true, eqb-false, eq-eqb, ne-eqb, ltb-true, lt-ltb, leb-true, not-true}
 use Rattle.lists.specs.Bools.{clash, and-out, and-in, or-out, or-in-left, or-in-right, or-none-out}
-use Rattle.rules.specs.Tables.{num, rowCount, rowInOrder, legal, Row, row, qualifies, withdrawn, rowsQualify}
+use Rattle.rules.specs.Tables.{Table, num, rowCount, rowInOrder, legal, Row, row, qualifies, withdrawn, rowsQualify}
 use Rattle.rules.specs.Session.{withdrawnWithin, readOut, isEmpty}
 use Rattle.session_laws.specs.Tables.{RowFits, score-kept, legal-out}
 
@@ -34,7 +32,7 @@ rows-qualify-in radius x y a b = rw (a, b)
 
 -- ---- A withdrawn row among the first
 
-module _ (t : List ℤ) where
+module _ (t : Table) where
   pub within-in : (n k : ℕ) → k < n → withdrawn (row t k) ≡ true → withdrawnWithin t n ≡ true
   unfolding withdrawnWithin
   within-in zero k h e = absurd (omega arith)
@@ -101,7 +99,7 @@ module _ (t : List ℤ) where
 
 -- ---- Of rows that passed 6 and 7, scores fall, so the last one tells
 
-module _ (t : List ℤ) (n : ℕ) (fits : (i : ℕ) → i < n → RowFits t i) where
+module _ (t : Table) (n : ℕ) (fits : (i : ℕ) → i < n → RowFits t i) where
   score-falls : (i : ℕ) → suc i < n → row t (suc i) .score ≤ row t i .score
   unfolding rowInOrder
   score-falls i h =
@@ -138,7 +136,7 @@ module _ (t : List ℤ) (n : ℕ) (fits : (i : ℕ) → i < n → RowFits t i) w
 
 -- ---- A row of a legal table that is not withdrawn, numbered from 1
 
-module _ (t : List ℤ) (g : legal t ≡ true) (rows depth i : ℕ) (count : rows ≡ rowCount t)
+module _ (t : Table) (g : legal t ≡ true) (rows depth i : ℕ) (count : rows ≡ rowCount t)
     (row-of : (1 ≤ i) × (i ≤ rowCount t)) (live : withdrawn (row t (i - 1)) ≡ false) where
   below : (k : ℕ) → k ≤ i - 1 → withdrawn (row t k) ≡ true → ⊥
   below k h e =

@@ -21,7 +21,7 @@ use Rattle.rules.specs.Take.{firstHeld}
 use Rattle.rules.specs.Numbers.{unless, listLength, blockSize, radiusRange, weightRange}
 use Rattle.rules.specs.Checks.{first-out, unless-out}
 use Rattle.rules.specs.Calls.{between, queryCode, countsFit, mostSum, pairFits, markFits, isZeros}
-use Rattle.rules.specs.Calls.{recordGrounds, recordFits}
+use Rattle.rules.specs.Calls.{isCard, recordGrounds, recordFits}
 
 module _ (low high n : ℕ) where
   pub between-out : between low high n ≡ true → (low ≤ n) × (n ≤ high)
@@ -196,6 +196,15 @@ module _ (s : Session) where
           let c : s .last ≡ 2 → ⊥ = eqb-false (s .last) 2 z in
           absurd (omega (arith, h .most))
 
+-- ---- 5: the card
+
+pub card-small : (n : ℕ) → isCard n ≡ true → n ≤ 3
+card-small n h = go (or-out (eqb n 2) (eqb n 3) h)
+  where
+    go : (eqb n 2 ≡ true) ⊎ (eqb n 3 ≡ true) → n ≤ 3
+    go (inl e) = omega (arith, eqb-true n 2 e)
+    go (inr e) = omega (arith, eqb-true n 3 e)
+
 -- ---- 5: the record
 
 -- as many block pairs as the depths have, and no more, can be joined
@@ -213,6 +222,7 @@ pub record RecordFits (s : Session) : Type 0 where
   pub mark : MarkFits s
   pub zeros : every isZeros (drop (s .held) (s .pairs)) ≡ true
   pub joined : s .joined ≤ mostJoined s
+  pub card : isCard (s .rows .card) ≡ true
 
 module _ (s : Session) where
   pub record-out : recordFits s ≡ true → RecordFits s
@@ -229,6 +239,7 @@ module _ (s : Session) where
         mark = mark-out s (passes 6);
         zeros = passes 7;
         joined = leb-true (s .joined) (mostJoined s) (passes 8);
+        card = passes 9;
       }
 
   pub record-in : RecordFits s → recordFits s ≡ true
@@ -243,8 +254,9 @@ module _ (s : Session) where
         h .rank,
         mark-in s (h .mark),
         h .zeros,
+        le-leb (s .joined) (mostJoined s) (h .joined),
       )
-      (le-leb (s .joined) (mostJoined s) (h .joined))
+      (h .card)
 
   -- the first held pair
   pub first-fits : RecordFits s → 0 < length (s .pairs) → 0 < s .held → PairFits s (firstHeld s)

@@ -9,17 +9,15 @@ use native.Mathlib.Nat.{suc-mul, mul-comm, mul-le-mul-right, div-add-mod', div-l
 use native.Mathlib.Nat.{add-mod-right, zero-mod}
 use native.Mathlib.Omega.{arith}
 use native.Mathlib.Decide.{decLe}
-use lib.IntN.{ℤ}
 use lib.ListN.{length, drop, replicate, length-take}
 use lib.Seq.{drop-append-seam, drop-append-le}
 use Rattle.lists.specs.Lists.{every}
 use Rattle.lists.specs.Bools.{and-out}
-use Rattle.rules.specs.declared.FieldRows.{FieldRows}
-use Rattle.rules.specs.declared.TrimRows.{TrimRows}
+use Rattle.rules.specs.declared.TwoTables.{TwoTables}
 use Rattle.rules.specs.declared.Query.{Query}
 use Rattle.rules.specs.declared.Pair.{Pair}
 use Rattle.rules.specs.declared.Session.{Session}
-use Rattle.rules.specs.Tables.{terms, Block, qualifying}
+use Rattle.rules.specs.Tables.{Table, terms, Block, qualifying}
 use Rattle.rules.specs.Session.{noPair, places, opened, heldPairs, settled}
 use Rattle.rules.specs.Read.{fieldNext, blockCount, blockAt, skipped, bestHeld, holding, meetBy, meet, meetBlocksBy}
 use Rattle.rules.specs.Read.{meetBlocks}
@@ -114,7 +112,7 @@ meet-cleared s x y h = go (skipped s x y)
     go true = h
     go false = places-cleared l
 
-blocks-cleared : (field : Bool) (s : Session) (new : Block) (t : List ℤ) (depth n : ℕ) → Cleared s
+blocks-cleared : (field : Bool) (s : Session) (new : Block) (t : Table) (depth n : ℕ) → Cleared s
     → Cleared (meetBlocks field s new t depth n)
 unfolding meetBlocksBy
 blocks-cleared field s new t depth zero h = h
@@ -125,9 +123,9 @@ blocks-cleared field s new t depth (suc n) h =
 
 -- ---- Opening
 
-pub sound-open : (q : Query) (m : FieldRows) (n : TrimRows) → Sound (opened q m n)
+pub sound-open : (q : Query) (tables : TwoTables) → Sound (opened q tables)
 unfolding opened
-sound-open q m n = record {
+sound-open q tables = record {
   field-whole = inl (zero-mod (q .block));
   trim-whole = inl (zero-mod (q .block));
   mark =
@@ -221,7 +219,7 @@ module _ (s r : Session) (h : Sound s) (size : 1 ≤ s .query .block) (cleared :
             (count-next block size e (newDepth false s) begins k) j);
       }
 
-pub sound-read : (f t : List ℤ) (s : Session) → Sound s → 1 ≤ s .query .block
+pub sound-read : (f t : Table) (s : Session) → Sound s → 1 ≤ s .query .block
     → s .depth .field .0 ≤ s .rows .field .0 → s .depth .trim .0 ≤ s .rows .trim .0 → settled f t s ≡ false
     → Sound (readBlock f t s)
 unfolding readTableBy

@@ -9,59 +9,62 @@ use native.Mathlib.Decide.{decLe}
 use lib.Dec.{eqb, leb, lit≤}
 use lib.IntN.{ℤ, pos, negsuc}
 use lib.Signed.{leZ}
-use lib.ListN.{length}
+use lib.ListN.{length, getD}
 use borrow.Author.Tests.{eqb-true, eq-eqb, leb-true, le-leb}
 use Rattle.lists.specs.Lists.{every, range}
 use Rattle.lists.specs.Bools.{clash, and-out, and-in}
 use Rattle.lists.specs.Parts.{mem-range, every-at, every-of}
-use Rattle.rules.specs.Tables.{num, mostRows, rowCount, within, inRange, rowInRange, rowInOrder, sizeFits, legal}
-use Rattle.rules.specs.Tables.{width, natOf, row, part, weighted}
-use Rattle.rules.specs.Widths.{rows-rest, no-rest, part-num}
+use Rattle.rules.specs.Tables.{Table, num, mostRows, rowCount, within, inRange, rowInRange, rowInOrder, sizeFits, legal}
+use Rattle.rules.specs.Tables.{width, natOf, row, part, weighted, coordinateFits, fitsAt, shadeFits, shadeAt}
+use Rattle.rules.specs.Widths.{rows-rest, no-rest, part-num, part-shade}
 use Rattle.rules.specs.Numbers.{unless, rowLimit, rowOrder}
 use Rattle.rules.specs.Checks.{first-out, first-in, unless-out}
 use Rattle.rules.specs.Calls.{rowCode, rowsCode}
 
 -- ---- 4: the size of a slice
 
-pub record Sized (t : List ℤ) : Type 0 where
+pub record Sized (t : Table) : Type 0 where
   pub few : rowCount t ≤ mostRows
-  pub whole : width * rowCount t ≡ length t
+  pub whole : width (t .coordinates) * rowCount t ≡ length (t .numbers)
 
-pub size-out : (t : List ℤ) → sizeFits t ≡ true → Sized t
+pub size-out : (t : Table) → sizeFits t ≡ true → Sized t
 unfolding sizeFits
 size-out t h =
-    let both = and-out (eqb (length t % width) 0) (leb (rowCount t) mostRows) h in
-    let rest : length t % width ≡ 0 = eqb-true (length t % width) 0 (both .0) in
+    let left = length (t .numbers) % width (t .coordinates) in
+    let both = and-out (eqb left 0) (leb (rowCount t) mostRows) h in
+    let rest : left ≡ 0 = eqb-true left 0 (both .0) in
     record { few = leb-true (rowCount t) mostRows (both .1); whole = rows-rest t rest }
 
-pub size-in : (t : List ℤ) → Sized t → sizeFits t ≡ true
+pub size-in : (t : Table) → Sized t → sizeFits t ≡ true
 unfolding sizeFits
 size-in t h =
-    and-in (eqb (length t % width) 0) (leb (rowCount t) mostRows) (eq-eqb (length t % width) 0 (no-rest t (h .whole)))
+    let left = length (t .numbers) % width (t .coordinates) in
+    and-in (eqb left 0) (leb (rowCount t) mostRows) (eq-eqb left 0 (no-rest t (h .whole)))
     (le-leb (rowCount t) mostRows (h .few))
 
 -- ---- 6: the ranges of a row's numbers
 
-pub record InRange (w x y z : ℤ) : Type 0 where
-  pub pattern : within (pos 1) (pos 999999) w ≡ true
-  pub score : within (pos 0) (pos 9999) x ≡ true
-  pub a : within (negsuc 12799) (pos 12700) y ≡ true
-  pub b : within (negsuc 12799) (pos 12700) z ≡ true
+pub record InRange (x y : ℤ) (z : List ℤ) : Type 0 where
+  pub pattern : within (pos 1) (pos 999999) x ≡ true
+  pub score : within (pos 0) (pos 9999) y ≡ true
+  pub shade : shadeFits z ≡ true
 
-module _ (p s a b : ℤ) where
-  pub range-out : inRange p s a b ≡ true → InRange p s a b
+module _ (p s : ℤ) (z : List ℤ) where
+  pub range-out : inRange p s z ≡ true → InRange p s z
   unfolding inRange
   range-out h =
-      let x = within (negsuc 12799) (pos 12700) a in
-      let y = within (negsuc 12799) (pos 12700) b in
-      let c = and-out (within (pos 1) (pos 999999) p) (within (pos 0) (pos 9999) s && (x && y)) h in
-      let d = and-out (within (pos 0) (pos 9999) s) (x && y) (c .1) in
-      let e = and-out x y (d .1) in
-      record { pattern = c .0; score = d .0; a = e .0; b = e .1 }
+      let c = and-out (within (pos 1) (pos 999999) p) (within (pos 0) (pos 9999) s && shadeFits z) h in
+      let d = and-out (within (pos 0) (pos 9999) s) (shadeFits z) (c .1) in
+      record { pattern = c .0; score = d .0; shade = d .1 }
 
-  pub range-in : InRange p s a b → inRange p s a b ≡ true
+  pub range-in : InRange p s z → inRange p s z ≡ true
   unfolding inRange
-  range-in h = rw (h .pattern, h .score, h .a) (h .b)
+  range-in h = rw (h .pattern, h .score) (h .shade)
+
+-- coordinate k of a shade in range
+pub shade-out : (z : List ℤ) → shadeFits z ≡ true → (k : ℕ) → k < length z → coordinateFits k (getD z k (pos 0)) ≡ true
+unfolding shadeFits fitsAt
+shade-out z h k l = every-at (fitsAt z) k h (mem-range k 0 (length z) .1 (omega arith))
 
 -- a number that is not below 0
 pos-nat : (low n : ℕ) (x : ℤ) → within (pos low) (pos n) x ≡ true → pos (natOf x) ≡ x
@@ -70,10 +73,10 @@ pos-nat low n (pos m) h = refl
 pos-nat low n (negsuc m) h = clash h refl
 
 -- row i + 1 as the rules look at it has the table's numbers
-module _ (t : List ℤ) (i : ℕ) (h : rowInRange t i ≡ true) where
-  abbrev ranges : InRange (num t i 0) (num t i 1) (num t i 2) (num t i 3)
+module _ (t : Table) (i : ℕ) (h : rowInRange t i ≡ true) where
+  abbrev pub ranges : InRange (num t i 0) (num t i 1) (shadeAt t i)
   unfolding rowInRange
-  ranges = range-out (num t i 0) (num t i 1) (num t i 2) (num t i 3) h
+  ranges = range-out (num t i 0) (num t i 1) (shadeAt t i) h
 
   pub pattern-kept : pos (row t i .pattern) ≡ num t i 0
   unfolding row
@@ -95,32 +98,31 @@ module _ (t : List ℤ) (i : ℕ) (h : rowInRange t i ≡ true) where
   weighted-most weight k = mul-le-mul k score-most
 
 -- rows of a part are those of its table
-module _ (t : List ℤ) (a n i : ℕ) (h : i < n) where
+module _ (t : Table) (a n i : ℕ) (h : i < n) where
   pub row-part : row (part t a n) i ≡ row t (a + i)
   unfolding row
   row-part =
       λ k.
       record {
-        pattern = natOf (part-num t a n i 0 h (lit≤ tt) k);
-        score = natOf (part-num t a n i 1 h (lit≤ tt) k);
-        shade = record { a = part-num t a n i 2 h (lit≤ tt) k; b = part-num t a n i 3 h (lit≤ tt) k };
+        pattern = natOf (part-num t a n i 0 h (omega arith) k);
+        score = natOf (part-num t a n i 1 h (omega arith) k);
+        shade = part-shade t a n i h k;
       }
 
   pub range-part : rowInRange (part t a n) i ≡ rowInRange t (a + i)
   unfolding rowInRange
   range-part =
       λ k.
-      inRange (part-num t a n i 0 h (lit≤ tt) k) (part-num t a n i 1 h (lit≤ tt) k) (part-num t a n i 2 h (lit≤ tt) k)
-      (part-num t a n i 3 h (lit≤ tt) k)
+      inRange (part-num t a n i 0 h (omega arith) k) (part-num t a n i 1 h (omega arith) k) (part-shade t a n i h k)
 
 -- ---- 6 and 7: rows
 
 -- row i + 1 is refused neither by 6 nor by 7
-pub record RowFits (t : List ℤ) (i : ℕ) : Type 0 where
+pub record RowFits (t : Table) (i : ℕ) : Type 0 where
   pub range : rowInRange t i ≡ true
   pub order : rowInOrder t i ≡ true
 
-module _ (t : List ℤ) where
+module _ (t : Table) where
   pub row-out : (i : ℕ) → rowCode t i ≡ 0 → RowFits t i
   unfolding rowCode
   row-out i e =
@@ -155,11 +157,11 @@ module _ (t : List ℤ) where
 
 -- ---- A legal table
 
-pub record LegalTable (t : List ℤ) : Type 0 where
+pub record LegalTable (t : Table) : Type 0 where
   pub size : Sized t
   pub rows : (i : ℕ) → i < rowCount t → RowFits t i
 
-module _ (t : List ℤ) where
+module _ (t : Table) where
   abbrev rowTest : ℕ → Bool
   rowTest i = rowInRange t i && rowInOrder t i
 

@@ -6,7 +6,6 @@ use mathlib.Core.List.{List, [], _∷_, _++_, List·Memᴰ, List·Memᴰ·head}
 use Prim.Native.Nat.{ℕ, zero, suc, _+_, _-_, _≤_}
 use native.Mathlib.Omega.{arith}
 use lib.Dec.{eqb, ltb}
-use lib.IntN.{ℤ}
 use lib.ListN.{length, getD, take, drop, length-take}
 use lib.Seq.{take-append-le}
 use borrow.Author.Tests.{eqb-true, eqb-false, eq-eqb, ne-eqb, ltb-true, ltb-false}
@@ -20,10 +19,11 @@ use Rattle.rules.specs.Session.{isEmpty, fieldReadOut, trimReadOut}
 use Rattle.rules.specs.Session.{noPair, heldPairs, aTableIsEmpty, bothReadOut, ceilingBy, securedBy, secured}
 use Rattle.rules.specs.Session.{settledBy, settled}
 use Rattle.rules.specs.Take.{firstHeld, givesPairBy, givesPair, movedOut, finished}
+use Rattle.rules.specs.Tables.{Table}
 
 -- ---- A pair is given while one is held, and secured
 
-module _ (f t : List ℤ) (s : Session) (e : givesPair f t s ≡ true) where
+module _ (f t : Table) (s : Session) (e : givesPair f t s ≡ true) where
   pub gives-some : 1 ≤ s .held
   unfolding givesPairBy
   gives-some = ltb-true 0 (s .held) (and-out (ltb 0 (s .held)) (secured f t s (firstHeld s)) e .0)
@@ -65,7 +65,7 @@ module _ (s : Session) (stored : length (heldPairs s) ≡ s .held) (some : 1 ≤
 -- ---- A settled session
 
 -- read out, all is secured
-read-out-secured : (f t : List ℤ) (s : Session) (p : Pair) → aTableIsEmpty f t s ≡ false → bothReadOut f t s ≡ true
+read-out-secured : (f t : Table) (s : Session) (p : Pair) → aTableIsEmpty f t s ≡ false → bothReadOut f t s ≡ true
     → secured f t s p ≡ true
 unfolding securedBy
 read-out-secured f t s p e b =
@@ -79,7 +79,7 @@ read-out-secured f t s p e b =
     let second = read-out-some t n d (live-out t n d (live .1) .0) (ends .1) in
     rw (ne-eqb c 0 (λ z. omega arith), ne-eqb d 0 (λ z. omega arith), ends .0, ends .1)
 
-module _ (f t : List ℤ) (s : Session) (stored : length (heldPairs s) ≡ s .held) where
+module _ (f t : Table) (s : Session) (stored : length (heldPairs s) ≡ s .held) where
   -- k pairs are held or out, and each held one is secured
   abbrev full : Bool
   full = eqb (s .out + s .held) (s .query .k) && every (secured f t s) (heldPairs s)

@@ -7,14 +7,13 @@ use Prim.Native.Nat.{ℕ, zero, suc, _+_, _-_, _≤_, _<_}
 use native.Mathlib.Nat.{not-suc-le-zero}
 use native.Mathlib.Omega.{arith}
 use lib.Dec.{eqb}
-use lib.IntN.{ℤ}
 use Rattle.rules.specs.declared.Session.{Session}
 use Rattle.rules.specs.declared.Step.{Step}
 use Rattle.rules.specs.declared.Answer.the-variants.{Refused, Opened}
 use Rattle.rules.specs.declared.Pair.{Pair}
 use Rattle.rules.specs.declared.Query.{Query}
-use Rattle.rules.specs.Tables.{rowCount}
-use Rattle.rules.specs.Session.{opened, zeros}
+use Rattle.rules.specs.Tables.{Table, rowCount}
+use Rattle.rules.specs.Session.{twoTables, opened, zeros}
 use Rattle.rules.specs.Read.{fieldNext}
 use Rattle.rules.specs.Take.{movedOut}
 use Rattle.rules.specs.Calls.{step, openCode, openCall, readCall, takeCall}
@@ -29,7 +28,7 @@ use Rattle.session_laws.specs.Take.{gives-some}
 abbrev pub wanted : Session → ℕ
 wanted s = s .query .k - s .out
 
-module _ (f t : List ℤ) where
+module _ (f t : Table) where
   -- ---- Reading
 
   -- a read that reads a block leaves fewer rows unread
@@ -111,7 +110,7 @@ module _ (f t : List ℤ) where
 
 -- ---- So the bounds of the rules' whole query never end it: any larger ones give the same record and the same list
 
-module _ (q : Query) (f t : List ℤ) where
+module _ (q : Query) (f t : Table) where
   pub settled-session-bound : (m : ℕ)
       → (openCall q f t .session .rows .field .0 + openCall q f t .session .rows .trim .0) < m
       → readUntilSettled m f t (openCall q f t .session) ≡ settledSession q f t
@@ -123,7 +122,7 @@ module _ (q : Query) (f t : List ℤ) where
   opened-wants = go (eqb (openCode q f t) 0)
     where
       go : (b : Bool)
-          → cond b (step Opened (opened q (record { 0 = rowCount f }) (record { 0 = rowCount t })))
+          → cond b (step Opened (opened q (twoTables f t)))
           (step (Refused (openCode q f t)) zeros) .session .query .k
           ≤ q .k
       go true = omega arith

@@ -2,30 +2,28 @@
 -- nothing.
 use mathlib.Core.Path.{_≡_}
 use mathlib.Core.Bool.{Bool, true, false, _&&_}
-use mathlib.Core.List.{List}
 use Prim.Native.Nat.{ℕ, _+_, _≤_}
 use native.Mathlib.Omega.{arith}
 use lib.Dec.{ltb}
-use lib.IntN.{ℤ}
 use Rattle.rules.specs.declared.Query.{Query}
-use Rattle.rules.specs.Tables.{terms, rowCount}
+use Rattle.rules.specs.Tables.{Table, terms, rowCount}
 use Rattle.rules.specs.Session.{firstScore}
 use Rattle.block.specs.Near.{placed, anyNear}
 
 -- what the first rows of two blocks add to a sum
-abbrev pub firstScores : Query → List ℤ → List ℤ → ℕ
+abbrev pub firstScores : Query → Table → Table → ℕ
 firstScores q x y = firstScore (terms q .field) x + firstScore (terms q .trim) y
 
-abbrev pub skips : Bool → ℕ → Query → List ℤ → List ℤ → Bool
+abbrev pub skips : Bool → ℕ → Query → Table → Table → Bool
 skips full low q x y = full && ltb (firstScores q x y) low
 
-pub record Effect (full : Bool) (low : ℕ) (q : Query) (x y : List ℤ) (r : ℕ) : Type 0 where
+pub record Effect (full : Bool) (low : ℕ) (q : Query) (x y : Table) (r : ℕ) : Type 0 where
   pub skip : r ≡ 0 → skips full low q x y ≡ true
   pub quiet : r ≡ 1 → (skips full low q x y ≡ false) × (anyNear (placed q) x y (rowCount x) ≡ false)
   pub joined : r ≡ 2 → skips full low q x y ≡ false
   pub most : r ≤ 2
 
-module _ (full : Bool) (low : ℕ) (q : Query) (x y : List ℤ) where
+module _ (full : Bool) (low : ℕ) (q : Query) (x y : Table) where
   pub effect-skip : skips full low q x y ≡ true → Effect full low q x y 0
   effect-skip h =
       record {

@@ -1,5 +1,5 @@
 -- A signed 32-bit number that is not below 0, as a natural number. Assumes nothing.
-use mathlib.Core.Path.{_≡_, refl, sym, _∙_}
+use mathlib.Core.Path.{_≡_, refl}
 use mathlib.Core.Bool.{true, false}
 use Prim.Native.Nat.{_<_, _^_}
 use native.Mathlib.Omega.{arith}

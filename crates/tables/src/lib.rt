@@ -1,13 +1,15 @@
 // The rows of a table and their checks, the rules' 4, 6 and 7: what the session and file reading share. Others see rows
-// through these functions, and not how many numbers a row has.
-use rules::Shade;
+// through these functions, and not how many numbers a row has; n is how many of them are the coordinates of its shade.
 ghost use mathlib.Core.Path.{_≡_};
+ghost use mathlib.Core.Bool.{_&&_};
 ghost use mathlib.Core.List.{[], _∷_};
 ghost use Prim.Native.Nat.{_+_, _*_, _-_, _≤_, _<_, _^_};
 ghost use denote.Ref.{ptr};
-ghost use lib.Dec.{eqb};
-ghost use Rattle.rules.specs.Tables.{width, num, rowCount, HasRow, HasRows, firstRows, part, mostRows, sizeFits};
-ghost use Rattle.rules.specs.Tables.{inRange, rowInRange, rowInOrder, natOf, row, withdrawn, weighted};
+ghost use lib.IntN.{pos};
+ghost use lib.ListN.{length};
+ghost use Rattle.rules.specs.Tables.{table, width, num, rowCount, HasRow, HasRows, firstRows, part, mostRows, sizeFits};
+ghost use Rattle.rules.specs.Tables.{within, coordinateFits, shadeFits, rowInRange, rowInOrder};
+ghost use Rattle.rules.specs.Tables.{natOf, row, withdrawn, weighted};
 ghost use Rattle.rules.specs.Numbers.{unless, first};
 ghost use Rattle.rules.specs.Calls.{rowCode, rowsCode, movedOn};
 
@@ -34,79 +36,139 @@ pub fn first(code: u32, next: u32) -> u32
     code
 }
 
-// How many rows a table has.
-pub fn row_count(t: &[i32]) -> usize
-    ensures { λ r. ⌜ r ≡ rowCount (now (t .entry)) ⌝ }
+// How many numbers a row has: pattern number, score, and a shade of n coordinates.
+pub fn width(n: u32) -> usize
+    ensures { λ r. ⌜ r ≡ width n ⌝ }
 {
-    t.len() / rules::ROW_NUMBERS
+    n as usize + 2
+}
+
+// How many rows a table has.
+pub fn rows_lent(n: u32, t: &[i32]) -> usize
+    ensures { λ r. ⌜ r ≡ rowCount (table n (now (t .entry))) ⌝ }
+{
+    t.len() / width(n)
+}
+
+// The same for each block that is met. The code is chosen by n: to divide by a number that the compiler does not know
+// takes long.
+pub fn row_count(n: u32, t: &[i32]) -> usize
+    ensures { λ r. ⌜ r ≡ rowCount (table n (now (t .entry))) ⌝ }
+{
+    if n == 2 {
+        return rows_lent(2, t);
+    }
+    if n == 3 {
+        return rows_lent(3, t);
+    }
+    rows_lent(n, t)
 }
 
 // Whether a slice is of whole rows, at most 65,535.
-pub fn size_fits(t: &[i32]) -> bool
-    ensures { λ r. ⌜ r ≡ sizeFits (now (t .entry)) ⌝ }
+pub fn size_fits(n: u32, t: &[i32]) -> bool
+    ensures { λ r. ⌜ r ≡ sizeFits (table n (now (t .entry))) ⌝ }
 {
-    (t.len() % rules::ROW_NUMBERS == 0) & (row_count(t) <= MOST_ROWS)
+    (t.len() % width(n) == 0) & (rows_lent(n, t) <= MOST_ROWS)
+}
+
+// Where row i + 1 begins, or the table ends.
+fn start(n: u32, t: &[i32], i: usize) -> usize
+    requires { ⌜ HasRows (table n (now t)) i ⌝ }
+    ensures { λ r. ⌜ r ≡ width n * i ⌝ }
+{
+    width(n) * i
 }
 
 // Rows a + 1 to e, as a part of their table.
-pub fn rows(t: &[i32], a: usize, e: usize) -> &[i32]
-    requires { ⌜ (a ≤ e) × HasRows (now t) e ⌝ }
-    ensures { λ r. ⌜ (now r ≡ part (now (t .entry)) a (e - a)) × (rowCount (now r) ≡ e - a) ⌝ }
-    ensures { λ r. ⌜ ptr r ≡ movedOn (ptr (t .entry)) (width * a) ⌝ }
+pub fn rows(n: u32, t: &[i32], a: usize, e: usize) -> &[i32]
+    requires { ⌜ (a ≤ e) × HasRows (table n (now t)) e ⌝ }
+    ensures { λ r. ⌜ (now r ≡ part (table n (now (t .entry))) a (e - a) .numbers)
+        × (rowCount (table n (now r)) ≡ e - a) ⌝ }
+    ensures { λ r. ⌜ ptr r ≡ movedOn (ptr (t .entry)) (width n * a) ⌝ }
 {
-    let from = rules::ROW_NUMBERS * a;
-    let to = rules::ROW_NUMBERS * e;
+    let from = start(n, t, a);
+    let to = start(n, t, e);
     &t[from..to]
 }
 
-// The first n rows.
-pub fn first_rows(t: &[i32], n: usize) -> &[i32]
-    requires { ⌜ HasRows (now t) n ⌝ }
-    ensures { λ r. ⌜ now r ≡ firstRows n (now (t .entry)) ⌝ }
+// The first m rows.
+pub fn first_rows(n: u32, t: &[i32], m: usize) -> &[i32]
+    requires { ⌜ HasRows (table n (now t)) m ⌝ }
+    ensures { λ r. ⌜ now r ≡ firstRows m (table n (now (t .entry))) .numbers ⌝ }
 {
-    let to = rules::ROW_NUMBERS * n;
+    let to = start(n, t, m);
     &t[..to]
 }
 
 // Number j of row i + 1.
-fn number(t: &[i32], i: usize, j: usize) -> i32
-    requires { ⌜ HasRow (now t) i × (j < width) ⌝ }
-    ensures { λ r. ⌜ r ≡ num (now (t .entry)) i j ⌝ }
+fn number(n: u32, t: &[i32], i: usize, j: usize) -> i32
+    requires { ⌜ HasRow (table n (now t)) i × (j < width n) ⌝ }
+    ensures { λ r. ⌜ r ≡ num (table n (now (t .entry))) i j ⌝ }
 {
-    t[rules::ROW_NUMBERS * i + j]
+    let o = start(n, t, i);
+    t[o + j]
 }
 
-// Whether the four numbers of a row keep their ranges.
-pub fn in_range(pattern: i32, score: i32, a: i32, b: i32) -> bool
-    ensures { λ r. ⌜ r ≡ inRange pattern score a b ⌝ }
+// The coordinates of row i + 1, as a part of the table.
+pub fn shade(n: u32, t: &[i32], i: usize) -> &[i32]
+    requires { ⌜ HasRow (table n (now t)) i ⌝ }
+    ensures { λ r. ⌜ (now r ≡ row (table n (now (t .entry))) i .shade) × (length (now r) ≡ n) ⌝ }
 {
-    ((1 <= pattern) & (pattern <= 999999))
-        & (((0 <= score) & (score <= 9999))
-            & (((-12800 <= a) & (a <= 12700)) & ((-12800 <= b) & (b <= 12700))))
+    let from = start(n, t, i) + 2;
+    let to = from + n as usize;
+    &t[from..to]
 }
 
-fn row_in_range(t: &[i32], i: usize) -> bool
-    requires { ⌜ (i < mostRows) × HasRow (now t) i ⌝ }
-    ensures { λ r. ⌜ r ≡ rowInRange (now (t .entry)) i ⌝ }
+// Whether coordinate k of a shade, from 0 on, keeps its range.
+pub fn coordinate_fits(k: usize, x: i32) -> bool
+    ensures { λ r. ⌜ r ≡ coordinateFits k x ⌝ }
 {
-    in_range(
-        number(t, i, 0),
-        number(t, i, 1),
-        number(t, i, 2),
-        number(t, i, 3),
-    )
+    if k < 2 {
+        return (-12800 <= x) & (x <= 12700);
+    }
+    (0 <= x) & (x <= 10000)
+}
+
+// Whether each coordinate of a shade keeps its range. It looks at all of them: no branch stands in the loop.
+pub fn shade_fits(shade: &[i32]) -> bool
+    ensures { λ r. ⌜ r ≡ shadeFits (now (shade .entry)) ⌝ }
+{
+    let mut fits = true;
+    let mut k: usize = 0;
+    while k < shade.len() {
+        let here = coordinate_fits(k, shade[k]);
+        fits = fits & here;
+        k += 1;
+    }
+    fits
+}
+
+// Whether the numbers of a row before its shade keep their ranges.
+pub fn in_range(pattern: i32, score: i32) -> bool
+    ensures { λ r. ⌜ r ≡ (within (pos 1) (pos 999999) pattern && within (pos 0) (pos 9999) score) ⌝ }
+{
+    ((1 <= pattern) & (pattern <= 999999)) & ((0 <= score) & (score <= 9999))
+}
+
+fn row_in_range(n: u32, t: &[i32], i: usize) -> bool
+    requires { ⌜ (i < mostRows) × HasRow (table n (now t)) i ⌝ }
+    ensures { λ r. ⌜ r ≡ rowInRange (table n (now (t .entry))) i ⌝ }
+{
+    let numbers = in_range(number(n, t, i, 0), number(n, t, i, 1));
+    let coordinates = shade_fits(shade(n, t, i));
+    numbers & coordinates
 }
 
 // Whether the score of row i + 1 is at most that of the row before.
-fn in_order(t: &[i32], i: usize) -> bool
-    requires { ⌜ (i < mostRows) × HasRow (now t) i ⌝ }
-    ensures { λ r. ⌜ r ≡ rowInOrder (now (t .entry)) i ⌝ }
+fn in_order(n: u32, t: &[i32], i: usize) -> bool
+    requires { ⌜ (i < mostRows) × HasRow (table n (now t)) i ⌝ }
+    ensures { λ r. ⌜ r ≡ rowInOrder (table n (now (t .entry))) i ⌝ }
 {
     if i == 0 {
         return true;
     }
     let before = i - 1;
-    number(t, i, 1) <= number(t, before, 1)
+    number(n, t, i, 1) <= number(n, t, before, 1)
 }
 
 // A number as one from 0 up: 0 where it is below.
@@ -120,81 +182,85 @@ pub fn natural(x: i32) -> u32
 }
 
 // The pattern number of row i + 1; one below 0, which no checked table has, is 0.
-pub fn pattern(t: &[i32], i: usize) -> u32
-    requires { ⌜ HasRow (now t) i ⌝ }
-    ensures { λ r. ⌜ r ≡ row (now (t .entry)) i .pattern ⌝ }
+pub fn pattern(n: u32, t: &[i32], i: usize) -> u32
+    requires { ⌜ HasRow (table n (now t)) i ⌝ }
+    ensures { λ r. ⌜ r ≡ row (table n (now (t .entry))) i .pattern ⌝ }
 {
-    natural(number(t, i, 0))
+    natural(number(n, t, i, 0))
 }
 
 // The score of row i + 1; one below 0, which no checked table has, is 0.
-pub fn score(t: &[i32], i: usize) -> u32
-    requires { ⌜ HasRow (now t) i ⌝ }
-    ensures { λ r. ⌜ (r ≡ row (now (t .entry)) i .score) × (r < 2 ^ 31) ⌝ }
+pub fn score(n: u32, t: &[i32], i: usize) -> u32
+    requires { ⌜ HasRow (table n (now t)) i ⌝ }
+    ensures { λ r. ⌜ (r ≡ row (table n (now (t .entry))) i .score) × (r < 2 ^ 31) ⌝ }
 {
-    natural(number(t, i, 1))
+    natural(number(n, t, i, 1))
 }
 
 // A weight times the score of row i + 1, for every weight and every row: the sum of two such fits 64 bits.
-pub fn weighted(weight: u32, t: &[i32], i: usize) -> u64
-    requires { ⌜ HasRow (now t) i ⌝ }
-    ensures { λ r. ⌜ (r ≡ weighted weight (row (now (t .entry)) i)) × (r ≤ 4294967295 * 2147483647) ⌝ }
+pub fn weighted(weight: u32, n: u32, t: &[i32], i: usize) -> u64
+    requires { ⌜ HasRow (table n (now t)) i ⌝ }
+    ensures { λ r. ⌜ (r ≡ weighted weight (row (table n (now (t .entry))) i)) × (r ≤ 4294967295 * 2147483647) ⌝ }
 {
-    let score = score(t, i);
+    let score = score(n, t, i);
     weight as u64 * score as u64
 }
 
 // Whether row i + 1 is withdrawn: its score is 0.
-pub fn is_withdrawn(t: &[i32], i: usize) -> bool
-    requires { ⌜ HasRow (now t) i ⌝ }
-    ensures { λ r. ⌜ r ≡ withdrawn (row (now (t .entry)) i) ⌝ }
+pub fn is_withdrawn(n: u32, t: &[i32], i: usize) -> bool
+    requires { ⌜ HasRow (table n (now t)) i ⌝ }
+    ensures { λ r. ⌜ r ≡ withdrawn (row (table n (now (t .entry))) i) ⌝ }
 {
-    score(t, i) == 0
-}
-
-// The shade of row i + 1.
-pub fn shade(t: &[i32], i: usize) -> Shade
-    requires { ⌜ HasRow (now t) i ⌝ }
-    ensures { λ r. ⌜ r ≡ row (now (t .entry)) i .shade ⌝ }
-{
-    Shade {
-        a: number(t, i, 2),
-        b: number(t, i, 3),
-    }
+    score(n, t, i) == 0
 }
 
 // What row i + 1 of a table is refused by, 6 before 7; 0 where it is not.
-pub fn row_code(t: &[i32], i: usize) -> u32
-    requires { ⌜ (i < mostRows) × HasRow (now t) i ⌝ }
-    ensures { λ r. ⌜ r ≡ rowCode (now (t .entry)) i ⌝ }
+fn row_code(n: u32, t: &[i32], i: usize) -> u32
+    requires { ⌜ (i < mostRows) × HasRow (table n (now t)) i ⌝ }
+    ensures { λ r. ⌜ r ≡ rowCode (table n (now (t .entry))) i ⌝ }
 {
-    let limit = unless(row_in_range(t, i), rules::ROW_LIMIT);
-    let order = unless(in_order(t, i), rules::ROW_ORDER);
-    first(limit, order)
+    if !row_in_range(n, t, i) {
+        return rules::ROW_LIMIT;
+    }
+    if !in_order(n, t, i) {
+        return rules::ROW_ORDER;
+    }
+    0
 }
 
-// Whether row i + 1 of a table is refused by neither.
-fn row_passes(t: &[i32], i: usize) -> bool
-    requires { ⌜ (i < mostRows) × HasRow (now t) i ⌝ }
-    ensures { λ r. ⌜ r ≡ eqb (rowCode (now (t .entry)) i) 0 ⌝ }
-{
-    let inside = row_in_range(t, i);
-    let ordered = in_order(t, i);
-    inside & ordered
-}
-
-// What the first of rows a + 1 to a + n that is refused is refused by; 0 where none is.
-pub fn rows_code(t: &[i32], a: usize, n: usize) -> u32
-    requires { ⌜ (a + n ≤ mostRows) × HasRows (now t) (a + n) ⌝ }
-    ensures { λ r. ⌜ r ≡ rowsCode (now (t .entry)) a n ⌝ }
+fn rows_code_at(n: u32, t: &[i32], a: usize, m: usize) -> u32
+    requires { ⌜ (a + m ≤ mostRows) × HasRows (table n (now t)) (a + m) ⌝ }
+    ensures { λ r. ⌜ r ≡ rowsCode (table n (now (t .entry))) a m ⌝ }
 {
     let mut i: usize = 0;
-    while i < n {
-        let next = a + i;
-        if !row_passes(t, next) {
-            return row_code(t, next);
+    while i < m {
+        let code = row_code(n, t, a + i);
+        if code != 0 {
+            return code;
         }
         i += 1;
     }
     0
+}
+
+// What the first of rows a + 1 to a + m that is refused is refused by; 0 where none is. The code is chosen by n, so
+// that the compiler knows how many numbers a row has, and for rows from the first on, so that it knows which row has
+// none before it.
+pub fn rows_code(n: u32, t: &[i32], a: usize, m: usize) -> u32
+    requires { ⌜ (a + m ≤ mostRows) × HasRows (table n (now t)) (a + m) ⌝ }
+    ensures { λ r. ⌜ r ≡ rowsCode (table n (now (t .entry))) a m ⌝ }
+{
+    if n == 2 {
+        if a == 0 {
+            return rows_code_at(2, t, 0, m);
+        }
+        return rows_code_at(2, t, a, m);
+    }
+    if n == 3 {
+        if a == 0 {
+            return rows_code_at(3, t, 0, m);
+        }
+        return rows_code_at(3, t, a, m);
+    }
+    rows_code_at(n, t, a, m)
 }

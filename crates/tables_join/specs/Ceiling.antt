@@ -8,7 +8,6 @@ use Prim.Native.Nat.{ℕ, _+_, _-_, _≤_, _<_}
 use native.Mathlib.Omega.{arith}
 use native.Mathlib.Decide.{decLe}
 use lib.Dec.{leb, eqb}
-use lib.IntN.{ℤ}
 use lib.ListN.{length, take}
 use borrow.Author.Tests.{leb-true, leb-false, le-leb, lt-leb, eqb-true, eqb-false, ne-eqb}
 use Rattle.lists.specs.Lists.{atLeast, every}
@@ -23,7 +22,8 @@ use Rattle.join.specs.HeldLaws.{held-cover}
 use Rattle.rules.specs.declared.Pair.{Pair}
 use Rattle.rules.specs.declared.Query.{Query}
 use Rattle.rules.specs.declared.Session.{Session}
-use Rattle.rules.specs.Tables.{rowCount, legal, Row, row, part, terms, pairSum, qualifying}
+use Rattle.rules.specs.Tables.{Table, rowCount, legal, Row, row, part, terms, pairSum, qualifying}
+use Rattle.rules.specs.Widths.{part-front}
 use Rattle.rules.specs.Session.{readOut}
 use Rattle.rules.specs.Session.{heldPairs, firstScore, lastScore, fieldReadOut, trimReadOut, bothReadOut, aTableIsEmpty}
 use Rattle.rules.specs.Session.{aDepthIsZero, ceilingBy, ceiling, securedBy, secured, settled}
@@ -44,13 +44,13 @@ ended-is n rows depth e h = go (eqb depth rows) refl
     go true z = le-leb n depth (omega (arith, eqb-true depth rows z))
     go false z = lt-leb n depth (let k = eqb-false depth rows z in omega arith)
 
-weight-is : (weight : Row → ℕ) (t : List ℤ) (i : ℕ) → i < rowCount t
-    → weightAt (falling (rowsBy weight)) (rowsOf t) i ≡ weight (row t i)
+weight-is : (weight : Row → ℕ) (t : Table) (i : ℕ) → i < rowCount t
+    → weightAt (falling (rowsBy (t .coordinates) weight)) (rowsOf t) i ≡ weight (row t i)
 unfolding weightAt
 weight-is weight t i h = ap weight (rows-at t i h)
 
 -- what it takes to be secured
-secured-cases : (f t : List ℤ) (s : Session) (p : Pair) → secured f t s p ≡ true
+secured-cases : (f t : Table) (s : Session) (p : Pair) → secured f t s p ≡ true
     → (bothReadOut f t s ≡ true) ⊎ (ceiling f t s ≤ p .sum)
 unfolding securedBy
 secured-cases f t s p h = go (aDepthIsZero s && not (aTableIsEmpty f t s)) (bothReadOut f t s) h
@@ -61,7 +61,7 @@ secured-cases f t s p h = go (aDepthIsZero s && not (aTableIsEmpty f t s)) (both
     go false true h = inl refl
     go false false h = inr (leb-true (ceiling f t s) (p .sum) h)
 
-secured-high : (f t : List ℤ) (s : Session) (p : Pair) → 1 ≤ s .depth .field .0 → 1 ≤ s .depth .trim .0
+secured-high : (f t : Table) (s : Session) (p : Pair) → 1 ≤ s .depth .field .0 → 1 ≤ s .depth .trim .0
     → ceiling f t s ≤ p .sum → secured f t s p ≡ true
 unfolding securedBy
 secured-high f t s p hd he h =
@@ -76,7 +76,7 @@ secured-high f t s p hd he h =
     go true = refl
     go false = refl
 
-module _ {q : Query} {f t : List ℤ} {out : List Pair} {s : Session} (a : Reached q f t out s) where
+module _ {q : Query} {f t : Table} {out : List Pair} {s : Session} (a : Reached q f t out s) where
   abbrev d : ℕ
   d = s .depth .field .0
 
@@ -84,10 +84,10 @@ module _ {q : Query} {f t : List ℤ} {out : List Pair} {s : Session} (a : Reach
   e = s .depth .trim .0
 
   abbrev S : Side Row
-  S = fieldSide q
+  S = fieldSide (f .coordinates) q
 
   abbrev U : Side Row
-  U = trimSide q
+  U = trimSide (t .coordinates) q
 
   abbrev F : List Row
   F = rowsOf f
@@ -141,8 +141,8 @@ module _ {q : Query} {f t : List ℤ} {out : List Pair} {s : Session} (a : Reach
   -- ---- What lies outside the depths is no higher than the ceiling
 
   module _ (g : legal f ≡ true) (h : legal t ≡ true) where
-    begins-itself : {weight : Row → ℕ} → Rises weight → (n : ℕ) (u : List ℤ) → legal u ≡ true
-        → Join.Begins (falling (rowsBy weight)) n (rowsOf u) (rowsOf u)
+    begins-itself : {weight : Row → ℕ} → Rises weight → (n : ℕ) (u : Table) → legal u ≡ true
+        → Join.Begins (falling (rowsBy (u .coordinates) weight)) n (rowsOf u) (rowsOf u)
     begins-itself rises n u l = record { legal = legal-rows u l rises; rows = refl; ends = λ k. refl }
 
     outside : 1 ≤ d → 1 ≤ e → (p : Pair) → QualifyingPair q f t p → (d < p .field) ⊎ (e < p .trim)
@@ -156,7 +156,8 @@ module _ {q : Query} {f t : List ℤ} {out : List Pair} {s : Session} (a : Reach
         let meets : near q (Join.rowAt S F i) (Join.rowAt U T j) ≡ true =
         ap₂ (near q) (rows-at f i hi) (rows-at t j hj) ∙ m .near in
         let low =
-        outside-low S U (near q) (laws q (a .accepted)) F F T T d e i j (legal-rows f g (field-rises q (a .accepted)))
+        outside-low S U (near q) (laws q (a .accepted) f t (a .cards .same)) F F T T d e i j
+        (legal-rows f g (field-rises q (a .accepted)))
         (legal-rows t h (trim-rises q (a .accepted))) hd he (begins-itself (field-rises q (a .accepted)) d f g)
         (begins-itself (trim-rises q (a .accepted)) e t h)
         (⊎-elim (λ z. inl (omega arith)) (λ z. inr (omega arith)) o) (omega (arith, length-rows f))
@@ -195,10 +196,10 @@ module _ {q : Query} {f t : List ℤ} {out : List Pair} {s : Session} (a : Reach
 
     -- ---- An unsettled session has fewer than k sums at its ceiling
 
-    part-rows : (n : ℕ) (u : List ℤ) → legal u ≡ true → rowsOf (part u 0 (n - 0)) ≡ take n (rowsOf u)
+    part-rows : (n : ℕ) (u : Table) → legal u ≡ true → rowsOf (part u 0 (n - 0)) ≡ take n (rowsOf u)
     part-rows n u l =
         let z : n - 0 ≡ n = omega arith in
-        ap (λ m. rowsOf (part u 0 m)) z ∙ rows-take n u l
+        ap (λ m. rowsOf (part u 0 m)) z ∙ ap rowsOf (part-front u n) ∙ rows-take u l n
 
     abbrev pairs : List Pair
     pairs = qualifying (terms q) (rowsBetween f 0 d) (rowsBetween t 0 e)
@@ -208,7 +209,7 @@ module _ {q : Query} {f t : List ℤ} {out : List Pair} {s : Session} (a : Reach
 
     region-sums : map (λ p. p .sum) pairs ≡ sums
     region-sums =
-        sums-rows q (rowsBetween f 0 d) (rowsBetween t 0 e)
+        sums-rows q (f .coordinates) (t .coordinates) (rowsBetween f 0 d) (rowsBetween t 0 e)
         ∙ ap₂ (sumsOf S U (near q)) (part-rows d f g) (part-rows e t h)
 
     module _ (hd : 1 ≤ d) (he : 1 ≤ e) where

@@ -7,7 +7,6 @@ use mathlib.Core.Logic.{inl, inr}
 use Prim.Native.Nat.{ℕ, _≤_, _<_, max, _+_, _-_}
 use native.Mathlib.Omega.{arith}
 use lib.Dec.{leb, ltb, eqb}
-use lib.IntN.{ℤ}
 use borrow.Author.Tests.{leb-true, leb-false, ltb-true, ltb-false, eqb-true, eqb-false}
 use Rattle.lists.specs.Bools.{clash}
 use Rattle.join.specs.Join.{Chosen, dropAt}
@@ -17,7 +16,7 @@ use Rattle.rules.specs.declared.TrimRows.{TrimRows}
 use Rattle.rules.specs.declared.Pair.{Pair}
 use Rattle.rules.specs.declared.Query.{Query}
 use Rattle.rules.specs.declared.Session.{Session}
-use Rattle.rules.specs.Tables.{terms, legal}
+use Rattle.rules.specs.Tables.{Table, terms, legal}
 use Rattle.rules.specs.Session.{fieldReadOut, trimReadOut, bothReadOut, settled}
 use Rattle.rules.specs.Read.{scoreDrop, fieldNextBy, fieldNext, readTable, readBlock}
 use Rattle.rules.specs.Sure.{Sure}
@@ -30,7 +29,7 @@ use Rattle.tables_join.specs.Reached.{Reached}
 use Rattle.tables_join.specs.Ceiling.{field-ended, trim-ended, first-field, last-field, first-trim, last-trim}
 use Rattle.tables_join.specs.Ceiling.{unsettled-short}
 
-module _ {q : Query} {f t : List ℤ} {out : List Pair} {s : Session} (a : Reached q f t out s)
+module _ {q : Query} {f t : Table} {out : List Pair} {s : Session} (a : Reached q f t out s)
     (more : bothReadOut f t s ≡ false) where
   abbrev d : ℕ
   d = s .depth .field .0
@@ -68,25 +67,26 @@ module _ {q : Query} {f t : List ℤ} {out : List Pair} {s : Session} (a : Reach
     trim-some : 1 ≤ e
     trim-some = let z = eqb-false e 0 e0 in omega arith
 
-    field-drop : dropAt (fieldSide q) (rowsOf f) d ≡ u
+    field-drop : dropAt (fieldSide (f .coordinates) q) (rowsOf f) d ≡ u
     field-drop = omega (arith, first-field a field-some trim-some, last-field a field-some trim-some)
 
-    trim-drop : dropAt (trimSide q) (rowsOf t) e ≡ v
+    trim-drop : dropAt (trimSide (t .coordinates) q) (rowsOf t) e ≡ v
     trim-drop = omega (arith, first-trim a field-some trim-some, last-trim a field-some trim-some)
 
   -- the join's choice of the field table, or of the trim table
   abbrev Next : Bool → Type 0
-  Next true = Chosen (fieldSide q) (trimSide q) (rowsOf f) d (rowsOf t) e
-  Next false = Chosen (trimSide q) (fieldSide q) (rowsOf t) e (rowsOf f) d
+  Next true = Chosen (fieldSide (f .coordinates) q) (trimSide (t .coordinates) q) (rowsOf f) d (rowsOf t) e
+  Next false = Chosen (trimSide (t .coordinates) q) (fieldSide (f .coordinates) q) (rowsOf t) e (rowsOf f) d
 
   chosen : (field : Bool) → fieldNext f t s ≡ field → Next field
   chosen field n = subst Next n (by-tests Next go)
     where
       -- equal drops: the one with fewer rows read
       fewer : ltb u v ≡ false → ltb v u ≡ false
-          → dropAt (fieldSide q) (rowsOf f) d ≡ u → dropAt (trimSide q) (rowsOf t) e ≡ v → 1 ≤ d → 1 ≤ e
-          → fieldSide q .ended (rowsOf f) d ≡ false → trimSide q .ended (rowsOf t) e ≡ false → (b : Bool)
-          → leb d e ≡ b → Next b
+          → dropAt (fieldSide (f .coordinates) q) (rowsOf f) d ≡ u
+          → dropAt (trimSide (t .coordinates) q) (rowsOf t) e ≡ v → 1 ≤ d → 1 ≤ e
+          → fieldSide (f .coordinates) q .ended (rowsOf f) d ≡ false
+          → trimSide (t .coordinates) q .ended (rowsOf t) e ≡ false → (b : Bool) → leb d e ≡ b → Next b
       fewer l m i j hd he x y true n =
           let no-less = ltb-false v u m in
           inr (he, x, inr (inr (omega (arith, i, j), leb-true d e n)))
@@ -121,27 +121,29 @@ module _ {q : Query} {f t : List ℤ} {out : List Pair} {s : Session} (a : Reach
           (trim-ended a ∙ ex) (leb d e) refl
 
 -- fact 5 of a session: an unsettled read goes on from a depth below every sure reading's
-module _ {q : Query} {f t : List ℤ} {out : List Pair} {s : Session} (a : Reached q f t out s) (g : legal f ≡ true)
+module _ {q : Query} {f t : Table} {out : List Pair} {s : Session} (a : Reached q f t out s) (g : legal f ≡ true)
     (h : legal t ≡ true) (wanted : 1 ≤ q .k) (u : settled f t s ≡ false) (m : FieldRows) (n : TrimRows)
     (sure : Sure q f t m n) where
-  live : fieldSide q .empty (rowsOf f) (s .depth .field .0) ≡ false
+  live : fieldSide (f .coordinates) q .empty (rowsOf f) (s .depth .field .0) ≡ false
   live =
       empty-read (field-rises q (a .accepted)) f (s .depth .field .0) (s .rows .field .0) (a .field-rows)
       (a .field-depth)
       ∙ unsettled-out f t s u .field-live
 
-  live-trim : trimSide q .empty (rowsOf t) (s .depth .trim .0) ≡ false
+  live-trim : trimSide (t .coordinates) q .empty (rowsOf t) (s .depth .trim .0) ≡ false
   live-trim =
       empty-read (trim-rises q (a .accepted)) t (s .depth .trim .0) (s .rows .trim .0) (a .trim-rows) (a .trim-depth)
       ∙ unsettled-out f t s u .trim-live
 
-  unended : (fieldSide q .ended (rowsOf f) (s .depth .field .0) && trimSide q .ended (rowsOf t) (s .depth .trim .0))
+  unended : (fieldSide (f .coordinates) q .ended (rowsOf f) (s .depth .field .0)
+      && trimSide (t .coordinates) q .ended (rowsOf t) (s .depth .trim .0))
       ≡ false
   unended = rw (field-ended a, trim-ended a) (unsettled-out f t s u .unread)
 
   field-limit : fieldNext f t s ≡ true → s .depth .field .0 < max (m .0) (n .0)
   field-limit c =
-      row-limit (fieldSide q) (trimSide q) (near q) (laws q (a .accepted)) (rowsOf f) (rowsOf t)
+      row-limit (fieldSide (f .coordinates) q) (trimSide (t .coordinates) q) (near q)
+      (laws q (a .accepted) f t (a .cards .same)) (rowsOf f) (rowsOf t)
       (legal-rows f g (field-rises q (a .accepted))) (legal-rows t h (trim-rises q (a .accepted)))
       (q .k) (m .0) (n .0) (s .depth .field .0) (s .depth .trim .0) wanted live live-trim unended
       (λ hd he. unsettled-short a g h hd he u) (chosen a (unsettled-out f t s u .unread) true c)
@@ -149,7 +151,8 @@ module _ {q : Query} {f t : List ℤ} {out : List Pair} {s : Session} (a : Reach
 
   trim-limit : fieldNext f t s ≡ false → s .depth .trim .0 < max (m .0) (n .0)
   trim-limit c =
-      row-limit-trim (fieldSide q) (trimSide q) (near q) (laws q (a .accepted)) (rowsOf f) (rowsOf t)
+      row-limit-trim (fieldSide (f .coordinates) q) (trimSide (t .coordinates) q) (near q)
+      (laws q (a .accepted) f t (a .cards .same)) (rowsOf f) (rowsOf t)
       (legal-rows f g (field-rises q (a .accepted))) (legal-rows t h (trim-rises q (a .accepted))) (q .k)
       (m .0) (n .0) (s .depth .field .0) (s .depth .trim .0) wanted live live-trim unended
       (λ hd he. unsettled-short a g h hd he u) (chosen a (unsettled-out f t s u .unread) false c)

@@ -9,7 +9,6 @@ use native.Mathlib.Omega.{arith}
 use native.Mathlib.Nat.{suc-mul, lt-div-mul-add}
 use native.Mathlib.Decide.{decLe}
 use lib.Dec.{eqb, ltb}
-use lib.IntN.{ℤ}
 use lib.ListN.{length, take, replicate}
 use lib.Seq.{take-append-seam}
 use borrow.Author.Tests.{eqb-true, ltb-true}
@@ -20,7 +19,7 @@ use Rattle.join.specs.HeldLaws.{skip-same, holds-join, held-ranked, holds-same}
 use Rattle.rules.specs.declared.Pair.{Pair}
 use Rattle.rules.specs.declared.Query.{Query}
 use Rattle.rules.specs.declared.Session.{Session}
-use Rattle.rules.specs.Tables.{rowCount, terms, ahead, Block, qualifying, legal}
+use Rattle.rules.specs.Tables.{Table, rowCount, terms, ahead, Block, qualifying, legal}
 use Rattle.rules.specs.Session.{heldPairs, noPair, places, firstScore}
 use Rattle.rules.specs.Read.{lowest, skippedBy, skipped, bestHeld, holding, meetBy, meet, rowsBetween, blockCount}
 use Rattle.rules.specs.Read.{meetBlocksBy}
@@ -137,7 +136,7 @@ module _ (s : Session) (x y : Block) where
 -- ---- A new block meets all blocks read of the other table
 
 -- the other table's rows up to m + size, of c, are those up to m and the next ones
-between-split : (field : Bool) (query : Query) (f t : List ℤ) (a b m size c : ℕ) (p : Pair)
+between-split : (field : Bool) (query : Query) (f t : Table) (a b m size c : ℕ) (p : Pair)
     → Between field query f t a b 0 (min (m + size) c) p
     ↔ (Between field query f t a b 0 (min m c) p ⊎ Between field query f t a b m (min (m + size) c) p)
 between-split field query f t a b m size c p = (
@@ -151,7 +150,7 @@ between-split field query f t a b m size c p = (
     go h (yes k) = inl (record { fits = h .fits; own-part = h .own-part; other-part = omega (arith, h .other-part) })
     go h (no k) = inr (record { fits = h .fits; own-part = h .own-part; other-part = omega (arith, h .other-part) })
 
-module _ (field : Bool) (f t : List ℤ) (g : legal f ≡ true) (h : legal t ≡ true) (s : Session) (a b c : ℕ)
+module _ (field : Bool) (f t : Table) (g : legal f ≡ true) (h : legal t ≡ true) (s : Session) (a b c : ℕ)
     (hb : b ≤ rowCount (cond field f t)) (hc : c ≤ rowCount (cond field t f)) (R : Pair → Type 0)
     (old : (p : Pair) → R p → ownRow field p ≤ a) (out : List Pair) (k : Keeping R out s) where
   abbrev size : ℕ

@@ -6,16 +6,15 @@ use mathlib.Core.List.{List, map, List·Memᴰ, Memᴰ·cast, Memᴰ·map, Mem�
 use mathlib.Core.Logic.{_↔_, inl}
 use Prim.Native.Nat.{ℕ, _-_, _≤_, _<_, _+_}
 use native.Mathlib.Omega.{arith}
-use lib.IntN.{ℤ}
-use lib.ListN.{length-take, length-drop}
 use Rattle.lists.specs.Lists.{keep, range, each}
 use Rattle.lists.specs.Words.{Distinct}
 use Rattle.lists.specs.Parts.{mem-range, range-distinct, mem-keep, keep-distinct, mem-each, each-distinct, map-distinct}
 use Rattle.join.specs.Held.{Rank}
 use Rattle.rules.specs.declared.Pair.{Pair}
 use Rattle.rules.specs.declared.Query.{Query}
-use Rattle.rules.specs.Tables.{rowCount, row, terms, pairSum, legal, part, ahead, Block, pairAt}
+use Rattle.rules.specs.Tables.{Table, rowCount, row, terms, pairSum, legal, part, ahead, Block, pairAt}
 use Rattle.rules.specs.Tables.{qualifying}
+use Rattle.rules.specs.Widths.{has-rows, part-count, part-most}
 use Rattle.rules.specs.Session.{firstScore}
 use Rattle.rules.specs.Read.{rowsBetween}
 use Rattle.rules.specs.Ranking.{Before, before-ahead, ahead-trans, ahead-asym, ahead-tri}
@@ -23,7 +22,7 @@ use Rattle.session_laws.specs.Tables.{row-part}
 use Rattle.tables_join.specs.Rows.{near, field-up, trim-up, scores-fall}
 
 -- rows of the tables that qualify, with their own sum
-pub record QualifyingPair (query : Query) (f t : List ℤ) (p : Pair) : Type 0 where
+pub record QualifyingPair (query : Query) (f t : Table) (p : Pair) : Type 0 where
   pub field-row : (1 ≤ p .field) × (p .field ≤ rowCount f)
   pub trim-row : (1 ≤ p .trim) × (p .trim ≤ rowCount t)
   pub near : near query (row f (p .field - 1)) (row t (p .trim - 1)) ≡ true
@@ -37,17 +36,17 @@ abbrev pub otherRow : Bool → Pair → ℕ
 otherRow field p = cond field (p .trim) (p .field)
 
 -- the pairs of rows a + 1 to b of the table that is read and rows c + 1 to d of the other one
-pub record Between (field : Bool) (query : Query) (f t : List ℤ) (a b c d : ℕ) (p : Pair) : Type 0 where
+pub record Between (field : Bool) (query : Query) (f t : Table) (a b c d : ℕ) (p : Pair) : Type 0 where
   pub fits : QualifyingPair query f t p
   pub own-part : (a < ownRow field p) × (ownRow field p ≤ b)
   pub other-part : (c < otherRow field p) × (otherRow field p ≤ d)
 
 -- the region of two depths
-abbrev pub Region : Query → List ℤ → List ℤ → ℕ → ℕ → Pair → Type 0
+abbrev pub Region : Query → Table → Table → ℕ → ℕ → Pair → Type 0
 Region query f t d e = Between true query f t 0 d 0 e
 
 -- the pair of field row i + 1 and trim row j + 1
-abbrev pub pairOfRows : Query → List ℤ → List ℤ → ℕ → ℕ → Pair
+abbrev pub pairOfRows : Query → Table → Table → ℕ → ℕ → Pair
 pairOfRows query f t i j = record { sum = pairSum (terms query) (row f i) (row t j); field = i + 1; trim = j + 1 }
 
 -- ---- The rank of pairs
@@ -61,12 +60,12 @@ pair-rank = record {
 
 -- ---- Parts of a table
 
-module _ (t : List ℤ) (a n : ℕ) where
+module _ (t : Table) (a n : ℕ) where
   count-part : a + n ≤ rowCount t → rowCount (part t a n) ≡ n
-  count-part h = rw (length-take, length-drop) (omega arith)
+  count-part h = part-count t a n (has-rows t (a + n) h)
 
   count-part-le : rowCount (part t a n) ≤ n
-  count-part-le = rw (length-take, length-drop) (omega arith)
+  count-part-le = part-most t a n
 
   first-part : 1 ≤ n → row (part t a n) 0 ≡ row t a
   first-part h =
@@ -93,7 +92,7 @@ qualifying-distinct query x y =
     meets : ℕ → ℕ → Bool
     meets i j = near query (row (x .rows) i) (row (y .rows) j)
 
-module _ (query : Query) (f t : List ℤ) where
+module _ (query : Query) (f t : Table) where
   rows-qualify : (i j : ℕ) → i < rowCount f → j < rowCount t → near query (row f i) (row t j) ≡ true
       → QualifyingPair query f t (pairOfRows query f t i j)
   rows-qualify i j h k e =
@@ -232,13 +231,13 @@ module _ (query : Query) (f t : List ℤ) where
 -- ---- The same, whichever table is read
 
 -- rows a + 1 to b of the table that is read, and rows c + 1 to d of the other one, as field and trim block
-abbrev pub fieldPart : Bool → List ℤ → List ℤ → ℕ → ℕ → ℕ → ℕ → Block
+abbrev pub fieldPart : Bool → Table → Table → ℕ → ℕ → ℕ → ℕ → Block
 fieldPart field f t a b c d = cond field (rowsBetween (cond field f t) a b) (rowsBetween (cond field t f) c d)
 
-abbrev pub trimPart : Bool → List ℤ → List ℤ → ℕ → ℕ → ℕ → ℕ → Block
+abbrev pub trimPart : Bool → Table → Table → ℕ → ℕ → ℕ → ℕ → Block
 trimPart field f t a b c d = cond field (rowsBetween (cond field t f) c d) (rowsBetween (cond field f t) a b)
 
-pub mem-between : (field : Bool) (query : Query) (f t : List ℤ) (a b c d : ℕ) → b ≤ rowCount (cond field f t)
+pub mem-between : (field : Bool) (query : Query) (f t : Table) (a b c d : ℕ) → b ≤ rowCount (cond field f t)
     → d ≤ rowCount (cond field t f) → (p : Pair)
     → List·Memᴰ p
     (qualifying (terms query) (fieldPart field f t a b c d) (trimPart field f t a b c d))
@@ -249,7 +248,7 @@ mem-between false query f t a b c d hb hd p =
     let e = between-swap query f t a b c d p in
     (λ i. e .0 (m .0 i), λ i. m .1 (e .1 i))
 
-pub between-low : (field : Bool) (query : Query) (f t : List ℤ) (a b c d : ℕ) → legal f ≡ true → legal t ≡ true
+pub between-low : (field : Bool) (query : Query) (f t : Table) (a b c d : ℕ) → legal f ≡ true → legal t ≡ true
     → (p : Pair) → Between field query f t a b c d p
     → p .sum
     ≤ firstScore (terms query .field) (fieldPart field f t a b c d .rows)

@@ -8,7 +8,6 @@ use Prim.Native.Nat.{ℕ, _≤_, _<_, _+_, _-_}
 use native.Mathlib.Omega.{arith}
 use native.Mathlib.Decide.{decLe}
 use lib.Dec.{eqb}
-use lib.IntN.{ℤ}
 use lib.ListN.{length, take, length-append}
 use borrow.Author.Tests.{eqb-true}
 use Rattle.lists.specs.Bools.{and-out, or-out}
@@ -20,12 +19,13 @@ use Rattle.rules.specs.declared.Pair.{Pair}
 use Rattle.rules.specs.declared.Query.{Query}
 use Rattle.rules.specs.declared.Session.{Session}
 use Rattle.rules.specs.declared.Counts.{Counts}
-use Rattle.rules.specs.Tables.{rowCount, row, ahead, legal, pairSum}
+use Rattle.rules.specs.Tables.{Table, rowCount, row, ahead, legal, pairSum}
 use Rattle.rules.specs.Session.{isEmpty, heldPairs, opened, bothReadOut, aTableIsEmpty, fieldReadOut, trimReadOut}
-use Rattle.rules.specs.Session.{settled}
+use Rattle.rules.specs.Session.{twoTables, settled}
 use Rattle.rules.specs.Read.{readTo, newDepth, readTableBy, readTable, readBlock}
 use Rattle.rules.specs.Take.{firstHeld, movedOut, finished}
-use Rattle.rules.specs.Calls.{queryCode, pairFits, recordFits}
+use Rattle.rules.specs.Calls.{queryCode, isCard, pairFits, recordFits}
+use Rattle.session_laws.specs.Calls.{OneCard}
 use Rattle.session_laws.specs.ReadOut.{rows-qualify-out, live-above, live-never}
 use Rattle.session_laws.specs.Tables.{weighted-most, legal-out}
 use Rattle.session_laws.specs.Record.{query-out, pair-in, record-in}
@@ -37,8 +37,10 @@ use Rattle.tables_join.specs.Pairs.{region-read}
 use Rattle.tables_join.specs.Held.{Keeping, keeping-same, all-blocks-hold}
 
 -- a record of a session over tables f and t, the pairs of `out` being out
-pub record Reached (q : Query) (f t : List ℤ) (out : List Pair) (s : Session) : Type 0 where
+pub record Reached (q : Query) (f t : Table) (out : List Pair) (s : Session) : Type 0 where
   pub accepted : queryCode q ≡ 0
+  pub cards : OneCard f t
+  pub card : s .rows .card ≡ f .coordinates
   pub query : s .query ≡ q
   pub field-rows : s .rows .field .0 ≡ rowCount f
   pub trim-rows : s .rows .trim .0 ≡ rowCount t
@@ -48,11 +50,13 @@ pub record Reached (q : Query) (f t : List ℤ) (out : List Pair) (s : Session) 
 
 -- ---- Opening
 
-pub open-reached : (q : Query) (f t : List ℤ) → queryCode q ≡ 0
-    → Reached q f t [] (opened q (record { 0 = rowCount f }) (record { 0 = rowCount t }))
+pub open-reached : (q : Query) (f t : Table) → queryCode q ≡ 0 → OneCard f t
+    → Reached q f t [] (opened q (twoTables f t))
 unfolding opened
-open-reached q f t accepted = record {
+open-reached q f t accepted cards = record {
   accepted = accepted;
+  cards = cards;
+  card = refl;
   query = refl;
   field-rows = refl;
   trim-rows = refl;
@@ -69,7 +73,7 @@ open-reached q f t accepted = record {
 -- ---- Read
 
 -- the region down to new depths: the old one, and the new rows with the other table's
-between-more : (field : Bool) (query : Query) (f t : List ℤ) (a b c : ℕ) (p : Pair) → a ≤ b
+between-more : (field : Bool) (query : Query) (f t : Table) (a b c : ℕ) (p : Pair) → a ≤ b
     → (Between field query f t 0 a 0 c p ⊎ Between field query f t a b 0 c p) ↔ Between field query f t 0 b 0 c p
 between-more field query f t a b c p h = (
   ⊎-elim (λ r. record { fits = r .fits; own-part = omega (arith, r .own-part); other-part = r .other-part })
@@ -82,7 +86,7 @@ between-more field query f t a b c p h = (
     go r (yes k) = inl (record { fits = r .fits; own-part = (r .own-part .0, k); other-part = r .other-part })
     go r (no k) = inr (record { fits = r .fits; own-part = omega (arith, r .own-part); other-part = r .other-part })
 
-module _ (field : Bool) (f t : List ℤ) (g : legal f ≡ true) (h : legal t ≡ true) (out : List Pair) (s : Session)
+module _ (field : Bool) (f t : Table) (g : legal f ≡ true) (h : legal t ≡ true) (out : List Pair) (s : Session)
     (size : 1 ≤ s .query .block) (a : Reached (s .query) f t out s) where
   abbrev d : ℕ
   d = s .depth .field .0
@@ -141,6 +145,8 @@ module _ (field : Bool) (f t : List ℤ) (g : legal f ≡ true) (h : legal t ≡
       λ c. Region query f t (cond field b (c .field .0)) (cond field (c .trim .0) b) in
       record {
         accepted = a .accepted;
+        cards = a .cards;
+        card = ap (λ c. c .card) (same .rows) ∙ a .card;
         query = same .query;
         field-rows = ap (λ c. c .field .0) (same .rows) ∙ a .field-rows;
         trim-rows = ap (λ c. c .trim .0) (same .rows) ∙ a .trim-rows;
@@ -157,7 +163,7 @@ module _ (field : Bool) (f t : List ℤ) (g : legal f ≡ true) (h : legal t ≡
             };
       }
 
-pub read-reached : (field : Bool) {q : Query} {f t : List ℤ} {out : List Pair} {s : Session} → Reached q f t out s
+pub read-reached : (field : Bool) {q : Query} {f t : Table} {out : List Pair} {s : Session} → Reached q f t out s
     → legal f ≡ true → legal t ≡ true → 1 ≤ q .block → Reached q f t out (readTable field f t s)
 read-reached field {q} {f} {t} {out} {s} a g h size =
     subst (λ q. Reached q f t out (readTable field f t s)) (a .query)
@@ -166,7 +172,7 @@ read-reached field {q} {f} {t} {out} {s} a g h size =
 
 -- ---- Take
 
-module _ {q : Query} {f t : List ℤ} {out : List Pair} {s : Session} (a : Reached q f t out s) where
+module _ {q : Query} {f t : Table} {out : List Pair} {s : Session} (a : Reached q f t out s) where
   abbrev R : Pair → Type 0
   R = Region q f t (s .depth .field .0) (s .depth .trim .0)
 
@@ -196,6 +202,8 @@ module _ {q : Query} {f t : List ℤ} {out : List Pair} {s : Session} (a : Reach
         let h = holds-out pair-rank first-holds in
         record {
           accepted = a .accepted;
+          cards = a .cards;
+          card = a .card;
           query = a .query;
           field-rows = a .field-rows;
           trim-rows = a .trim-rows;
@@ -326,4 +334,5 @@ module _ {q : Query} {f t : List ℤ} {out : List Pair} {s : Session} (a : Reach
         mark = h .mark;
         zeros = h .cleared;
         joined = h .joined;
+        card = subst (λ n. isCard n ≡ true) (sym (a .card)) (a .cards .known);
       })

@@ -1,33 +1,37 @@
 -- The rules' tables as plain tables of the join, lists of rows: legal tables and their rows correspond one to one,
 -- and keep the laws of the join. Assumes nothing.
 use mathlib.Core.Path.{_≡_, refl, sym, ap, ap₂, subst, subst₂, _∙_}
-use mathlib.Core.Bool.{Bool, true, false, _&&_, _||_, not}
-use mathlib.Core.List.{List, [], _∷_, map}
+use mathlib.Core.Bool.{Bool, true, false, cond, _&&_, _||_, not}
+use mathlib.Core.List.{List, [], _∷_, _++_, map}
 use mathlib.Core.Logic.{⊎-elim}
 use Prim.Native.Nat.{ℕ, zero, suc, _+_, _*_, _-_, _/_, _%_, _≤_, _<_}
 use native.Mathlib.Omega.{arith}
 use native.Mathlib.Decide.{le-ind, decLe}
-use native.Mathlib.Nat.{mul-le-mul-left, mul-suc, mul-zero}
+use native.Mathlib.Nat.{mul-le-mul-left, mul-suc, mul-zero, div-add-mod, mod-lt}
+use native.Mathlib.Nat.{mul-comm, div-lt-iff-lt-mul}
 use lib.Dec.{eqb, leb, ltb, lit≤}
 use lib.IntN.{ℤ, pos, negsuc}
 use lib.Signed.{leZ}
-use lib.ListN.{length, getD, take}
-use lib.Seq.{ext-getD, take-nil}
+use lib.ListN.{length, getD, take, drop, replicate, length-append, length-replicate}
+use lib.ListN.{List·getD-append, getD-replicate}
+use lib.Seq.{ext-getD, take-nil, drop-nil, take-at, take-append-add, drop-append-add, getD-append-add, getD-take}
+use lib.Seq.{getD-drop}
 use borrow.Author.Tests.{leb-true, le-leb, eqb-true, eqb-false, eq-eqb, ne-eqb, lt-leb, le-ltb}
 use Rattle.lists.specs.Lists.{range}
 use Rattle.lists.specs.Bools.{clash, and-false, or-out}
-use Rattle.lists.specs.Parts.{map-range-at, length-map-range}
+use Rattle.lists.specs.Parts.{map-range-at, length-map-range, every-of, mem-range}
 use Rattle.join.specs.Join.{Side, Laws}
 use Rattle.join.specs.Plain.{Rows, PlainLegal}
 use Rattle.join.specs.Zero.{zeroAmong, falling, Mates}
 use Rattle.join.specs.ZeroLaws.{falling-laws}
+use Rattle.rules.specs.Tables.{Table}
 use Rattle.rules.specs.Tables.{mostRows, rowCount, inRange, Row, row, qualifies, num, within, rowInRange, rowInOrder}
 use Rattle.rules.specs.Tables.{withdrawn, rowsQualify, weighted, terms}
 use Rattle.rules.specs.Session.{withdrawnWithin, isEmpty}
-use Rattle.rules.specs.declared.Shade.{Shade}
 use Rattle.rules.specs.Tables.{legal, width, firstRows}
-use Rattle.rules.specs.Widths.{rows-count}
-use Rattle.rules.specs.Tables.{natOf, gap, squaredDistance}
+use Rattle.rules.specs.Squares.{squares-same}
+use Rattle.rules.specs.Widths.{rows-count, has-row, shade-length}
+use Rattle.rules.specs.Tables.{natOf, gap, table, shadeAt, coordinateFits, fitsAt, shadeFits}
 use Rattle.rules.specs.declared.Query.{Query}
 use Rattle.rules.specs.Calls.{queryCode}
 use Rattle.session_laws.specs.ReadOut.{rows-qualify-in}
@@ -37,27 +41,28 @@ use Rattle.session_laws.specs.Tables.{pattern-kept, score-kept, range-out, rang
 -- ---- Definitions
 
 -- the rows of a table
-unfoldable pub rowsOf : List ℤ → List Row
+unfoldable pub rowsOf : Table → List Row
 rowsOf t = map (row t) (range 0 (rowCount t))
 
 -- what the rules read past the last row of a table
 abbrev pub blankRow : Row
-blankRow = record { pattern = 0; score = 0; shade = record { a = pos 0; b = pos 0 } }
+blankRow = record { pattern = 0; score = 0; shade = [] }
 
--- a row's numbers keep their ranges
-abbrev pub GoodRow : Row → Type 0
-GoodRow x = inRange (pos (x .pattern)) (pos (x .score)) (x .shade .a) (x .shade .b) ≡ true
+-- a row's shade has n coordinates, and its numbers keep their ranges
+pub record GoodRow (n : ℕ) (x : Row) : Type 0 where
+  pub wide : length (x .shade) ≡ n
+  pub range : inRange (pos (x .pattern)) (pos (x .score)) (x .shade) ≡ true
 
 -- a table whose rows weigh so much
-abbrev pub rowsBy : (Row → ℕ) → Rows Row
-rowsBy weight = record { blank = blankRow; weight = weight; Good = GoodRow; most = mostRows }
+abbrev pub rowsBy : ℕ → (Row → ℕ) → Rows Row
+rowsBy n weight = record { blank = blankRow; weight = weight; Good = GoodRow n; most = mostRows }
 
--- the field table and the trim table of a query
-abbrev pub fieldSide : Query → Side Row
-fieldSide query = falling (rowsBy (terms query .field))
+-- the field table and the trim table of a query, on a card of n coordinates
+abbrev pub fieldSide : ℕ → Query → Side Row
+fieldSide n query = falling (rowsBy n (terms query .field))
 
-abbrev pub trimSide : Query → Side Row
-trimSide query = falling (rowsBy (terms query .trim))
+abbrev pub trimSide : ℕ → Query → Side Row
+trimSide n query = falling (rowsBy n (terms query .trim))
 
 -- the test on a field row and a trim row
 abbrev pub near : Query → Row → Row → Bool
@@ -69,10 +74,22 @@ pub record Rises (weight : Row → ℕ) : Type 0 where
   pub down : (x y : Row) → weight x ≤ weight y → x .score ≤ y .score
   pub none : (x : Row) → x .score ≡ 0 → weight x ≡ 0
 
--- rows written out, four numbers to each
-unfoldable pub flat : List Row → List ℤ
-flat [] = []
-flat (x ∷ l) = pos (x .pattern) ∷ pos (x .score) ∷ x .shade .a ∷ x .shade .b ∷ flat l
+-- a row's numbers
+abbrev written : Row → List ℤ
+written x = pos (x .pattern) ∷ pos (x .score) ∷ x .shade
+
+-- rows written out
+unfoldable pub flatNumbers : List Row → List ℤ
+flatNumbers [] = []
+flatNumbers (x ∷ l) = written x ++ flatNumbers l
+
+abbrev pub flat : ℕ → List Row → Table
+flat n l = table n (flatNumbers l)
+
+-- each of n coordinates
+abbrev pub Wide : ℕ → List Row → Type 0
+Wide n [] = Unit {0}
+Wide n (x ∷ l) = (length (x .shade) ≡ n) × Wide n l
 
 -- ---- What rows weigh
 
@@ -122,22 +139,25 @@ module _ (query : Query) (accepted : queryCode query ≡ 0) where
 
 -- ---- Their laws
 
-pub length-rows : (t : List ℤ) → length (rowsOf t) ≡ rowCount t
+pub length-rows : (t : Table) → length (rowsOf t) ≡ rowCount t
 unfolding rowsOf
 length-rows t = length-map-range (row t) 0 (rowCount t)
 
-pub rows-at : (t : List ℤ) (i : ℕ) → i < rowCount t → getD (rowsOf t) i blankRow ≡ row t i
+pub rows-at : (t : Table) (i : ℕ) → i < rowCount t → getD (rowsOf t) i blankRow ≡ row t i
 unfolding rowsOf
 rows-at t i h = map-range-at (row t) 0 (rowCount t) i blankRow h ∙ ap (row t) (omega arith)
 
-module _ (t : List ℤ) (i : ℕ) (h : rowInRange t i ≡ true) where
-  row-good : GoodRow (row t i)
-  unfolding rowInRange row
-  row-good =
-      subst (λ p. inRange p (pos (natOf (num t i 1))) (num t i 2) (num t i 3) ≡ true) (sym (pattern-kept t i h))
-      (subst (λ s. inRange (num t i 0) s (num t i 2) (num t i 3) ≡ true) (sym (score-kept t i h)) h)
+row-good : (t : Table) (i : ℕ) → i < rowCount t → rowInRange t i ≡ true → GoodRow (t .coordinates) (row t i)
+unfolding rowInRange row
+row-good t i k h =
+    record {
+      wide = shade-length t i (has-row t i k);
+      range =
+          subst (λ p. inRange p (pos (natOf (num t i 1))) (shadeAt t i) ≡ true) (sym (pattern-kept t i h))
+          (subst (λ s. inRange (num t i 0) s (shadeAt t i) ≡ true) (sym (score-kept t i h)) h);
+    }
 
-module _ (t : List ℤ) (g : legal t ≡ true) where
+module _ (t : Table) (g : legal t ≡ true) where
   in-range : (i : ℕ) → i < rowCount t → rowInRange t i ≡ true
   in-range i h = legal-out t g .rows i h .range
 
@@ -160,13 +180,13 @@ module _ (t : List ℤ) (g : legal t ≡ true) where
       le-ind (λ j. j < rowCount t → row t j .score ≤ row t i .score) (λ k. omega arith)
       (λ j m ih k. omega (arith, ih (omega arith), score-falls j k)) j h
 
-  pub legal-rows : {weight : Row → ℕ} → Rises weight → PlainLegal (rowsBy weight) (rowsOf t)
+  pub legal-rows : {weight : Row → ℕ} → Rises weight → PlainLegal (rowsBy (t .coordinates) weight) (rowsOf t)
   legal-rows {weight} rises = record {
     short = omega (arith, length-rows t, legal-out t g .size .few);
     good =
         λ i h.
         let k : i < rowCount t = omega (arith, length-rows t) in
-        subst GoodRow (sym (rows-at t i k)) (row-good t i (in-range i k));
+        subst (GoodRow (t .coordinates)) (sym (rows-at t i k)) (row-good t i k (in-range i k));
     falls =
         λ i h.
         let k : suc i < rowCount t = omega (arith, length-rows t) in
@@ -176,126 +196,181 @@ module _ (t : List ℤ) (g : legal t ≡ true) where
 
 -- ---- Rows written out
 
+-- number j of a row
 cell : Row → ℕ → ℤ
-cell x zero = pos (x .pattern)
-cell x (suc zero) = pos (x .score)
-cell x (suc (suc zero)) = x .shade .a
-cell x (suc (suc (suc j))) = x .shade .b
+cell x j = getD (written x) j (pos 0)
 
-pub length-flat : (l : List Row) → length (flat l) ≡ width * length l
-unfolding flat
-length-flat [] = refl
-length-flat (x ∷ l) = omega (arith, length-flat l)
+-- rows that are good have so many coordinates
+wide-of : (n : ℕ) (l : List Row) → ((i : ℕ) → i < length l → length (getD l i blankRow .shade) ≡ n) → Wide n l
+wide-of n [] h = tt
+wide-of n (x ∷ l) h = (h 0 (omega arith), wide-of n l (λ i k. h (suc i) (omega arith)))
 
-pub count-flat : (l : List Row) → rowCount (flat l) ≡ length l
-count-flat l = rows-count (flat l) (length l) (length-flat l)
+pub legal-wide : {n : ℕ} {weight : Row → ℕ} (l : List Row) → PlainLegal (rowsBy n weight) l → Wide n l
+legal-wide {n} l g = wide-of n l (λ i h. g .good i h .wide)
 
-num-flat : (l : List Row) (i j : ℕ) → j < width → num (flat l) i j ≡ cell (getD l i blankRow) j
-unfolding flat cell
-num-flat [] i zero h = refl
-num-flat [] i (suc zero) h = refl
-num-flat [] i (suc (suc zero)) h = refl
-num-flat [] i (suc (suc (suc j))) h = refl
-num-flat (x ∷ l) zero zero h = refl
-num-flat (x ∷ l) zero (suc zero) h = refl
-num-flat (x ∷ l) zero (suc (suc zero)) h = refl
-num-flat (x ∷ l) zero (suc (suc (suc zero))) h = refl
-num-flat (x ∷ l) zero (suc (suc (suc (suc j)))) h = absurd (omega arith)
-num-flat (x ∷ l) (suc i) j h =
-    let on : width * suc i + j ≡ suc (suc (suc (suc (width * i + j)))) = omega arith in
-    ap (λ n. getD (flat (x ∷ l)) n (pos 0)) on ∙ num-flat l i j h
+wide-take : (n m : ℕ) (l : List Row) → Wide n l → Wide n (take m l)
+wide-take n zero l w = tt
+wide-take n (suc m) [] w = tt
+wide-take n (suc m) (x ∷ l) w = (w .0, wide-take n m l (w .1))
 
-pub row-flat : (l : List Row) (i : ℕ) → row (flat l) i ≡ getD l i blankRow
-unfolding row cell
-row-flat l i =
-    λ k.
-    record {
-      pattern = natOf (num-flat l i 0 (lit≤ tt) k);
-      score = natOf (num-flat l i 1 (lit≤ tt) k);
-      shade = record { a = num-flat l i 2 (lit≤ tt) k; b = num-flat l i 3 (lit≤ tt) k };
-    }
+-- where the next row begins
+on : (n : ℕ) (x : Row) (k : ℕ) → length (x .shade) ≡ n → width n + k ≡ length (written x) + k
+on n x k h = omega arith
 
-pub rows-flat : (l : List Row) → rowsOf (flat l) ≡ l
-rows-flat l =
-    ext-getD blankRow (rowsOf (flat l)) l (length-rows (flat l) ∙ count-flat l)
-    (λ i h. rows-at (flat l) i (omega (arith, length-rows (flat l))) ∙ row-flat l i)
+module _ (n : ℕ) where
+  pub length-flat : (l : List Row) → Wide n l → length (flatNumbers l) ≡ width n * length l
+  unfolding flatNumbers
+  length-flat [] w = omega arith
+  length-flat (x ∷ l) w =
+      omega (arith, length-append (x .shade) (flatNumbers l), length-flat l (w .1), w .0, mul-suc (width n) (length l))
 
-cell-row : (t : List ℤ) (i : ℕ) → rowInRange t i ≡ true → (j : ℕ) → j < width → cell (row t i) j ≡ num t i j
-unfolding cell row
-cell-row t i g zero h = pattern-kept t i g
-cell-row t i g (suc zero) h = score-kept t i g
-cell-row t i g (suc (suc zero)) h = refl
-cell-row t i g (suc (suc (suc zero))) h = refl
-cell-row t i g (suc (suc (suc (suc j)))) h = absurd (omega arith)
+  pub count-flat : (l : List Row) → Wide n l → rowCount (flat n l) ≡ length l
+  count-flat l w = rows-count (flat n l) (length l) (length-flat l w)
 
-pub flat-rows : (t : List ℤ) → legal t ≡ true → flat (rowsOf t) ≡ t
-flat-rows t g = ext-getD (pos 0) (flat (rowsOf t)) t lengths same
-  where
-    lengths : length (flat (rowsOf t)) ≡ length t
-    lengths = omega (arith, length-flat (rowsOf t), length-rows t, legal-out t g .size .whole)
+  -- what stands from offset k on behind the first row stands at k of the rest
+  behind : (x : Row) (l : List Row) (i k : ℕ) → length (x .shade) ≡ n
+      → width n * suc i + k ≡ length (written x) + (width n * i + k)
+  behind x l i k h = omega (arith, mul-suc (width n) i)
 
-    same : (m : ℕ) → m < length (flat (rowsOf t)) → getD (flat (rowsOf t)) m (pos 0) ≡ getD t m (pos 0)
-    same m h =
-        let e : m ≡ width * (m / width) + m % width = omega arith in
-        let k : m / width < rowCount t = omega (arith, length-flat (rowsOf t), length-rows t) in
-        let j : m % width < width = omega arith in
-        ap (λ n. getD (flat (rowsOf t)) n (pos 0)) e
-        ∙ num-flat (rowsOf t) (m / width) (m % width) j
-        ∙ ap (λ x. cell x (m % width)) (rows-at t (m / width) k)
-        ∙ cell-row t (m / width) (legal-out t g .rows (m / width) k .range) (m % width) j
-        ∙ ap (λ n. getD t n (pos 0)) (sym e)
+  num-flat : (l : List Row) → Wide n l → (i j : ℕ) → j < width n → num (flat n l) i j ≡ cell (getD l i blankRow) j
+  unfolding flatNumbers cell
+  num-flat [] w i zero h = refl
+  num-flat [] w i (suc zero) h = refl
+  num-flat [] w i (suc (suc j)) h = refl
+  num-flat (x ∷ l) w zero j h =
+      let e : width n * 0 + j ≡ j = omega arith in
+      ap (λ m. getD (written x ++ flatNumbers l) m (pos 0)) e
+      ∙ List·getD-append (written x) (flatNumbers l) (pos 0) j (omega (arith, w .0))
+  num-flat (x ∷ l) w (suc i) j h =
+      ap (λ m. getD (written x ++ flatNumbers l) m (pos 0)) (behind x l i j (w .0))
+      ∙ getD-append-add (written x) (flatNumbers l) (width n * i + j) (pos 0)
+      ∙ num-flat l (w .1) i j h
 
--- past the end too
-pub row-at : (t : List ℤ) → legal t ≡ true → (i : ℕ) → getD (rowsOf t) i blankRow ≡ row t i
-row-at t g i = sym (row-flat (rowsOf t) i) ∙ ap (λ u. row u i) (flat-rows t g)
+  shade-flat : (l : List Row) → Wide n l → (i : ℕ) → shadeAt (flat n l) i ≡ getD l i blankRow .shade
+  unfolding flatNumbers
+  shade-flat [] w i = ap (take n) (drop-nil (width n * i + 2)) ∙ take-nil n
+  shade-flat (x ∷ l) w zero =
+      let e : width n * 0 + 2 ≡ 2 = omega arith in
+      ap (λ m. take n (drop m (written x ++ flatNumbers l))) e ∙ take-at (x .shade) (flatNumbers l) n (w .0)
+  shade-flat (x ∷ l) w (suc i) =
+      ap (λ m. take n (drop m (written x ++ flatNumbers l))) (behind x l i 2 (w .0))
+      ∙ ap (take n) (drop-append-add (written x) (flatNumbers l) (width n * i + 2))
+      ∙ shade-flat l (w .1) i
 
-pub flat-take : (n : ℕ) (l : List Row) → firstRows n (flat l) ≡ flat (take n l)
-unfolding flat
-flat-take zero l = refl
-flat-take (suc n) [] = take-nil (width * suc n)
-flat-take (suc n) (x ∷ l) =
-    let on : width * suc n ≡ suc (suc (suc (suc (width * n)))) = omega arith in
-    ap (λ m. take m (flat (x ∷ l))) on
-    ∙ ap (λ r. pos (x .pattern) ∷ pos (x .score) ∷ x .shade .a ∷ x .shade .b ∷ r) (flat-take n l)
+  pub row-flat : (l : List Row) → Wide n l → (i : ℕ) → row (flat n l) i ≡ getD l i blankRow
+  unfolding row cell
+  row-flat l w i =
+      λ k.
+      record {
+        pattern = natOf (num-flat l w i 0 (omega arith) k);
+        score = natOf (num-flat l w i 1 (omega arith) k);
+        shade = shade-flat l w i k;
+      }
 
--- the first n rows, cut from the table or from the rows
-pub rows-take : (n : ℕ) (t : List ℤ) → legal t ≡ true → rowsOf (firstRows n t) ≡ take n (rowsOf t)
-rows-take n t g =
-    ap (λ u. rowsOf (firstRows n u)) (sym (flat-rows t g))
-    ∙ ap rowsOf (flat-take n (rowsOf t))
-    ∙ rows-flat (take n (rowsOf t))
+  pub rows-flat : (l : List Row) → Wide n l → rowsOf (flat n l) ≡ l
+  rows-flat l w =
+      ext-getD blankRow (rowsOf (flat n l)) l (length-rows (flat n l) ∙ count-flat l w)
+      (λ i h. rows-at (flat n l) i (omega (arith, length-rows (flat n l))) ∙ row-flat l w i)
 
-flat-order : {weight : Row → ℕ} → Rises weight → (l : List Row) → PlainLegal (rowsBy weight) l → (i : ℕ)
-    → i < length l → rowInOrder (flat l) i ≡ true
-unfolding rowInOrder cell
-flat-order rises l g zero h = refl
-flat-order rises l g (suc i) h =
-    let e : suc i - 1 ≡ i = omega arith in
-    let before = ap (λ j. num (flat l) j 1) e ∙ num-flat l i 1 (lit≤ tt) in
-    rw (ne-eqb (suc i) 0 (λ z. omega arith), num-flat l (suc i) 1 (lit≤ tt), before)
-    (le-leb (getD l (suc i) blankRow .score) (getD l i blankRow .score)
-    (rises .down (getD l (suc i) blankRow) (getD l i blankRow) (g .falls i h)))
+  pub flat-take : (m : ℕ) (l : List Row) → Wide n l → firstRows m (flat n l) ≡ flat n (take m l)
+  unfolding flatNumbers
+  flat-take m l w = ap (table n) (go m l w)
+    where
+      go : (m : ℕ) (l : List Row) → Wide n l → take (width n * m) (flatNumbers l) ≡ flatNumbers (take m l)
+      go zero l w = let z : width n * 0 ≡ 0 = omega arith in ap (λ k. take k (flatNumbers l)) z
+      go (suc m) [] w = take-nil (width n * suc m)
+      go (suc m) (x ∷ l) w =
+          let e : width n * suc m ≡ length (written x) + width n * m = omega (arith, mul-suc (width n) m, w .0) in
+          ap (λ k. take k (written x ++ flatNumbers l)) e
+          ∙ take-append-add (written x) (flatNumbers l) (width n * m)
+          ∙ ap (λ r. written x ++ r) (go m l (w .1))
 
-pub flat-legal : {weight : Row → ℕ} → Rises weight → (l : List Row) → PlainLegal (rowsBy weight) l
-    → legal (flat l) ≡ true
-unfolding rowInRange cell
-flat-legal rises l g =
-    legal-in (flat l)
-    (record {
-      size =
-          record {
-            few = omega (arith, count-flat l, g .short);
-            whole = omega (arith, count-flat l, length-flat l);
-          };
-      rows =
-          λ i h.
-          let k : i < length l = omega (arith, count-flat l) in
-          let cells = num-flat l i in
-          record {
-            range = rw (cells 0 (lit≤ tt), cells 1 (lit≤ tt), cells 2 (lit≤ tt), cells 3 (lit≤ tt)) (g .good i k);
-            order = flat-order rises l g i k;
-          };
-    })
+module _ (t : Table) (g : legal t ≡ true) where
+  abbrev n : ℕ
+  n = t .coordinates
+
+  pub wide-rows : Wide n (rowsOf t)
+  wide-rows =
+      wide-of n (rowsOf t)
+      (λ i h.
+      let k : i < rowCount t = omega (arith, length-rows t) in
+      ap (λ x. length (x .shade)) (rows-at t i k) ∙ row-good t i k (in-range t g i k) .wide)
+
+  cell-row : (i : ℕ) → i < rowCount t → (j : ℕ) → j < width n → cell (row t i) j ≡ num t i j
+  unfolding cell row
+  cell-row i k zero h = pattern-kept t i (in-range t g i k)
+  cell-row i k (suc zero) h = score-kept t i (in-range t g i k)
+  cell-row i k (suc (suc j)) h =
+      let e : width n * i + 2 + j ≡ width n * i + suc (suc j) = omega arith in
+      getD-take n (drop (width n * i + 2) (t .numbers)) j (pos 0) (omega arith)
+      ∙ getD-drop (width n * i + 2) (t .numbers) j (pos 0)
+      ∙ ap (λ m. getD (t .numbers) m (pos 0)) e
+
+  pub flat-rows : flat n (rowsOf t) ≡ t
+  flat-rows = ap (table n) (ext-getD (pos 0) (flatNumbers (rowsOf t)) (t .numbers) lengths same)
+    where
+      lengths : length (flatNumbers (rowsOf t)) ≡ length (t .numbers)
+      lengths =
+          length-flat n (rowsOf t) wide-rows ∙ ap (_*_ (width n)) (length-rows t) ∙ legal-out t g .size .whole
+
+      same : (m : ℕ) → m < length (flatNumbers (rowsOf t))
+          → getD (flatNumbers (rowsOf t)) m (pos 0) ≡ getD (t .numbers) m (pos 0)
+      same m h =
+          let e : m ≡ width n * (m / width n) + m % width n = sym (div-add-mod m (width n)) in
+          let few : m < rowCount t * width n =
+          omega (arith, lengths, legal-out t g .size .whole, mul-comm (width n) (rowCount t)) in
+          let k : m / width n < rowCount t = div-lt-iff-lt-mul {k = width n} (omega arith) .1 few in
+          let j : m % width n < width n = mod-lt m (omega arith) in
+          ap (λ o. getD (flatNumbers (rowsOf t)) o (pos 0)) e
+          ∙ num-flat n (rowsOf t) wide-rows (m / width n) (m % width n) j
+          ∙ ap (λ x. cell x (m % width n)) (rows-at t (m / width n) k)
+          ∙ cell-row (m / width n) k (m % width n) j
+          ∙ ap (λ o. getD (t .numbers) o (pos 0)) (sym e)
+
+  -- past the end too
+  pub row-at : (i : ℕ) → getD (rowsOf t) i blankRow ≡ row t i
+  row-at i = sym (row-flat n (rowsOf t) wide-rows i) ∙ ap (λ u. row u i) flat-rows
+
+  -- the first m rows, cut from the table or from the rows
+  pub rows-take : (m : ℕ) → rowsOf (firstRows m t) ≡ take m (rowsOf t)
+  rows-take m =
+      ap (λ u. rowsOf (firstRows m u)) (sym flat-rows)
+      ∙ ap rowsOf (flat-take n m (rowsOf t) wide-rows)
+      ∙ rows-flat n (take m (rowsOf t)) (wide-take n m (rowsOf t) wide-rows)
+
+module _ {n : ℕ} {weight : Row → ℕ} (rises : Rises weight) (l : List Row) (g : PlainLegal (rowsBy n weight) l) where
+  abbrev w : Wide n l
+  w = legal-wide l g
+
+  flat-order : (i : ℕ) → i < length l → rowInOrder (flat n l) i ≡ true
+  unfolding rowInOrder cell
+  flat-order zero h = refl
+  flat-order (suc i) h =
+      let e : suc i - 1 ≡ i = omega arith in
+      let before = ap (λ j. num (flat n l) j 1) e ∙ num-flat n l w i 1 (omega arith) in
+      rw (ne-eqb (suc i) 0 (λ z. omega arith), num-flat n l w (suc i) 1 (omega arith), before)
+      (le-leb (getD l (suc i) blankRow .score) (getD l i blankRow .score)
+      (rises .down (getD l (suc i) blankRow) (getD l i blankRow) (g .falls i h)))
+
+  pub flat-legal : legal (flat n l) ≡ true
+  unfolding rowInRange cell
+  flat-legal =
+      legal-in (flat n l)
+      (record {
+        size =
+            record {
+              few = omega (arith, count-flat n l w, g .short);
+              whole = ap (_*_ (width n)) (count-flat n l w) ∙ sym (length-flat n l w);
+            };
+        rows =
+            λ i h.
+            let k : i < length l = omega (arith, count-flat n l w) in
+            let cells = num-flat n l w i in
+            record {
+              range = rw (cells 0 (omega arith), cells 1 (omega arith), shade-flat n l w i) (g .good i k .range);
+              order = flat-order i k;
+            };
+      })
 
 -- ---- The laws of the join
 
@@ -305,20 +380,24 @@ gap-same (pos zero) = refl
 gap-same (pos (suc n)) = rw (le-ltb (suc n) (suc n) (omega arith)) (omega arith)
 gap-same (negsuc n) = rw (le-ltb (suc n) (suc n) (omega arith)) (omega arith)
 
-same-place : (radius : ℕ) (x : Shade) → qualifies radius x x ≡ true
-unfolding qualifies squaredDistance
-same-place radius x = rw (gap-same (x .a), gap-same (x .b)) (le-leb 0 (radius * radius) (omega arith))
+same-place : (radius : ℕ) (x : List ℤ) → qualifies radius x x ≡ true
+unfolding qualifies
+same-place radius x = rw (squares-same gap gap-same x) (le-leb 0 (radius * radius) (omega arith))
 
 -- x at y's place
 abbrev moved : Row → Row → Row
 moved x y = record { pattern = x .pattern; score = x .score; shade = y .shade }
 
-moved-good : (x y : Row) → GoodRow x → GoodRow y → GoodRow (moved x y)
+moved-good : {n : ℕ} (x y : Row) → GoodRow n x → GoodRow n y → GoodRow n (moved x y)
 moved-good x y g h =
-    let a = range-out (pos (x .pattern)) (pos (x .score)) (x .shade .a) (x .shade .b) g in
-    let b = range-out (pos (y .pattern)) (pos (y .score)) (y .shade .a) (y .shade .b) h in
-    range-in (pos (x .pattern)) (pos (x .score)) (y .shade .a) (y .shade .b)
-    (record { pattern = a .pattern; score = a .score; a = b .a; b = b .b })
+    let a = range-out (pos (x .pattern)) (pos (x .score)) (x .shade) (g .range) in
+    let b = range-out (pos (y .pattern)) (pos (y .score)) (y .shade) (h .range) in
+    record {
+      wide = h .wide;
+      range =
+          range-in (pos (x .pattern)) (pos (x .score)) (y .shade)
+          (record { pattern = a .pattern; score = a .score; shade = b .shade });
+    }
 
 -- a row's weight and its score are 0 together
 module _ {weight : Row → ℕ} (rises : Rises weight) (x : Row) where
@@ -363,17 +442,34 @@ module _ (query : Query) (x y : Row) where
   dead-trim h = rw h (and-false (not (withdrawn x)))
 
 -- a row that is not withdrawn
-abbrev some : Row
-some = record { pattern = 1; score = 1; shade = record { a = pos 0; b = pos 0 } }
+abbrev some : ℕ → Row
+some n = record { pattern = 1; score = 1; shade = replicate n (pos 0) }
 
-some-live : withdrawn some ≡ false
+some-live : (n : ℕ) → withdrawn (some n) ≡ false
 unfolding withdrawn
-some-live = refl
+some-live n = refl
 
-mates : {weight other : Row → ℕ} {test : Row → Row → Bool} → Rises weight → Rises other
+zero-in : (k : ℕ) → coordinateFits k (pos 0) ≡ true
+unfolding coordinateFits within
+zero-in k = go (ltb k 2)
+  where
+    go : (b : Bool) → cond b true true ≡ true
+    go true = refl
+    go false = refl
+
+zeros-fit : (n : ℕ) → shadeFits (replicate n (pos 0)) ≡ true
+unfolding shadeFits fitsAt
+zeros-fit n =
+    every-of (fitsAt (replicate n (pos 0))) (range 0 (length (replicate n (pos 0))))
+    (λ k m. zero-fits k (omega (arith, mem-range k 0 (length (replicate n (pos 0))) .0 m, length-replicate n (pos 0))))
+  where
+    zero-fits : (k : ℕ) → k < n → fitsAt (replicate n (pos 0)) k ≡ true
+    zero-fits k h = ap (coordinateFits k) (getD-replicate n k (pos 0) (pos 0) h) ∙ zero-in k
+
+mates : (n : ℕ) {weight other : Row → ℕ} {test : Row → Row → Bool} → Rises weight → Rises other
     → ((x y : Row) → withdrawn x ≡ false → withdrawn y ≡ false → test (moved x y) y ≡ true)
-    → ((x y : Row) → withdrawn x ≡ true → test x y ≡ false) → Mates (rowsBy weight) (rowsBy other) test
-mates rises others live dead =
+    → ((x y : Row) → withdrawn x ≡ true → test x y ≡ false) → Mates (rowsBy n weight) (rowsBy n other) test
+mates n rises others live dead =
     record {
       like = moved;
       good = moved-good;
@@ -383,23 +479,38 @@ mates rises others live dead =
           omega arith;
       fits = λ x y g h a b. live x y (weight-some rises x a) (weight-some others y b);
       dead = λ x y e. dead x y (weight-none rises x e);
-      some = some;
-      some-good = unfold inRange within in refl;
-      some-high = λ e. clash (weight-none rises some e) some-live;
+      some = some n;
+      some-good =
+          record {
+            wide = length-replicate n (pos 0);
+            range = range-in (pos 1) (pos 1) (replicate n (pos 0)) (unfold within in record {
+              pattern = refl;
+              score = refl;
+              shade = zeros-fit n;
+            });
+          };
+      some-high = λ e. clash (weight-none rises (some n) e) (some-live n);
     }
 
-pub laws : (query : Query) → queryCode query ≡ 0 → Laws (fieldSide query) (trimSide query) (near query)
-laws query accepted =
+laws-by : (n : ℕ) (query : Query) → queryCode query ≡ 0 → Laws (fieldSide n query) (trimSide n query) (near query)
+laws-by n query accepted =
     let field = field-rises query accepted in
     let trim = trim-rises query accepted in
-    falling-laws (rowsBy (terms query .field)) (rowsBy (terms query .trim)) (near query)
-    (mates field trim (live-field query) (dead-field query))
-    (mates trim field (λ y x. live-trim query x y) (λ y x. dead-trim query x y)) (lit≤ tt) (lit≤ tt)
+    falling-laws (rowsBy n (terms query .field)) (rowsBy n (terms query .trim)) (near query)
+    (mates n field trim (live-field query) (dead-field query))
+    (mates n trim field (λ y x. live-trim query x y) (λ y x. dead-trim query x y)) (lit≤ tt) (lit≤ tt)
+
+-- two tables on one card keep the laws of the join
+pub laws : (query : Query) → queryCode query ≡ 0 → (f t : Table) → f .coordinates ≡ t .coordinates
+    → Laws (fieldSide (f .coordinates) query) (trimSide (t .coordinates) query) (near query)
+laws query accepted f t cards =
+    subst (λ n. Laws (fieldSide (f .coordinates) query) (trimSide n query) (near query)) cards
+    (laws-by (f .coordinates) query accepted)
 
 -- ---- A withdrawn row among the first, of a table or of its rows
 
-zero-rows : {weight : Row → ℕ} → Rises weight → (t : List ℤ) (n : ℕ)
-    → ((i : ℕ) → i < n → getD (rowsOf t) i blankRow ≡ row t i) → zeroAmong (rowsBy weight) (rowsOf t) n
+zero-rows : {weight : Row → ℕ} → Rises weight → (t : Table) (n : ℕ)
+    → ((i : ℕ) → i < n → getD (rowsOf t) i blankRow ≡ row t i) → zeroAmong (rowsBy (t .coordinates) weight) (rowsOf t) n
     ≡ withdrawnWithin t n
 unfolding zeroAmong withdrawnWithin
 zero-rows rises t zero same = refl
@@ -407,14 +518,14 @@ zero-rows {weight} rises t (suc n) same =
     ap₂ (λ a b. a || b) (zero-rows rises t n (λ i h. same i (omega arith)))
     (ap (λ x. eqb (weight x) 0) (same n (omega arith)) ∙ weight-zero rises (row t n))
 
-module _ {weight : Row → ℕ} (rises : Rises weight) (t : List ℤ) (n : ℕ) where
+module _ {weight : Row → ℕ} (rises : Rises weight) (t : Table) (n : ℕ) where
   -- down to a depth
-  pub zero-read : n ≤ rowCount t → zeroAmong (rowsBy weight) (rowsOf t) n ≡ withdrawnWithin t n
+  pub zero-read : n ≤ rowCount t → zeroAmong (rowsBy (t .coordinates) weight) (rowsOf t) n ≡ withdrawnWithin t n
   zero-read h = zero-rows rises t n (λ i k. rows-at t i (omega arith))
 
   -- whether it counts as empty then
   pub empty-read : (rows : ℕ) → rows ≡ rowCount t → n ≤ rowCount t
-      → falling (rowsBy weight) .empty (rowsOf t) n ≡ isEmpty t rows n
+      → falling (rowsBy (t .coordinates) weight) .empty (rowsOf t) n ≡ isEmpty t rows n
   unfolding isEmpty
   empty-read rows count h = ap₂ (λ a b. a || b) (go (eqb rows 0) refl) (first (decLe 1 n))
     where
@@ -433,5 +544,5 @@ module _ {weight : Row → ℕ} (rises : Rises weight) (t : List ℤ) (n : ℕ) 
       first (no k) = rw (lt-leb 1 n (omega arith))
 
   -- of a legal table, past its end too
-  pub zero-legal : legal t ≡ true → zeroAmong (rowsBy weight) (rowsOf t) n ≡ withdrawnWithin t n
+  pub zero-legal : legal t ≡ true → zeroAmong (rowsBy (t .coordinates) weight) (rowsOf t) n ≡ withdrawnWithin t n
   zero-legal g = zero-rows rises t n (λ i k. row-at t g i)

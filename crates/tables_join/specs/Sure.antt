@@ -1,44 +1,46 @@
 -- The rules' sure readings are the join's, and a test on the rows read says which they are (docs/WHY-IT-HOLDS.md,
 -- step 3). Assumes legal tables.
-use mathlib.Core.Path.{_≡_, sym, ap, ap₂, _∙_, refl}
+use mathlib.Core.Path.{_≡_, sym, ap, ap₂, subst, _∙_, refl}
 use mathlib.Core.Bool.{Bool, cond, _&&_, _||_, true, false}
 use mathlib.Core.List.{List, map, map-map}
 use mathlib.Core.Logic.{_↔_}
 use Prim.Native.Nat.{ℕ, _+_, max, _-_}
 use native.Mathlib.Omega.{arith}
 use lib.Dec.{leb, eqb}
-use lib.IntN.{ℤ}
 use lib.ListN.{take}
 use borrow.Author.Tests.{le-leb, lt-leb, eqb-true, eqb-false}
 use Rattle.lists.specs.Lists.{atLeast, keep, range, each, best}
 use Rattle.lists.specs.Parts.{map-each, each-map, keep-map}
 use Rattle.join.specs.Join as Join
 use Rattle.join.specs.Join.{Side, sumsOf, weightAt, sureTest}
+use Rattle.join.specs.Plain.{PlainLegal}
 use Rattle.join.specs.Zero.{falling}
 use Rattle.join.specs.Sure.{sure-is}
 use Rattle.rules.specs.declared.FieldRows.{FieldRows}
 use Rattle.rules.specs.declared.TrimRows.{TrimRows}
 use Rattle.rules.specs.declared.Query.{Query}
+use Rattle.rules.specs.Tables.{Table}
 use Rattle.rules.specs.Tables.{rowCount, legal, Row, row, withdrawn, Terms, terms, pairSum, Block, pairAt, qualifying}
 use Rattle.rules.specs.Tables.{firstRows}
 use Rattle.rules.specs.Session.{withdrawnWithin, firstScore, lastScore}
 use Rattle.rules.specs.Calls.{queryCode}
 use Rattle.rules.specs.Sure.{qualifyingSums, whole, Begins, Sure}
 use Rattle.session_laws.specs.Record.{query-out}
-use Rattle.tables_join.specs.Rows.{rowsOf, rowsBy, fieldSide, trimSide, near, Rises, flat, length-rows}
-use Rattle.tables_join.specs.Rows.{legal-rows, field-rises, trim-rises, rows-flat, flat-rows}
+use Rattle.tables_join.specs.Rows.{rowsOf, rowsBy, fieldSide, trimSide, near, Rises, flat, Wide, length-rows}
+use Rattle.tables_join.specs.Rows.{legal-rows, field-rises, trim-rises, rows-flat, flat-rows, legal-wide}
+use Rattle.tables_join.specs.Rows.{wide-rows}
 use Rattle.tables_join.specs.Rows.{row-at, weight-zero, zero-legal, flat-take, rows-take, flat-legal, laws}
 
 -- a reading of n rows has read a table out: its last row, or a withdrawn one, is within it
-unfoldable pub readOutBy : List ℤ → ℕ → Bool
+unfoldable pub readOutBy : Table → ℕ → Bool
 readOutBy t n = leb (rowCount t) n || withdrawnWithin t n
 
 -- it shows that the table is empty: there are no rows, or the first one is within it and withdrawn
-unfoldable pub emptyBy : List ℤ → ℕ → Bool
+unfoldable pub emptyBy : Table → ℕ → Bool
 emptyBy t n = eqb (rowCount t) 0 || (leb 1 n && withdrawn (row t 0))
 
 -- the ceiling of a reading: the higher of HF + LT, unless trim is read out, and LF + HT, unless field is
-unfoldable pub ceilingAt : Query → List ℤ → List ℤ → FieldRows → TrimRows → ℕ
+unfoldable pub ceilingAt : Query → Table → Table → FieldRows → TrimRows → ℕ
 ceilingAt query f t p q =
     let w = terms query in
     max
@@ -46,7 +48,7 @@ ceilingAt query f t p q =
     (cond (readOutBy f (p .0)) 0 (lastScore (w .field) f (p .0) + firstScore (w .trim) t))
 
 -- a table is empty, or both are read out, or rows of both are read and k sums of theirs are at least the ceiling
-unfoldable pub isSure : Query → List ℤ → List ℤ → FieldRows → TrimRows → Bool
+unfoldable pub isSure : Query → Table → Table → FieldRows → TrimRows → Bool
 isSure query f t p q =
     let sums = qualifyingSums query (firstRows (p .0) f) (firstRows (q .0) t) in
     emptyBy f (p .0)
@@ -57,11 +59,11 @@ isSure query f t p q =
 -- ---- The sums of the tables are those of their rows
 
 -- the sums of the qualifying pairs of two blocks
-pub sums-rows : (query : Query) (x y : Block)
+pub sums-rows : (query : Query) (m n : ℕ) (x y : Block)
     → map (λ p. p .sum) (qualifying (terms query) x y)
-    ≡ sumsOf (fieldSide query) (trimSide query) (near query) (rowsOf (x .rows)) (rowsOf (y .rows))
+    ≡ sumsOf (fieldSide m query) (trimSide n query) (near query) (rowsOf (x .rows)) (rowsOf (y .rows))
 unfolding qualifying sumsOf rowsOf pairAt pairSum
-sums-rows query x y =
+sums-rows query m n x y =
     map-each (λ p. p .sum) (λ i. map (pairAt (terms query) x y i) (keep (meets i) js)) is
     ∙ ap (λ f. each f is) (λ k i. line i k)
     ∙ sym (each-map (row (x .rows)) (λ a. map (λ b. w .field a + w .trim b) (keep (near query a) ys)) is)
@@ -93,58 +95,70 @@ sums-rows query x y =
         ∙ ap (map (added i)) (sym (keep-map (row (y .rows)) (near query (row (x .rows) i)) js))
 
 -- tables that begin alike have rows that do, and the other way round
-module _ {weight : Row → ℕ} (rises : Rises weight) (n : ℕ) (t : List ℤ) (g : legal t ≡ true) where
-  begins-flat : (l : List Row) → Join.Begins (falling (rowsBy weight)) n (rowsOf t) l → Begins n t (flat l)
+module _ {weight : Row → ℕ} (rises : Rises weight) (n : ℕ) (t : Table) (g : legal t ≡ true) where
+  abbrev c : ℕ
+  c = t .coordinates
+
+  abbrev side : Side Row
+  side = falling (rowsBy c weight)
+
+  begins-flat : (l : List Row) → Join.Begins side n (rowsOf t) l → Begins n t (flat c l)
   begins-flat l b = record {
     lawful = flat-legal rises l (b .legal);
-    alike = flat-take n l ∙ ap flat (sym (b .rows)) ∙ sym (flat-take n (rowsOf t)) ∙ ap (firstRows n) (flat-rows t g);
-    ends = λ h. ap flat (b .ends (omega (arith, length-rows t))) ∙ flat-rows t g;
+    alike =
+        flat-take c n l (legal-wide l (b .legal))
+        ∙ ap (flat c) (sym (b .rows))
+        ∙ sym (flat-take c n (rowsOf t) (wide-rows t g))
+        ∙ ap (firstRows n) (flat-rows t g);
+    ends = λ h. ap (flat c) (b .ends (omega (arith, length-rows t))) ∙ flat-rows t g;
   }
 
-  begins-rows : (u : List ℤ) → Begins n t u → Join.Begins (falling (rowsBy weight)) n (rowsOf t) (rowsOf u)
+  begins-rows : (u : Table) → Begins n t u → Join.Begins side n (rowsOf t) (rowsOf u)
   begins-rows u b = record {
-    legal = legal-rows u (b .lawful) rises;
-    rows =
-        sym (rows-flat (take n (rowsOf t)))
-        ∙ ap rowsOf
-        (sym (flat-take n (rowsOf t))
-        ∙ ap (firstRows n) (flat-rows t g)
-        ∙ sym (b .alike)
-        ∙ ap (firstRows n) (sym (flat-rows u (b .lawful)))
-        ∙ flat-take n (rowsOf u))
-        ∙ rows-flat (take n (rowsOf u));
+    legal =
+        subst (λ m. PlainLegal (rowsBy m weight) (rowsOf u)) (ap (λ v. v .coordinates) (b .alike))
+        (legal-rows u (b .lawful) rises);
+    rows = sym (rows-take t g n) ∙ ap rowsOf (sym (b .alike)) ∙ rows-take u (b .lawful) n;
     ends = λ h. ap rowsOf (b .ends (omega (arith, length-rows t)));
   }
 
 -- a reading is sure of the tables exactly if it is sure of their rows
-module _ (query : Query) (accepted : queryCode query ≡ 0) (f t : List ℤ) (m : FieldRows) (n : TrimRows)
+module _ (query : Query) (accepted : queryCode query ≡ 0) (f t : Table) (m : FieldRows) (n : TrimRows)
     (g : legal f ≡ true) (h : legal t ≡ true) where
   abbrev S : Side Row
-  S = fieldSide query
+  S = fieldSide (f .coordinates) query
 
   abbrev U : Side Row
-  U = trimSide query
+  U = trimSide (t .coordinates) query
 
   abbrev k : ℕ
   k = query .k
 
-  flat-sums : (F T : List Row)
-      → best k (map (λ p. p .sum) (qualifying (terms query) (whole (flat F)) (whole (flat T))))
-      ≡ best k (sumsOf S U (near query) F T)
-  flat-sums F T =
-      ap (best k)
-      (sums-rows query (whole (flat F)) (whole (flat T)) ∙ ap₂ (sumsOf S U (near query)) (rows-flat F) (rows-flat T))
+  -- rows written out, as a field table and as a trim table
+  abbrev flatF : List Row → Table
+  flatF = flat (f .coordinates)
 
-  to-field : (F : List Row) → Join.Begins S (m .0) (rowsOf f) F → Begins (m .0) f (flat F)
+  abbrev flatT : List Row → Table
+  flatT = flat (t .coordinates)
+
+  flat-sums : (F T : List Row) → Wide (f .coordinates) F → Wide (t .coordinates) T
+      → best k (map (λ p. p .sum) (qualifying (terms query) (whole (flatF F)) (whole (flatT T))))
+      ≡ best k (sumsOf S U (near query) F T)
+  flat-sums F T v w =
+      ap (best k)
+      (sums-rows query (f .coordinates) (t .coordinates) (whole (flatF F)) (whole (flatT T))
+      ∙ ap₂ (sumsOf S U (near query)) (rows-flat (f .coordinates) F v) (rows-flat (t .coordinates) T w))
+
+  to-field : (F : List Row) → Join.Begins S (m .0) (rowsOf f) F → Begins (m .0) f (flatF F)
   to-field = begins-flat (field-rises query accepted) (m .0) f g
 
-  to-trim : (T : List Row) → Join.Begins U (n .0) (rowsOf t) T → Begins (n .0) t (flat T)
+  to-trim : (T : List Row) → Join.Begins U (n .0) (rowsOf t) T → Begins (n .0) t (flatT T)
   to-trim = begins-flat (trim-rises query accepted) (n .0) t h
 
-  of-field : (u : List ℤ) → Begins (m .0) f u → Join.Begins S (m .0) (rowsOf f) (rowsOf u)
+  of-field : (u : Table) → Begins (m .0) f u → Join.Begins S (m .0) (rowsOf f) (rowsOf u)
   of-field = begins-rows (field-rises query accepted) (m .0) f g
 
-  of-trim : (u : List ℤ) → Begins (n .0) t u → Join.Begins U (n .0) (rowsOf t) (rowsOf u)
+  of-trim : (u : Table) → Begins (n .0) t u → Join.Begins U (n .0) (rowsOf t) (rowsOf u)
   of-trim = begins-rows (trim-rises query accepted) (n .0) t h
 
   pub sure-rows : Sure query f t m n ↔ Join.Sure S U (near query) k (rowsOf f) (m .0) (rowsOf t) (n .0)
@@ -152,14 +166,15 @@ module _ (query : Query) (accepted : queryCode query ≡ 0) (f t : List ℤ) (m 
   sure-rows = (
     λ s. record {
       same =
-          λ F₁ F₂ T₁ T₂ a b c d. sym (flat-sums F₁ T₁)
-          ∙ s (flat F₁) (flat F₂) (flat T₁) (flat T₂) (to-field F₁ a) (to-field F₂ b) (to-trim T₁ c) (to-trim T₂ d)
-          ∙ flat-sums F₂ T₂;
+          λ F₁ F₂ T₁ T₂ a b c d.
+          sym (flat-sums F₁ T₁ (legal-wide F₁ (a .legal)) (legal-wide T₁ (c .legal)))
+          ∙ s (flatF F₁) (flatF F₂) (flatT T₁) (flatT T₂) (to-field F₁ a) (to-field F₂ b) (to-trim T₁ c) (to-trim T₂ d)
+          ∙ flat-sums F₂ T₂ (legal-wide F₂ (b .legal)) (legal-wide T₂ (d .legal));
     },
-    λ s. λ f₁ f₂ t₁ t₂ a b c d. ap (best k) (sums-rows query (whole f₁) (whole t₁))
+    λ s. λ f₁ f₂ t₁ t₂ a b c d. ap (best k) (sums-rows query (f .coordinates) (t .coordinates) (whole f₁) (whole t₁))
         ∙ s .same (rowsOf f₁) (rowsOf f₂) (rowsOf t₁) (rowsOf t₂) (of-field f₁ a) (of-field f₂ b) (of-trim t₁ c)
         (of-trim t₂ d)
-        ∙ ap (best k) (sym (sums-rows query (whole f₂) (whole t₂))),
+        ∙ ap (best k) (sym (sums-rows query (f .coordinates) (t .coordinates) (whole f₂) (whole t₂))),
   )
 
 -- ---- The test says what a sure reading is
@@ -171,30 +186,36 @@ none-is n = go (eqb n 0) refl
     go true e = le-leb n 0 (omega (arith, eqb-true n 0 e))
     go false e = lt-leb n 0 (let k = eqb-false n 0 e in omega arith)
 
-weight-at : (weight : Row → ℕ) (t : List ℤ) → legal t ≡ true → (i : ℕ)
-    → weightAt (falling (rowsBy weight)) (rowsOf t) i ≡ weight (row t i)
+weight-at : (weight : Row → ℕ) (t : Table) → legal t ≡ true → (i : ℕ)
+    → weightAt (falling (rowsBy (t .coordinates) weight)) (rowsOf t) i ≡ weight (row t i)
 unfolding weightAt
 weight-at weight t g i = ap weight (row-at t g i)
 
 -- what a reading of the rows has ended, or shows to be empty
-module _ {weight : Row → ℕ} (rises : Rises weight) (t : List ℤ) (g : legal t ≡ true) (n : ℕ) where
-  ended-by : falling (rowsBy weight) .ended (rowsOf t) n ≡ readOutBy t n
+module _ {weight : Row → ℕ} (rises : Rises weight) (t : Table) (g : legal t ≡ true) (n : ℕ) where
+  ended-by : falling (rowsBy (t .coordinates) weight) .ended (rowsOf t) n ≡ readOutBy t n
   unfolding readOutBy
   ended-by = rw (length-rows t, zero-legal rises t n g)
 
-  empty-by : falling (rowsBy weight) .empty (rowsOf t) n ≡ emptyBy t n
+  empty-by : falling (rowsBy (t .coordinates) weight) .empty (rowsOf t) n ≡ emptyBy t n
   unfolding emptyBy
   empty-by = rw (length-rows t, none-is (rowCount t), row-at t g 0, weight-zero rises (row t 0))
 
-module _ (query : Query) (accepted : queryCode query ≡ 0) (f t : List ℤ) (g : legal f ≡ true) (h : legal t ≡ true)
+module _ (query : Query) (accepted : queryCode query ≡ 0) (f t : Table) (g : legal f ≡ true) (h : legal t ≡ true)
     (m : FieldRows) (n : TrimRows) where
+  abbrev sideF : Side Row
+  sideF = fieldSide (f .coordinates) query
+
+  abbrev sideT : Side Row
+  sideT = trimSide (t .coordinates) query
+
   abbrev first : Rises (terms query .field)
   first = field-rises query accepted
 
   abbrev second : Rises (terms query .trim)
   second = trim-rises query accepted
 
-  ceiling-at : Join.ceiling (fieldSide query) (trimSide query) (rowsOf f) (m .0) (rowsOf t) (n .0)
+  ceiling-at : Join.ceiling sideF sideT (rowsOf f) (m .0) (rowsOf t) (n .0)
       ≡ ceilingAt query f t m n
   unfolding ceilingAt Join.ceiling
   ceiling-at =
@@ -209,13 +230,13 @@ module _ (query : Query) (accepted : queryCode query ≡ 0) (f t : List ℤ) (g 
       )
 
   reading-sums : qualifyingSums query (firstRows (m .0) f) (firstRows (n .0) t)
-      ≡ sumsOf (fieldSide query) (trimSide query) (near query) (take (m .0) (rowsOf f)) (take (n .0) (rowsOf t))
+      ≡ sumsOf sideF sideT (near query) (take (m .0) (rowsOf f)) (take (n .0) (rowsOf t))
   unfolding qualifyingSums
   reading-sums =
-      sums-rows query (whole (firstRows (m .0) f)) (whole (firstRows (n .0) t))
-      ∙ ap₂ (sumsOf (fieldSide query) (trimSide query) (near query)) (rows-take (m .0) f g) (rows-take (n .0) t h)
+      sums-rows query (f .coordinates) (t .coordinates) (whole (firstRows (m .0) f)) (whole (firstRows (n .0) t))
+      ∙ ap₂ (sumsOf sideF sideT (near query)) (rows-take f g (m .0)) (rows-take t h (n .0))
 
-  test-is : sureTest (fieldSide query) (trimSide query) (near query) (query .k) (rowsOf f) (m .0) (rowsOf t) (n .0)
+  test-is : sureTest sideF sideT (near query) (query .k) (rowsOf f) (m .0) (rowsOf t) (n .0)
       ≡ isSure query f t m n
   unfolding sureTest isSure
   test-is =
@@ -229,11 +250,11 @@ module _ (query : Query) (accepted : queryCode query ≡ 0) (f t : List ℤ) (g 
       )
 
   -- a reading is sure of k exactly if the test passes
-  pub sure-is-test : Sure query f t m n ↔ (isSure query f t m n ≡ true)
-  sure-is-test =
+  pub sure-is-test : f .coordinates ≡ t .coordinates → Sure query f t m n ↔ (isSure query f t m n ≡ true)
+  sure-is-test cards =
       let a = sure-rows query accepted f t m n g h in
       let b =
-      sure-is (fieldSide query) (trimSide query) (near query) (laws query accepted) (query .k) (rowsOf f) (rowsOf t)
+      sure-is sideF sideT (near query) (laws query accepted f t cards) (query .k) (rowsOf f) (rowsOf t)
       (legal-rows f g (field-rises query accepted)) (legal-rows t h (trim-rises query accepted))
       (query-out query accepted .k .0) (m .0) (n .0) in
       (λ s. sym test-is ∙ b .0 (a .0 s), λ e. a .1 (b .1 (test-is ∙ e)))

@@ -7,7 +7,6 @@ use mathlib.Core.Logic.{_⊎_, inl, inr, ⊎-elim}
 use Prim.Native.Nat.{ℕ, zero, suc, _-_, _+_, _*_, _≤_, min}
 use native.Mathlib.Nat.{suc-mul}
 use native.Mathlib.Omega.{arith}
-use lib.IntN.{ℤ}
 use lib.ListN.{take, length, length-take}
 use Rattle.lists.specs.Lists.{sort, ranked}
 use Rattle.lists.specs.Parts.{append-distinct, every-at}
@@ -15,7 +14,7 @@ use Rattle.lists.specs.Members.{mem-take, mem-sort, sort-ranked, ranked-take, r
 use Rattle.rules.specs.declared.Pair.{Pair}
 use Rattle.rules.specs.declared.Query.{Query}
 use Rattle.rules.specs.declared.Session.{Session}
-use Rattle.rules.specs.Tables.{terms, ahead, Block, qualifying, rowCount, legal, firstRows}
+use Rattle.rules.specs.Tables.{Table, terms, ahead, Block, qualifying, rowCount, legal, firstRows}
 use Rattle.rules.specs.Session.{heldPairs, firstScore}
 use Rattle.rules.specs.Read.{rowsBetween, blockCount, blockAt, oldDepth, newDepth, fieldNext, bestHeld, meet}
 use Rattle.rules.specs.Read.{meetBlocksBy, meetBlocks, readTo, readTableBy, readTable, readBlock}
@@ -31,7 +30,7 @@ use Rattle.tables_join.specs.Held.{meet-held, meet-stored}
 -- ---- The pairs that a read which skips no block pair holds
 
 -- after the new block met the first n blocks of the other table
-unfoldable pub heldUnskipped : Bool → Session → Block → List ℤ → ℕ → ℕ → List Pair
+unfoldable pub heldUnskipped : Bool → Session → Block → Table → ℕ → ℕ → List Pair
 heldUnskipped field s new t depth zero = heldPairs s
 heldUnskipped field s new t depth (suc n) =
     let old = blockAt t (s .query .block) depth n in
@@ -39,7 +38,7 @@ heldUnskipped field s new t depth (suc n) =
     take (s .query .k - s .out) (sort ahead (heldUnskipped field s new t depth n ++ met))
 
 -- after one block of the field table, or of the trim table
-unfoldable pub readUnskipped : Bool → List ℤ → List ℤ → Session → List Pair
+unfoldable pub readUnskipped : Bool → Table → Table → Session → List Pair
 readUnskipped field f t s =
     let depth = cond field (s .depth .trim .0) (s .depth .field .0) in
     heldUnskipped field s (rowsBetween (cond field f t) (oldDepth field s) (newDepth field s)) (cond field t f) depth
@@ -55,7 +54,7 @@ record Unskipping (field : Bool) (a m : ℕ) (l : List Pair) (r : Session) : Typ
   seen : (p : Pair) → List·Memᴰ p (heldPairs r) → (ownRow field p ≤ a) ⊎ (otherRow field p ≤ m)
   same : heldPairs r ≡ l
 
-module _ (field : Bool) (f t : List ℤ) (g : legal f ≡ true) (h : legal t ≡ true) (s : Session) (a b c : ℕ)
+module _ (field : Bool) (f t : Table) (g : legal f ≡ true) (h : legal t ≡ true) (s : Session) (a b c : ℕ)
     (hb : b ≤ rowCount (cond field f t)) (hc : c ≤ rowCount (cond field t f)) where
   abbrev new : Block
   new = rowsBetween (cond field f t) a b
@@ -140,7 +139,7 @@ module _ (field : Bool) (f t : List ℤ) (g : legal f ≡ true) (h : legal t ≡
 
 -- ---- The rows that a read looks at
 
-same-held-unskipped : (field : Bool) (s : Session) (new : Block) (t u : List ℤ) (depth n : ℕ) → SameRows depth t u
+same-held-unskipped : (field : Bool) (s : Session) (new : Block) (t u : Table) (depth n : ℕ) → SameRows depth t u
     → heldUnskipped field s new u depth n ≡ heldUnskipped field s new t depth n
 unfolding heldUnskipped
 same-held-unskipped field s new t u depth zero e = refl
@@ -152,7 +151,7 @@ same-held-unskipped field s new t u depth (suc n) e =
     (same-held-unskipped field s new t u depth n e)
     (same-part depth t u e (n * s .query .block) (min (n * s .query .block + s .query .block) depth) (omega arith))
 
-same-unskipped : (field : Bool) (f t f′ t′ : List ℤ) (s : Session)
+same-unskipped : (field : Bool) (f t f′ t′ : Table) (s : Session)
     → SameRows (cond field (newDepth field s) (s .depth .field .0)) f f′
     → SameRows (cond field (s .depth .trim .0) (newDepth field s)) t t′
     → readUnskipped field f′ t′ s ≡ readUnskipped field f t s
@@ -169,7 +168,7 @@ held-own : (field : Bool) (s : Session) (p : Pair) → PairFits s p → ownRow f
 held-own true s p h = h .field-row .1
 held-own false s p h = h .trim-row .1
 
-module _ (field : Bool) (f t : List ℤ) (s : Session) (a : Accepted f t s) (new : NewRowsFit field f t s)
+module _ (field : Bool) (f t : Table) (s : Session) (a : Accepted f t s) (new : NewRowsFit field f t s)
     (places : length (s .pairs) ≡ 64) where
   abbrev m : ℕ
   m = cond field (newDepth field s) (s .depth .field .0)
@@ -178,10 +177,10 @@ module _ (field : Bool) (f t : List ℤ) (s : Session) (a : Accepted f t s) (new
   n = cond field (s .depth .trim .0) (newDepth field s)
 
   -- the rows that the read looks at, as tables by themselves
-  abbrev f′ : List ℤ
+  abbrev f′ : Table
   f′ = firstRows m f
 
-  abbrev t′ : List ℤ
+  abbrev t′ : Table
   t′ = firstRows n t
 
   abbrev fits : RecordFits s
@@ -219,7 +218,7 @@ module _ (field : Bool) (f t : List ℤ) (s : Session) (a : Accepted f t s) (new
       ∙ same-unskipped field f t f′ t′ s (cut-same f m m-within) (cut-same t n n-within)
 
 -- every accepted read, over any slices and of any record with its 64 places
-pub skipping-changes-nothing : (f t : List ℤ) (s : Session) → callCode f t s ≡ 0 → newBlockCode f t s ≡ 0
+pub skipping-changes-nothing : (f t : Table) (s : Session) → callCode f t s ≡ 0 → newBlockCode f t s ≡ 0
     → length (s .pairs) ≡ 64 → heldPairs (readBlock f t s) ≡ readUnskipped (fieldNext f t s) f t s
 skipping-changes-nothing f t s a b places =
     table-unskipped (fieldNext f t s) f t s (call-out f t s a) (new-block-out f t s b) places

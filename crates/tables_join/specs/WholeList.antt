@@ -4,9 +4,8 @@ use mathlib.Core.Path.{_≡_, refl, sym, ap, subst, subst₂}
 use mathlib.Core.Bool.{true, Bool, false}
 use mathlib.Core.List.{List, _++_, List·Memᴰ, [], _∷_, map, append-nil, append-assoc}
 use mathlib.Core.Logic.{_⊎_, inl, _↔_}
-use Prim.Native.Nat.{_≤_, ℕ, zero, suc, _+_, _-_, _<_}
+use Prim.Native.Nat.{_≤_, ℕ, zero, suc, _+_, _*_, _-_, _<_}
 use native.Mathlib.Omega.{arith}
-use lib.IntN.{ℤ}
 use lib.ListN.{length, length-append}
 use Rattle.lists.specs.Words.{Distinct}
 use Rattle.lists.specs.Lists.{best}
@@ -17,8 +16,8 @@ use Rattle.rules.specs.declared.Query.{Query}
 use Rattle.rules.specs.declared.Session.{Session}
 use Rattle.rules.specs.declared.Step.{Step}
 use Rattle.rules.specs.declared.Answer.the-variants.{Read, Settled, Given, Finished}
-use Rattle.rules.specs.Session.{settled, opened}
-use Rattle.rules.specs.Tables.{rowCount, legal, terms, qualifying}
+use Rattle.rules.specs.Session.{settled, twoTables, opened}
+use Rattle.rules.specs.Tables.{Table, width, rowCount, legal, terms, qualifying}
 use Rattle.rules.specs.Widths.{part-all}
 use Rattle.rules.specs.Read.{rowsBetween, fieldNext, readBlock}
 use Rattle.rules.specs.Take.{firstHeld, givesPair, movedOut, finished}
@@ -29,7 +28,7 @@ use Rattle.rules.specs.Query.{list}
 use Rattle.rules.specs.Sure.{whole, qualifyingSums}
 use Rattle.session_laws.specs.Tables.{legal-out}
 use Rattle.session_laws.specs.Record.{query-out}
-use Rattle.session_laws.specs.Calls.{legal-opened, call-accepted, new-block-accepted, read-settled, read-goes}
+use Rattle.session_laws.specs.Calls.{OneCard, legal-opened, call-accepted, new-block-accepted, read-settled, read-goes}
 use Rattle.session_laws.specs.Calls.{take-gives, take-finishes}
 use Rattle.session_laws.specs.Read.{depths}
 use Rattle.session_laws.specs.Take.{gives-some, gives-secured, settled-take, settled-moves}
@@ -39,14 +38,14 @@ use Rattle.tables_join.specs.Reached.{Reached, open-reached, read-reache
 use Rattle.tables_join.specs.Reached.{reached-room, read-deepens, read-sound, take-sound, reached-fits}
 use Rattle.tables_join.specs.Ceiling.{secured-best}
 
-pub record SettledAt (q : Query) (f t : List ℤ) (out : List Pair) (s : Session) : Type 0 where
+pub record SettledAt (q : Query) (f t : Table) (out : List Pair) (s : Session) : Type 0 where
   pub reached : Reached q f t out s
   pub sound : Sound s
   pub is-settled : settled f t s ≡ true
 
 -- the pairs of `out` being out, those of l come out: each fits and comes once, the best of those left each time, until
 -- k are out or all are
-pub record Listed (q : Query) (f t : List ℤ) (out l : List Pair) : Type 0 where
+pub record Listed (q : Query) (f t : Table) (out l : List Pair) : Type 0 where
   pub fit : (p : Pair) → List·Memᴰ p (out ++ l) → QualifyingPair q f t p
   pub once : Distinct (out ++ l)
   pub room : length (out ++ l) ≤ q .k
@@ -56,7 +55,7 @@ pub record Listed (q : Query) (f t : List ℤ) (out l : List Pair) : Type 0 wher
 
 -- ---- The loops
 
-module _ (n : ℕ) (f t : List ℤ) (s : Session) where
+module _ (n : ℕ) (f t : Table) (s : Session) where
   pub until-settled : readCall f t s ≡ step Settled s → readUntilSettled (suc n) f t s ≡ s
   unfolding readUntilSettledBy
   until-settled e = rw (e, readUntilSettledBy)
@@ -84,7 +83,7 @@ module _ (n : ℕ) (f t : List ℤ) (s : Session) where
 
 -- ---- Reading until settled
 
-module _ (q : Query) (f t : List ℤ) (g : legal f ≡ true) (h : legal t ≡ true) (accepted : queryCode q ≡ 0) where
+module _ (q : Query) (f t : Table) (g : legal f ≡ true) (h : legal t ≡ true) (accepted : queryCode q ≡ 0) where
   size : 1 ≤ q .block
   size = query-out q accepted .block .0
 
@@ -122,7 +121,7 @@ module _ (q : Query) (f t : List ℤ) (g : legal f ≡ true) (h : legal t ≡ tr
 -- ---- Taking until finished
 
 -- one pair more in front
-listed-more : {q : Query} {f t : List ℤ} {out : List Pair} (p : Pair) (l : List Pair)
+listed-more : {q : Query} {f t : Table} {out : List Pair} (p : Pair) (l : List Pair)
     → ((x : Pair) → QualifyingPair q f t x → (List·Memᴰ x out → ⊥) → x .sum ≤ p .sum)
     → Listed q f t (out ++ p ∷ []) l → Listed q f t out (p ∷ l)
 listed-more {q} {f} {t} {out} p l highest r =
@@ -138,7 +137,7 @@ listed-more {q} {f} {t} {out} p l highest r =
     }
 
 -- at the end
-listed-none : {q : Query} {f t : List ℤ} {out : List Pair} {s : Session} → legal f ≡ true → legal t ≡ true
+listed-none : {q : Query} {f t : Table} {out : List Pair} {s : Session} → legal f ≡ true → legal t ≡ true
     → Reached q f t out s → finished f t s ≡ true → Listed q f t out []
 listed-none {q} {f} {t} {out} {s} g h a e =
     let z : out ++ [] ≡ out = append-nil out in
@@ -155,7 +154,7 @@ listed-none {q} {f} {t} {out} {s} g h a e =
       best-first = tt;
     }
 
-module _ (q : Query) (f t : List ℤ) (g : legal f ≡ true) (h : legal t ≡ true) (accepted : queryCode q ≡ 0) where
+module _ (q : Query) (f t : Table) (g : legal f ≡ true) (h : legal t ≡ true) (accepted : queryCode q ≡ 0) where
   -- at most k pairs come out, so that the bound is never what ends it
   finishes : (n : ℕ) {out : List Pair} {s : Session} → SettledAt q f t out s → q .k < length out + n
       → Listed q f t out (takeUntilFinished n f t s)
@@ -192,13 +191,15 @@ module _ (q : Query) (f t : List ℤ) (g : legal f ≡ true) (h : legal t ≡ tr
 -- ---- The whole query
 
 -- all rows are the whole table
-whole-part : (t : List ℤ) → legal t ≡ true → rowsBetween t 0 (rowCount t) ≡ whole t
+whole-part : (t : Table) → legal t ≡ true → rowsBetween t 0 (rowCount t) ≡ whole t
 whole-part t g =
+    let minus-zero : width (t .coordinates) * (rowCount t - 0) ≡ width (t .coordinates) * rowCount t =
+    ap (_*_ (width (t .coordinates))) (omega arith) in
     ap (λ l. record { start = 0; rows = l })
-    (part-all t (rowCount t - 0) (omega (arith, legal-out t g .size .whole)))
+    (part-all t (rowCount t - 0) (omega (arith, legal-out t g .size .whole, minus-zero)))
 
 -- every pair that qualifies, once
-pub all-qualify : (query : Query) (f t : List ℤ) → legal f ≡ true → legal t ≡ true → (p : Pair)
+pub all-qualify : (query : Query) (f t : Table) → legal f ≡ true → legal t ≡ true → (p : Pair)
     → QualifyingPair query f t p ↔ List·Memᴰ p (qualifying (terms query) (whole f) (whole t))
 all-qualify query f t g h p =
     let m = mem-qualifying query f t 0 (rowCount f) 0 (rowCount t) (omega arith) (omega arith) p in
@@ -208,7 +209,8 @@ all-qualify query f t g h p =
       λ i. m .0 i .fits,
     )
 
-module _ (q : Query) (f t : List ℤ) (g : legal f ≡ true) (h : legal t ≡ true) (accepted : queryCode q ≡ 0) where
+module _ (q : Query) (f t : Table) (g : legal f ≡ true) (h : legal t ≡ true) (accepted : queryCode q ≡ 0)
+    (cards : OneCard f t) where
   -- it reads until settled
   settled-session : SettledAt q f t [] (settledSession q f t)
   unfolding settledSession opened
@@ -217,9 +219,9 @@ module _ (q : Query) (f t : List ℤ) (g : legal f ≡ true) (h : legal t ≡ tr
       (λ x.
       let s = x .session in
       SettledAt q f t [] (readUntilSettled (s .rows .field .0 + s .rows .trim .0 + 1) f t s))
-      (sym (legal-opened q f t accepted g h))
-      (settles q f t g h accepted (rowCount f + rowCount t + 1) (open-reached q f t accepted)
-      (sound-open q (record { 0 = rowCount f }) (record { 0 = rowCount t })) (omega arith))
+      (sym (legal-opened q f t accepted cards g h))
+      (settles q f t g h accepted (rowCount f + rowCount t + 1) (open-reached q f t accepted cards)
+      (sound-open q (twoTables f t)) (omega arith))
 
   -- and takes until finished
   pub list-listed : Listed q f t [] (list q f t)

@@ -2,12 +2,11 @@
 -- legal tables and an accepted query.
 use mathlib.Core.Path.{_≡_, refl, ap, subst, _∙_}
 use mathlib.Core.Bool.{true, false, _&&_, _||_}
-use mathlib.Core.List.{List, []}
+use mathlib.Core.List.{[]}
 use mathlib.Core.Logic.{_⊎_, inl, inr, ⊎-elim}
 use Prim.Native.Nat.{ℕ, zero, suc, _+_, _≤_, _<_, min}
 use native.Mathlib.Omega.{arith}
 use lib.Dec.{leb, eqb}
-use lib.IntN.{ℤ}
 use borrow.Author.Tests.{leb-true, le-leb, lt-leb, eqb-true, ne-eqb, lt-ltb}
 use Rattle.lists.specs.Lists.{atLeast}
 use Rattle.lists.specs.Bools.{clash, and-out, or-out, or-true}
@@ -15,15 +14,15 @@ use Rattle.rules.specs.declared.FieldRows.{FieldRows}
 use Rattle.rules.specs.declared.TrimRows.{TrimRows}
 use Rattle.rules.specs.declared.Query.{Query}
 use Rattle.rules.specs.declared.Session.{Session}
-use Rattle.rules.specs.Tables.{rowCount, legal, row, withdrawn, firstRows}
-use Rattle.rules.specs.Session.{withdrawnWithin, readOut, isEmpty, opened, settledBy, settled}
+use Rattle.rules.specs.Tables.{Table, rowCount, legal, row, withdrawn, firstRows}
+use Rattle.rules.specs.Session.{withdrawnWithin, readOut, isEmpty, twoTables, opened, settledBy, settled}
 use Rattle.rules.specs.Read.{fieldNextBy, fieldNext, readTable}
 use Rattle.rules.specs.declared.Answer.the-variants.{Read}
 use Rattle.rules.specs.Calls.{queryCode, callCode, step}
 use Rattle.rules.specs.Sure.{Sure, qualifyingSums}
 use Rattle.rules.specs.Query.{readUntilSettled, settledSession}
 use Rattle.session_laws.specs.Record.{query-out}
-use Rattle.session_laws.specs.Calls.{legal-opened, call-accepted, new-block-accepted, read-goes, read-settled}
+use Rattle.session_laws.specs.Calls.{OneCard, legal-opened, call-accepted, new-block-accepted, read-goes, read-settled}
 use Rattle.session_laws.specs.Read.{read-field, read-trim}
 use Rattle.session_laws.specs.Sound.{Sound, sound-open}
 use Rattle.tables_join.specs.Sure.{readOutBy, emptyBy, ceilingAt, isSure, sure-is-test}
@@ -38,7 +37,7 @@ trimRows n = record { 0 = n }
 
 -- ---- What a reading shows of one table
 
-module _ (t : List ℤ) where
+module _ (t : Table) where
   -- nothing read shows only that there are no rows
   empty-by-none : emptyBy t 0 ≡ true → rowCount t ≡ 0
   unfolding emptyBy
@@ -60,7 +59,8 @@ module _ (t : List ℤ) where
   unfolding readOutBy
   unread-by n h e = rw (lt-leb (rowCount t) n h, e)
 
-module _ (q : Query) (accepted : queryCode q ≡ 0) (f t : List ℤ) (g : legal f ≡ true) (h : legal t ≡ true) where
+module _ (q : Query) (accepted : queryCode q ≡ 0) (f t : Table) (cards : OneCard f t)
+    (g : legal f ≡ true) (h : legal t ≡ true) where
   -- k sums of a reading are at least its ceiling
   abbrev pub Enough : ℕ → ℕ → Type 0
   Enough m n =
@@ -80,7 +80,7 @@ module _ (q : Query) (accepted : queryCode q ≡ 0) (f t : List ℤ) (g : legal 
       atLeast (ceilingAt q f t (fieldRows m) (trimRows n)) (qualifyingSums q (firstRows m f) (firstRows n t)) in
       let last = leb 1 m && (leb 1 n && leb (q .k) some) in
       let outs = readOutBy f m && readOutBy t n in
-      let e = sure-is-test q accepted f t g h (fieldRows m) (trimRows n) .0 s in
+      let e = sure-is-test q accepted f t g h (fieldRows m) (trimRows n) (cards .same) .0 s in
       ⊎-elim field-empty
       (λ a.
       ⊎-elim trim-empty
@@ -110,12 +110,12 @@ module _ (q : Query) (accepted : queryCode q ≡ 0) (f t : List ℤ) (g : legal 
   pub first-field-sure : withdrawn (row f 0) ≡ true → (m n : ℕ) → 1 ≤ m → Sure q f t (fieldRows m) (trimRows n)
   unfolding isSure
   first-field-sure e m n k =
-      sure-is-test q accepted f t g h (fieldRows m) (trimRows n) .1 (rw (empty-by-first f m k e))
+      sure-is-test q accepted f t g h (fieldRows m) (trimRows n) (cards .same) .1 (rw (empty-by-first f m k e))
 
   pub first-trim-sure : withdrawn (row t 0) ≡ true → (m n : ℕ) → 1 ≤ n → Sure q f t (fieldRows m) (trimRows n)
   unfolding isSure
   first-trim-sure e m n k =
-      sure-is-test q accepted f t g h (fieldRows m) (trimRows n) .1
+      sure-is-test q accepted f t g h (fieldRows m) (trimRows n) (cards .same) .1
       (rw (empty-by-first t n k e) (or-true (emptyBy f m)))
 
   -- ---- One that stops just before a withdrawn row is not, unless k sums are: trim not being empty, and rows of the
@@ -133,15 +133,16 @@ module _ (q : Query) (accepted : queryCode q ≡ 0) (f t : List ℤ) (g : legal 
 
 -- ---- "where trim has rows, a field table that begins with 0 settles after its first block, and no trim is read"
 
-empty-settles : (f t : List ℤ) (s : Session) → isEmpty f (s .rows .field .0) (s .depth .field .0) ≡ true
+empty-settles : (f t : Table) (s : Session) → isEmpty f (s .rows .field .0) (s .depth .field .0) ≡ true
     → settled f t s ≡ true
 unfolding settledBy
 empty-settles f t s e = rw e
 
-module _ (q : Query) (accepted : queryCode q ≡ 0) (f t : List ℤ) (g : legal f ≡ true) (h : legal t ≡ true)
+module _ (q : Query) (accepted : queryCode q ≡ 0) (f t : Table) (cards : OneCard f t)
+    (g : legal f ≡ true) (h : legal t ≡ true)
     (first : withdrawn (row f 0) ≡ true) (some : 1 ≤ rowCount f) (rows : 1 ≤ rowCount t) where
   abbrev begun : Session
-  begun = opened q (fieldRows (rowCount f)) (trimRows (rowCount t))
+  begun = opened q (twoTables f t)
 
   abbrev after : Session
   after = readTable true f t begun
@@ -153,10 +154,10 @@ module _ (q : Query) (accepted : queryCode q ≡ 0) (f t : List ℤ) (g : legal 
   size = query-out q accepted .block .0
 
   reached : Reached q f t [] begun
-  reached = open-reached q f t accepted
+  reached = open-reached q f t accepted cards
 
   sound : Sound begun
-  sound = sound-open q (fieldRows (rowCount f)) (trimRows (rowCount t))
+  sound = sound-open q (twoTables f t)
 
   begun-unsettled : settled f t begun ≡ false
   unfolding settledBy opened isEmpty readOut withdrawnWithin
@@ -218,7 +219,7 @@ module _ (q : Query) (accepted : queryCode q ≡ 0) (f t : List ℤ) (g : legal 
       (λ x.
       let s = x .session in
       readUntilSettled (s .rows .field .0 + s .rows .trim .0 + 1) f t s)
-      (legal-opened q f t accepted g h)
+      (legal-opened q f t accepted cards g h)
       ∙ ap (λ n. readUntilSettled n f t begun) e
       ∙ read-once (rowCount f + rowCount t) (omega arith)
 

@@ -1,12 +1,10 @@
 -- A take's answer, of the code that its checks gave, and the record that goes with it. Assumes nothing.
 use mathlib.Core.Path.{_≡_, refl, sym, ap, _∙_}
 use mathlib.Core.Bool.{Bool, true, false, cond}
-use mathlib.Core.List.{List}
 use Prim.Native.Nat.{ℕ}
 use lib.Dec.{eqb}
 use borrow.Author.Tests.{eqb-true}
 use Rattle.lists.specs.Bools.{clash}
-use lib.IntN.{ℤ}
 use Rattle.rules.specs.declared.Session.{Session}
 use Rattle.rules.specs.declared.Step.{Step}
 use Rattle.rules.specs.declared.Answer.{Answer}
@@ -14,14 +12,15 @@ use Rattle.rules.specs.declared.Answer.the-variants.{Refused, Given, NotYet, Fi
 use Rattle.rules.specs.Take.{firstHeld, givesPair, movedOut, finished}
 use Rattle.rules.specs.Query.{wasGiven}
 use Rattle.rules.specs.Calls.{callCode, step, takeCallBy, takeCall}
+use Rattle.rules.specs.Tables.{Table}
 
-unfoldable pub takeAnswer : ℕ → List ℤ → List ℤ → Session → Answer
+unfoldable pub takeAnswer : ℕ → Table → Table → Session → Answer
 takeAnswer code f t s =
     cond (eqb code 0) (cond (givesPair f t s) (Given (firstHeld s)) (cond (finished f t s) Finished NotYet))
     (Refused code)
 
 -- the record that goes with an answer: only a pair that is given changes it
-module _ (f t : List ℤ) (s : Session) where
+module _ (f t : Table) (s : Session) where
   abbrev pub afterTake : Answer → Session
   afterTake a = cond (wasGiven a) (movedOut s) s
 
@@ -50,7 +49,7 @@ module _ (f t : List ℤ) (s : Session) where
       ∙ ap (λ (b : Bool). cond b (movedOut s) s) (ap (λ (x : Step). wasGiven (x .answer)) take-is ∙ h)
 
 -- a pair is given: the checks passed, and the first held pair was secured
-module _ (code : ℕ) (f t : List ℤ) (s : Session) where
+module _ (code : ℕ) (f t : Table) (s : Session) where
   pub take-asked : wasGiven (takeAnswer code f t s) ≡ true → (code ≡ 0) × (givesPair f t s ≡ true)
   unfolding takeAnswer
   take-asked e = go (eqb code 0) refl (givesPair f t s) refl (finished f t s) e

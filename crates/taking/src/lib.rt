@@ -6,11 +6,12 @@ use rules::Session;
 use rules::Step;
 ghost use mathlib.Core.Path.{_≡_};
 ghost use Rattle.rules.specs.Calls.{takeCall};
+ghost use Rattle.rules.specs.Session.{lentTable};
 
 // Take: the first held pair is answered and moved out, those behind it move up, and a place of zeros stands at the end;
 // nothing else changes the record.
 pub fn take(f: &[i32], t: &[i32], s: Session) -> Step
-    ensures { λ r. ⌜ r ≡ takeCall (now (f .entry)) (now (t .entry)) s ⌝ }
+    ensures { λ r. ⌜ r ≡ takeCall (lentTable s (now (f .entry))) (lentTable s (now (t .entry))) s ⌝ }
 {
     let mut r = s;
     let n = r.held as usize;

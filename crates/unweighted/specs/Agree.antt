@@ -1,16 +1,14 @@
 -- Rules by two terms agree on a record whose query comes to the same in both. Assumes nothing.
 use mathlib.Core.Path.{_≡_, refl, sym, ap, ap₂, _∙_}
 use mathlib.Core.Bool.{Bool, true, false, cond, _&&_, _||_, not}
-use mathlib.Core.List.{List}
 use Prim.Native.Nat.{ℕ, zero, suc, _+_, _-_, max}
 use lib.Dec.{leb, ltb, eqb}
-use lib.IntN.{ℤ}
 use Rattle.lists.specs.Lists.{every}
 use Rattle.rules.specs.declared.Pair.{Pair}
 use Rattle.rules.specs.declared.Query.{Query}
 use Rattle.rules.specs.declared.Session.{Session}
 use Rattle.rules.specs.declared.Answer.the-variants.{Refused, Read, Settled, Given, NotYet, Finished}
-use Rattle.rules.specs.Tables.{Terms, terms, Block, qualifying}
+use Rattle.rules.specs.Tables.{Table, Terms, terms, Block, qualifying}
 use Rattle.rules.specs.Session.{heldPairs, firstScore, lastScore, fieldReadOut, trimReadOut, bothReadOut}
 use Rattle.rules.specs.Session.{aTableIsEmpty, aDepthIsZero, ceilingBy, securedBy, settledBy}
 use Rattle.rules.specs.Read.{scoreDrop, fieldNextBy, rowsBetween, blockCount, blockAt, lowest, skippedBy, bestHeld}
@@ -34,7 +32,7 @@ meet-agrees g r x y e =
 
 module _ (g : Query → Terms) (s : Session) (e : g (s .query) ≡ terms (s .query)) where
   -- a block and those of the other table: no block pair changes the query
-  blocks-agree : (field : Bool) (new : Block) (t : List ℤ) (depth n : ℕ)
+  blocks-agree : (field : Bool) (new : Block) (t : Table) (depth n : ℕ)
       → meetBlocksBy g field s new t depth n ≡ meetBlocksBy terms field s new t depth n
   unfolding meetBlocksBy
   blocks-agree field new t depth zero = refl
@@ -45,7 +43,7 @@ module _ (g : Query → Terms) (s : Session) (e : g (s .query) ≡ terms (s .que
       ap (λ (r : Session). meetBy g r (cond field new old) (cond field old new)) (blocks-agree field new t depth n)
       ∙ meet-agrees g r (cond field new old) (cond field old new) (ap g kept ∙ e ∙ ap terms (sym kept))
 
-  module _ (f t : List ℤ) where
+  module _ (f t : Table) where
     ceiling-agrees : ceilingBy g f t s ≡ ceilingBy terms f t s
     unfolding ceilingBy
     ceiling-agrees =

@@ -7,7 +7,6 @@ use mathlib.Core.Logic.{⊎-elim}
 use Prim.Native.Nat.{ℕ, zero, suc, _+_, _*_, _-_, _≤_, min}
 use native.Mathlib.Omega.{arith}
 use native.Mathlib.Nat.{one-mul}
-use lib.IntN.{ℤ}
 use lib.ListN.{take, drop}
 use borrow.Author.Tests.{le-leb}
 use Rattle.lists.specs.Lists.{sort, every}
@@ -17,7 +16,7 @@ use Rattle.lists.specs.Members.{mem-take, mem-sort}
 use Rattle.rules.specs.declared.Pair.{Pair}
 use Rattle.rules.specs.declared.Query.{Query}
 use Rattle.rules.specs.declared.Session.{Session}
-use Rattle.rules.specs.Tables.{rowCount, ahead, row, weighted, terms, pairSum, Block, qualifying}
+use Rattle.rules.specs.Tables.{Table, rowCount, ahead, row, weighted, terms, pairSum, Block, qualifying}
 use Rattle.rules.specs.Session.{weights, noPair, heldPairs}
 use Rattle.rules.specs.Read.{rowsBetween, blockCount, blockAt, skipped, bestHeld, holding, meetBy, meet}
 use Rattle.rules.specs.Read.{meetBlocksBy, meetBlocks, readTo, oldDepth, newDepth, readTableBy, readTable}
@@ -53,7 +52,7 @@ module _ (test : Pair → Bool) where
           subst (λ l. every test l ≡ true) (sym (held-holding s (bestHeld s met))) (every-of test (bestHeld s met) kept)
 
   -- rows a + 1 to b of the table that is read meet rows 1 to c of the other one
-  module _ (field : Bool) (f t : List ℤ) (s : Session) (a b c : ℕ) (hb : b ≤ rowCount (cond field f t))
+  module _ (field : Bool) (f t : Table) (s : Session) (a b c : ℕ) (hb : b ≤ rowCount (cond field f t))
       (hc : c ≤ rowCount (cond field t f)) (held : every test (heldPairs s) ≡ true)
       (new : (p : Pair) → Between field (s .query) f t a b 0 c p → test p ≡ true) where
     abbrev x : Block
@@ -86,7 +85,7 @@ module _ (test : Pair → Bool) where
         r = meetBlocks field s x (cond field t f) c n
 
   -- an accepted read
-  module _ (field : Bool) (f t : List ℤ) (s : Session) (a : Accepted f t s) where
+  module _ (field : Bool) (f t : Table) (s : Session) (a : Accepted f t s) where
     abbrev d : ℕ
     d = s .depth .field .0
 
@@ -109,11 +108,11 @@ module _ (test : Pair → Bool) where
 
 -- ---- At weights 1 and 1 no sum that a read meets is above 19,998
 
-weighted-one : (t : List ℤ) (i : ℕ) → weighted 1 (row t i) ≡ row t i .score
+weighted-one : (t : Table) (i : ℕ) → weighted 1 (row t i) ≡ row t i .score
 unfolding weighted
 weighted-one t i = one-mul (row t i .score)
 
-sum-low : (q : Query) (f t : List ℤ) (p : Pair) → q .weights ≡ weights 1 1 → QualifyingPair q f t p
+sum-low : (q : Query) (f t : Table) (p : Pair) → q .weights ≡ weights 1 1 → QualifyingPair q f t p
     → RowFits f (p .field - 1) → RowFits t (p .trim - 1) → isLow p ≡ true
 unfolding pairSum
 sum-low q f t p ones m x y =
@@ -127,7 +126,7 @@ sum-low q f t p ones m x y =
     (omega (arith, m .own-sum, first, second, score-most f i (x .range), score-most t j (y .range)))
 
 -- the rows of a pair that a read meets were checked
-pair-checked : (field : Bool) (f t : List ℤ) (s : Session) → Accepted f t s → NewRowsFit field f t s → (p : Pair)
+pair-checked : (field : Bool) (f t : Table) (s : Session) → Accepted f t s → NewRowsFit field f t s → (p : Pair)
     → Between field (s .query) f t (oldDepth field s) (newDepth field s) 0
     (cond field (s .depth .trim .0) (s .depth .field .0)) p
     → RowFits f (p .field - 1) × RowFits t (p .trim - 1)
@@ -138,7 +137,7 @@ pair-checked false f t s a new p m =
     let rows = read-rows false f t s a new in
     (rows .0 (p .field - 1) (omega (arith, m .other-part)), rows .1 (p .trim - 1) (omega (arith, m .own-part)))
 
-pub read-low : (field : Bool) (f t : List ℤ) (s : Session) → s .query .weights ≡ weights 1 1 → Accepted f t s
+pub read-low : (field : Bool) (f t : Table) (s : Session) → s .query .weights ≡ weights 1 1 → Accepted f t s
     → NewRowsFit field f t s → every isLow (heldPairs s) ≡ true → every isLow (heldPairs (readTable field f t s)) ≡ true
 read-low field f t s ones a new held =
     read-every isLow field f t s a held

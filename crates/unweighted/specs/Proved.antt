@@ -7,7 +7,6 @@ use mathlib.Core.List.{List, [], _∷_, _++_}
 use Prim.Native.Nat.{ℕ, zero, suc, _+_, _*_}
 use native.Mathlib.Nat.{one-mul}
 use lib.Dec.{eqb}
-use lib.IntN.{ℤ}
 use borrow.Author.Tests.{eqb-true, eq-eqb}
 use Rattle.lists.specs.Lists.{every}
 use Rattle.rules.specs.declared.Pair.{Pair}
@@ -16,9 +15,9 @@ use Rattle.rules.specs.declared.Weights.{Weights}
 use Rattle.rules.specs.declared.Session.{Session}
 use Rattle.rules.specs.declared.Step.{Step}
 use Rattle.rules.specs.declared.Answer.the-variants.{Refused, Read, Settled, Given, NotYet, Finished}
-use Rattle.rules.specs.Tables.{weighted, terms, unweighted}
+use Rattle.rules.specs.Tables.{Table, weighted, terms, unweighted}
 use Rattle.rules.specs.Numbers.{badRecord}
-use Rattle.rules.specs.Session.{weights, opened, settled}
+use Rattle.rules.specs.Session.{lentTable, weights, opened, settled}
 use Rattle.rules.specs.Read.{fieldNext, readBlock}
 use Rattle.rules.specs.Take.{firstHeld, givesPair, movedOut, finished}
 use Rattle.rules.specs.Calls.{callCode, newBlockCode, step, openCode, openCall, readCallBy, readCall, takeCallBy}
@@ -26,7 +25,7 @@ use Rattle.rules.specs.Calls.{takeCall}
 use Rattle.rules.specs.Query.{wasRead, given, wasGiven, readUntilSettledBy, takeUntilFinishedBy, settledSession, list}
 use Rattle.session_laws.specs.Calls.{call-out, new-block-out}
 use Rattle.session_laws.specs.Read.{read-query}
-use Rattle.demand.specs.Demand.{Call, reading, taking, Line, promised, byRules}
+use Rattle.demand.specs.Demand.{Call, reading, taking, Line, ruled, byRules}
 use Rattle.unweighted.specs.Unweighted.{lowSums, readUnweighted, takeUnweighted, callUnweighted}
 use Rattle.unweighted.specs.Unweighted.{byUnweighted, settledUnweighted, listUnweighted}
 use Rattle.unweighted.specs.Agree.{read-agrees, take-agrees}
@@ -48,7 +47,7 @@ same-terms q ones =
       near = terms q .near;
     }
 
-module _ (f t : List ℤ) (s : Session) (plain : Plain s) where
+module _ (f t : Table) (s : Session) (plain : Plain s) where
   -- ---- Each call gives the same
 
   read-same : readCall f t s ≡ readUnweighted f t s
@@ -112,11 +111,11 @@ module _ (f t : List ℤ) (s : Session) (plain : Plain s) where
       go true false false = plain
       go false b c = plain
 
-  call-same : (c : Call) → promised c f t s ≡ callUnweighted c f t s
+  call-same : (c : Call) → ruled c f t s ≡ callUnweighted c f t s
   call-same reading = read-same
   call-same taking = take-same
 
-  call-plain : (c : Call) → Plain (promised c f t s .session)
+  call-plain : (c : Call) → Plain (ruled c f t s .session)
   call-plain reading = read-plain
   call-plain taking = take-plain
 
@@ -125,14 +124,14 @@ module _ (f t : List ℤ) (s : Session) (plain : Plain s) where
 lines-same : (s : Session) (lines : List Line) → Plain s → byRules s lines ≡ byUnweighted s lines
 lines-same s [] plain = refl
 lines-same s (l ∷ lines) plain =
-    let f = l .field in
-    let t = l .trim in
+    let f = lentTable s (l .field) in
+    let t = lentTable s (l .trim) in
     let next = call-plain f t s plain (l .call) in
-    ap (λ r. promised (l .call) f t s ∷ r) (lines-same (promised (l .call) f t s .session) lines next)
+    ap (λ r. ruled (l .call) f t s ∷ r) (lines-same (ruled (l .call) f t s .session) lines next)
     ∙ ap (λ (x : Step). x ∷ byUnweighted (x .session) lines) (call-same f t s plain (l .call))
 
 -- reading until settled, and taking until finished
-reads-same : (f t : List ℤ) (n : ℕ) (s : Session) → Plain s
+reads-same : (f t : Table) (n : ℕ) (s : Session) → Plain s
     → (readUntilSettledBy (readCall f t) n s ≡ readUntilSettledBy (readUnweighted f t) n s)
     × Plain (readUntilSettledBy (readCall f t) n s)
 unfolding readUntilSettledBy
@@ -160,7 +159,7 @@ reads-same f t (suc n) s plain =
     kept true h = h
     kept false h = plain
 
-takes-same : (f t : List ℤ) (n : ℕ) (s : Session) → Plain s
+takes-same : (f t : Table) (n : ℕ) (s : Session) → Plain s
     → takeUntilFinishedBy (takeCall f t) n s ≡ takeUntilFinishedBy (takeUnweighted f t) n s
 unfolding takeUntilFinishedBy
 takes-same f t zero s plain = refl
@@ -189,7 +188,7 @@ takes-same f t (suc n) s plain =
 
 -- ---- From an accepted opening on
 
-module _ (q : Query) (f t : List ℤ) (ones : q .weights ≡ weights 1 1) (accepted : openCode q f t ≡ 0) where
+module _ (q : Query) (f t : Table) (ones : q .weights ≡ weights 1 1) (accepted : openCode q f t ≡ 0) where
   opening-plain : Plain (openCall q f t .session)
   unfolding openCall opened lowSums every
   opening-plain = rw (eq-eqb (openCode q f t) 0 accepted) (record { ones = ones; low = refl })

@@ -4,15 +4,14 @@ use Prim.Native.Nat.{ℕ, _+_}
 use mathlib.Core.Bool.{Bool, cond}
 use mathlib.Core.List.{List, [], _∷_}
 use lib.Dec.{leb}
-use lib.IntN.{ℤ}
 use Rattle.lists.specs.Lists.{every}
 use Rattle.rules.specs.declared.Pair.{Pair}
 use Rattle.rules.specs.declared.Query.{Query}
 use Rattle.rules.specs.declared.Session.{Session}
 use Rattle.rules.specs.declared.Step.{Step}
 use Rattle.rules.specs.declared.Answer.the-variants.{Refused}
-use Rattle.rules.specs.Tables.{unweighted}
-use Rattle.rules.specs.Session.{heldPairs}
+use Rattle.rules.specs.Tables.{Table, unweighted}
+use Rattle.rules.specs.Session.{lentTable, heldPairs}
 use Rattle.rules.specs.Numbers.{badRecord}
 use Rattle.rules.specs.Calls.{step, openCall, readCallBy, takeCallBy}
 use Rattle.rules.specs.Query.{readUntilSettledBy, takeUntilFinishedBy}
@@ -33,13 +32,13 @@ abbrev pub unlessHigh : Session → Step → Step
 unlessHigh s r = cond (lowSums s) r (step (Refused badRecord) s)
 
 -- read and take
-unfoldable pub readUnweighted : List ℤ → List ℤ → Session → Step
+unfoldable pub readUnweighted : Table → Table → Session → Step
 readUnweighted f t s = unlessHigh s (readCallBy unweighted f t s)
 
-unfoldable pub takeUnweighted : List ℤ → List ℤ → Session → Step
+unfoldable pub takeUnweighted : Table → Table → Session → Step
 takeUnweighted f t s = unlessHigh s (takeCallBy unweighted f t s)
 
-abbrev pub callUnweighted : Call → List ℤ → List ℤ → Session → Step
+abbrev pub callUnweighted : Call → Table → Table → Session → Step
 callUnweighted reading f t s = readUnweighted f t s
 callUnweighted taking f t s = takeUnweighted f t s
 
@@ -47,14 +46,14 @@ callUnweighted taking f t s = takeUnweighted f t s
 abbrev pub byUnweighted : Session → List Line → List Step
 byUnweighted s [] = []
 byUnweighted s (l ∷ lines) =
-    callUnweighted (l .call) (l .field) (l .trim) s
-    ∷ byUnweighted (callUnweighted (l .call) (l .field) (l .trim) s .session) lines
+    let gave = callUnweighted (l .call) (lentTable s (l .field)) (lentTable s (l .trim)) s in
+    gave ∷ byUnweighted (gave .session) lines
 
 -- one whole query: the record when it is settled, and the list
-unfoldable pub settledUnweighted : Query → List ℤ → List ℤ → Session
+unfoldable pub settledUnweighted : Query → Table → Table → Session
 settledUnweighted q f t =
     let s = openCall q f t .session in
     readUntilSettledBy (readUnweighted f t) (s .rows .field .0 + s .rows .trim .0 + 1) s
 
-unfoldable pub listUnweighted : Query → List ℤ → List ℤ → List Pair
+unfoldable pub listUnweighted : Query → Table → Table → List Pair
 listUnweighted q f t = takeUntilFinishedBy (takeUnweighted f t) (q .k + 1) (settledUnweighted q f t)

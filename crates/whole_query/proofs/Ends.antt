@@ -1,5 +1,5 @@
 -- The two ends of a query: refused, or its answer written. Assumes nothing.
-use mathlib.Core.Path.{_≡_, sym, ap, subst, _∙_}
+use mathlib.Core.Path.{_≡_, sym, ap, subst, subst₂, _∙_}
 use mathlib.Core.List.{List, [], _∷_}
 use Prim.Native.Nat.{ℕ, _≤_}
 use native.Mathlib.Omega.{arith}
@@ -8,6 +8,7 @@ use lib.IntN.{ℤ, pos, negℤ}
 use lib.ListN.{length}
 use borrow.Author.Tests.{leb-true, eq-eqb, ne-eqb}
 use Rattle.rules.specs.declared.Query.{Query}
+use Rattle.rules.specs.Session.{lentTable}
 use Rattle.rules.specs.Numbers.{shortSlice, IsRefusal, unless, first, signed}
 use Rattle.rules.specs.Checks.{unless-out, first-out, unless-refusal, first-refusal}
 use Rattle.rules.specs.Calls.{openCode}
@@ -15,8 +16,9 @@ use Rattle.rules.specs.Query.{settledSession}
 use Rattle.record_layout.specs.Flat.{querySize, queryIn}
 use Rattle.answers.specs.Refusals.{open-refusal, read-refusal}
 use Rattle.run_query.specs.declared.Outcome.{Outcome}
-use Rattle.run_query.specs.Outcomes.{readCode, queryOutcome, opening-code, OutcomeOf, is-outcome}
+use Rattle.run_query.specs.Outcomes.{readCode, queryOutcome, opening-code, OutcomeOf, is-outcome, lent-outcome}
 use Rattle.whole_query.specs.Asked.{askedCode, asked, writtenUnless}
+use Rattle.rules.specs.Tables.{Table}
 
 -- the code's checks, of the outcome that it has
 abbrev pub checks : ℕ → List ℕ → ℕ → Outcome → List ℕ
@@ -28,12 +30,12 @@ checks least l room r =
     ∷ []
 
 -- a query that was read from its numbers, run, and checked
-pub record Asking (least : ℕ) (l : List ℕ) (f t : List ℤ) (room : ℕ) (q : Query) (r : Outcome) (code : ℕ) : Type 0 where
+pub record Asking (least : ℕ) (l : List ℕ) (f t : Table) (room : ℕ) (q : Query) (r : Outcome) (code : ℕ) : Type 0 where
   pub asks : q ≡ queryIn l
   pub ran : r ≡ queryOutcome q f t
   pub checked : code ≡ first (checks least l room r)
 
-module _ {least : ℕ} {l : List ℕ} {f t : List ℤ} {room : ℕ} {q : Query} {r : Outcome} {code : ℕ}
+module _ {least : ℕ} {l : List ℕ} {f t : Table} {room : ℕ} {q : Query} {r : Outcome} {code : ℕ}
     (h : Asking least l f t room q r code) where
   query-is : r .query ≡ queryIn l
   query-is = is-outcome q f t r (h .ran) .0 ∙ h .asks
@@ -67,6 +69,14 @@ module _ {least : ℕ} {l : List ℕ} {f t : List ℤ} {room : ℕ} {q : Query} 
   has-room z =
       let passes = first-out (checks least l room r) (sym (h .checked) ∙ z) in
       leb-true least room (unless-out (leb least room) shortSlice (omega arith) (passes 3))
+
+  -- the slices, on the card of the record that the reading ended with, are the tables
+  pub lents : code ≡ 0 → (lentTable (r .session) (f .numbers) ≡ f) × (lentTable (r .session) (t .numbers) ≡ t)
+  lents z = lent-outcome q f t r (h .ran) (first-out (checks least l room r) (sym (h .checked) ∙ z) 1)
+
+  -- so the outcome is one over these slices
+  pub outcome-lent : code ≡ 0 → OutcomeOf (lentTable (r .session) (f .numbers)) (lentTable (r .session) (t .numbers)) r
+  outcome-lent z = subst₂ (λ x y. OutcomeOf x y r) (sym (lents z .0)) (sym (lents z .1)) outcome-is
 
   -- of a query's answer: how many there are, and the lent places with it written
   module _ (count : Query → ℕ) (written : Query → List ℕ) (out : List ℕ) where

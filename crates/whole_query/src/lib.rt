@@ -22,7 +22,8 @@ pub fn whole(query: &[u32], f: &[i32], t: &[i32], out: &mut [u64]) -> i32
         ≡ lentQueryNumbers (now (query .entry)) (now (f .entry)) (now (t .entry)) (now (out .entry)) ⌝ }
 {
     let q = record_taken::query_in(query);
-    let run = run_query::run(q, f, t);
+    let kinds = record_taken::kinds_in(query);
+    let run = run_query::run(q, kinds, f, t);
     let there = record_layout::QUERY_SIZE <= query.len();
     let code = asked_code(
         there,
@@ -33,7 +34,7 @@ pub fn whole(query: &[u32], f: &[i32], t: &[i32], out: &mut [u64]) -> i32
     if code != 0 {
         return answers::minus(code);
     }
-    query_numbers::put_numbers(out, f, t, run);
+    query_numbers::put_numbers(out, run.session.rows.card, f, t, run);
     run.count as i32
 }
 
@@ -44,12 +45,13 @@ pub fn listed(query: &[u32], f: &[i32], t: &[i32], out: &mut [u8]) -> i32
         ≡ lentListingBytes (now (query .entry)) (now (f .entry)) (now (t .entry)) (now (out .entry)) ⌝ }
 {
     let q = record_taken::query_in(query);
-    let run = run_query::run(q, f, t);
+    let kinds = record_taken::kinds_in(query);
+    let run = run_query::run(q, kinds, f, t);
     let there = record_layout::QUERY_SIZE <= query.len();
     let number = asked_code(there, run.opening, run.reading, listing::ROOM <= out.len());
     if number != 0 {
         return answers::minus(number);
     }
-    let n = listing::put_listing(out, f, t, run);
+    let n = listing::put_listing(out, run.session.rows.card, f, t, run);
     n as i32
 }

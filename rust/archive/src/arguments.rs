@@ -5,7 +5,7 @@ use std::path::PathBuf;
 
 pub const USAGE: &str = "\
 usage: furzeladle FIELD-FILE TRIM-FILE K BLOCK RADIUS [FIELD-WEIGHT TRIM-WEIGHT]
-  FIELD-FILE, TRIM-FILE      strict files of up to 65,535 rows, kind 1 and kind 2
+  FIELD-FILE, TRIM-FILE      strict files of up to 65,535 rows, kinds 1 and 2, or 3 and 4 (on the new shade card)
   K                          pairs wanted, 1 to 64
   BLOCK                      rows read at a time, 1 to 1,024
   RADIUS                     how far apart two shades may lie, 0 to 40,000

@@ -17,7 +17,8 @@ use fault::Fault;
 fn listing(wanted: &Wanted) -> Result<Vec<u8>, Fault> {
     let field = table::rows(&wanted.field, Table::Field)?;
     let trim = table::rows(&wanted.trim, Table::Trim)?;
-    furzeladle::listing(wanted.asked, &field, &trim).map_err(Fault::Query)
+    let asked = wanted.asked.over(&field, &trim);
+    asked.listing().map_err(Fault::Query)
 }
 
 fn print(bytes: &[u8]) -> Result<(), Fault> {

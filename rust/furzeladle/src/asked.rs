@@ -1,4 +1,5 @@
 //! What a list is asked for.
+use crate::{Card, Over, Rows, Table};
 
 /// List length (1 to 64), block size in rows (1 to 1,024), radius (0 to 40,000).
 #[derive(Clone, Copy, Debug, PartialEq, Eq, Hash)]
@@ -17,7 +18,7 @@ pub struct FieldWeight(pub u32);
 pub struct TrimWeight(pub u32);
 
 /// Everything that a list is asked for: a query, and what was added since, each with its default. A query alone will do
-/// wherever this is wanted; `Query::weights` and its like say the rest.
+/// wherever this is wanted; `Query::weights`, `Query::on` and their like say the rest.
 #[derive(Clone, Copy, Debug, PartialEq, Eq, Hash)]
 #[non_exhaustive]
 pub struct Asked {
@@ -26,12 +27,35 @@ pub struct Asked {
     pub field_weight: FieldWeight,
     /// 1 where nothing is said.
     pub trim_weight: TrimWeight,
+    /// The old one where nothing is said.
+    pub field_card: Card,
+    /// The old one where nothing is said.
+    pub trim_card: Card,
 }
 
 impl Query {
     /// The same query with these weights.
     pub fn weights(self, field: FieldWeight, trim: TrimWeight) -> Asked {
         Asked::from(self).weights(field, trim)
+    }
+
+    /// The same query over tables on this card.
+    ///
+    /// ```
+    /// use furzeladle::{list, Card, Query};
+    /// let field = [101, 90, 0, 0, 0, 102, 80, 0, 0, 10_000]; // number, score, a, b, L of each row
+    /// let trim = [201, 70, 3, 4, 10_000];
+    /// let query = Query { k: 2, block: 1, radius: 5 };
+    /// let pairs = list(query.on(Card::New), &field, &trim).unwrap().pairs;
+    /// assert_eq!((pairs.len(), pairs[0].field_number, pairs[0].squared_distance), (1, 102, 25));
+    /// ```
+    pub fn on(self, card: Card) -> Asked {
+        Asked::from(self).on(card)
+    }
+
+    /// The same query over two tables as they were read, on their cards.
+    pub fn over<'a>(self, field: &'a Rows, trim: &'a Rows) -> Over<'a> {
+        Asked::from(self).over(field, trim)
     }
 }
 
@@ -45,10 +69,32 @@ impl Asked {
         }
     }
 
+    /// The same over tables on this card.
+    pub fn on(self, card: Card) -> Asked {
+        self.cards(card, card)
+    }
+
+    /// The same over tables each on its own card. Two different ones are refused by 15.
+    pub fn cards(self, field: Card, trim: Card) -> Asked {
+        Asked {
+            field_card: field,
+            trim_card: trim,
+            ..self
+        }
+    }
+
+    /// The same over two tables as they were read, on their cards.
+    pub fn over<'a>(self, field: &'a Rows, trim: &'a Rows) -> Over<'a> {
+        Over::new(self, field, trim)
+    }
+
     /// The numbers that the library is lent for it, in their order.
-    pub(crate) fn numbers(self) -> [u32; 5] {
+    pub(crate) fn numbers(self) -> [u32; 7] {
         let Query { k, block, radius } = self.query;
-        [k, block, radius, self.field_weight.0, self.trim_weight.0]
+        let (v, w) = (self.field_weight.0, self.trim_weight.0);
+        let field_kind = Table::Field.kind(self.field_card) as u32;
+        let trim_kind = Table::Trim.kind(self.trim_card) as u32;
+        [k, block, radius, v, w, field_kind, trim_kind]
     }
 }
 
@@ -58,6 +104,8 @@ impl From<Query> for Asked {
             query,
             field_weight: FieldWeight(1),
             trim_weight: TrimWeight(1),
+            field_card: Card::Old,
+            trim_card: Card::Old,
         }
     }
 }

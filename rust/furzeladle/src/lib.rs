@@ -1,18 +1,24 @@
 //! Safe Rust over libfurzeladle.a, whose functions are proved: the strict file, the join session and the whole query.
 //!
-//! A table is `&[i32]`, four numbers to a row: pattern number, score, a, b. Rows are numbered from 1. Nothing here
-//! panics or trusts its input: what does not fit is refused by the rules' number.
+//! A table is `&[i32]`, four numbers to a row on the old shade card: pattern number, score, a, b; on the new one five,
+//! L last. A query says which card it is about, and means the old one where it says nothing; `Rows` are tables that
+//! know their card. Rows are numbered from 1. Nothing here panics or trusts its input: what does not fit is refused by
+//! the rules' number.
 //!
-//! A score of 0 means that the pattern is withdrawn: its row is read, shown and checked like any other, but no pair with
-//! it qualifies. As scores fall, a table counts as read out once such a row has been read.
+//! A score of 0 means that the pattern is withdrawn: its row is read, shown and checked like any other, but no pair
+//! with it qualifies. As scores fall, a table counts as read out once such a row has been read.
 //!
 //! The boundary asks for pointers that are not null and for written slices that overlap nothing: references are both.
 use std::fmt;
 
 mod asked;
+mod card;
 mod query;
+mod rows;
 pub use asked::{Asked, FieldWeight, Query, TrimWeight};
+pub use card::Card;
 pub use query::{list, listing, root, List, Listed, Root};
+pub use rows::{Over, Rows};
 
 mod exported {
     extern "C" {
@@ -88,6 +94,7 @@ impl Refusal {
             10 => "kind",
             11 => "short slice",
             12 => "weight",
+            15 => "cards",
             _ => "no refusal",
         }
     }
@@ -98,7 +105,7 @@ impl Refusal {
             1 => "k outside 1 to 64",
             2 => "block outside 1 to 1,024",
             3 => "radius outside 0 to 40,000",
-            4 => "not four numbers a row, more than 65,535 rows, or other rows than at opening",
+            4 => "not whole rows, more than 65,535 rows, or other rows than at opening",
             5 => "a record that no session can have",
             6 => "a number outside its range",
             7 => "a score above the row before",
@@ -107,6 +114,7 @@ impl Refusal {
             10 => "not the kind of file that is wanted here",
             11 => "fewer numbers lent than are to be written",
             12 => "a weight outside 1 to 9",
+            15 => "the two tables are on different cards",
             _ => "nothing is refused",
         }
     }
@@ -131,20 +139,22 @@ impl fmt::Display for Refusal {
 
 impl std::error::Error for Refusal {}
 
-/// Which table, and a strict file's kind.
+/// Which table, and a strict file's kind on the old card.
 #[derive(Clone, Copy, Debug, PartialEq, Eq, Hash)]
 pub enum Table {
     Field = 1,
     Trim = 2,
 }
 
-/// A strict file's bytes, checked alone: its row count. `kind` is 1 for fields, 2 for trim.
+/// A strict file's bytes, checked alone: its row count. `kind` is 1 for fields and 2 for trim on the old card, 3 and 4
+/// on the new one (`Table::kind`).
 pub fn check(bytes: &[u8], kind: i32) -> Result<u32, Refusal> {
     let answer = unsafe { exported::furzeladle_check(bytes.as_ptr(), bytes.len(), kind) };
     u32::try_from(answer).map_err(|_| Refusal::of(answer))
 }
 
-/// A strict file's rows, read into the front of `out`: the row count. What is refused changes nothing.
+/// A strict file's rows, read into the front of `out`, as many numbers each as their card has: the row count. What is
+/// refused changes nothing. `Rows::read` makes the room by itself.
 pub fn load(bytes: &[u8], kind: i32, out: &mut [i32]) -> Result<u32, Refusal> {
     let answer = unsafe {
         exported::furzeladle_load(
@@ -187,7 +197,10 @@ pub enum Taken {
 }
 
 /// How many numbers a record is; include/furzeladle.h has their order.
-pub const RECORD_SIZE: usize = 206;
+pub const RECORD_SIZE: usize = 207;
+
+/// Where the card stands in it.
+const CARD_AT: usize = 206;
 
 /// A join session: its record, laid out flat. It lends its tables from call to call, always the same two.
 #[derive(Clone, Debug, PartialEq, Eq)]
@@ -196,14 +209,15 @@ pub struct Session {
 }
 
 impl Session {
-    /// Opens a session over two tables: of a query, or of a query and its weights. Refused by 1, 2, 3, 12 or 4.
+    /// Opens a session over two tables: of a query, or of a query, its weights and its card. Refused by 1, 2, 3, 12, 4
+    /// or 15.
     pub fn open(asked: impl Into<Asked>, field: &[i32], trim: &[i32]) -> Result<Session, Refusal> {
         let mut session = Session::from_record([0; RECORD_SIZE]);
         session.reopen(asked, field, trim)?;
         Ok(session)
     }
 
-    /// Opens it anew, over these tables. Refused by 1, 2, 3, 12 or 4: the session is as it was.
+    /// Opens it anew, over these tables. Refused by 1, 2, 3, 12, 4 or 15: the session is as it was.
     pub fn reopen(
         &mut self,
         asked: impl Into<Asked>,
@@ -229,13 +243,19 @@ impl Session {
         }
     }
 
-    /// A session taken up again. Any numbers will do: reads and takes refuse a record that cannot be one by 5.
+    /// A session taken up again. Any numbers will do: reads and takes refuse a record that cannot be one by 5. One of
+    /// 206 numbers, stored before there were cards, goes on with 2 behind them.
     pub fn from_record(record: [u32; RECORD_SIZE]) -> Session {
         Session { record }
     }
 
     pub fn record(&self) -> &[u32; RECORD_SIZE] {
         &self.record
+    }
+
+    /// The card of its tables. None where the record cannot be a session's.
+    pub fn card(&self) -> Option<Card> {
+        Card::named(self.record[CARD_AT])
     }
 
     /// Field rows and trim rows read.
@@ -315,7 +335,9 @@ impl Session {
             2 => (Table::Trim, trim),
             _ => return None,
         };
-        let first = 4 * (place[1] as usize - 1);
-        Some((table, place[1], &rows[first..first + 4 * place[2] as usize]))
+        let wide = self.card()?.width();
+        let first = wide * (place[1] as usize - 1);
+        let count = wide * place[2] as usize;
+        Some((table, place[1], &rows[first..first + count]))
     }
 }

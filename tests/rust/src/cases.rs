@@ -1,6 +1,7 @@
-//! Seeded tables: ties, plateaus, withdrawn rows, empty tables, extreme shades. Seeded queries, weighted and not. Sessions
-//! over withdrawn rows by hand.
-use furzeladle::{Asked, FieldWeight, Query, TrimWeight};
+//! Seeded tables on both cards: ties, plateaus, withdrawn rows, empty tables, extreme shades. Seeded queries, weighted
+//! and not. Sessions over withdrawn rows by hand.
+use crate::model::wide;
+use furzeladle::{Asked, Card, FieldWeight, Query, TrimWeight};
 
 /// A small generator, always the same numbers from the same seed.
 pub struct Dice(u64);
@@ -38,24 +39,58 @@ pub struct Spread {
     pub plateau: bool,
     pub shades: i32,
     pub extreme: bool,
+    /// None on the old card.
+    pub light: Option<Light>,
+}
+
+/// How L is spread: around where, and whether it alone tells shades apart.
+#[derive(Clone, Copy)]
+pub struct Light {
+    pub ground: i32,
+    pub alone: bool,
+}
+
+impl Light {
+    fn of(dice: &mut Dice) -> Light {
+        Light { ground: dice.pick(&[0, 5_000, 10_000]), alone: dice.one_in(3) }
+    }
+}
+
+/// One of the two.
+pub fn card(dice: &mut Dice) -> Card {
+    dice.pick(&[Card::Old, Card::New])
 }
 
 impl Spread {
-    pub fn of(dice: &mut Dice) -> Spread {
+    pub fn of(dice: &mut Dice, card: Card) -> Spread {
         Spread {
             top: dice.pick(&[1, 1, 3, 20, 400, 9_999]),
             step: dice.pick(&[1, 2, 5, 60]),
             plateau: dice.one_in(3),
             shades: dice.pick(&[0, 1, 4, 12, 60]),
             extreme: dice.one_in(6),
+            light: (card == Card::New).then(|| Light::of(dice)),
         }
     }
 
+    /// A shade's a or b.
     fn shade(&self, dice: &mut Dice) -> i32 {
+        if self.light.is_some_and(|light| light.alone) {
+            return 0;
+        }
         if self.extreme {
             return dice.pick(&[-12_800, 12_700, 0]);
         }
         dice.between(-self.shades, self.shades)
+    }
+
+    /// Its L, on the new card.
+    fn lightness(&self, dice: &mut Dice) -> Option<i32> {
+        let light = self.light?;
+        if self.extreme {
+            return Some(dice.pick(&[0, 10_000, 5_000]));
+        }
+        Some((light.ground + dice.between(-self.shades, self.shades)).clamp(0, 10_000))
     }
 }
 
@@ -71,6 +106,7 @@ pub fn table(dice: &mut Dice, rows: u32, spread: Spread) -> Vec<i32> {
         let pattern = dice.pick(&[1, 999_999, dice_pattern(i)]);
         let (a, b) = (spread.shade(dice), spread.shade(dice));
         t.extend([pattern, score, a, b]);
+        t.extend(spread.lightness(dice));
     }
     t
 }
@@ -79,9 +115,9 @@ fn dice_pattern(i: u32) -> i32 {
     i as i32 % 999_999 + 1
 }
 
-/// Often withdraws rows of a table: all, all but the first, the last ones.
-pub fn withdraw(dice: &mut Dice, t: &mut [i32]) {
-    let rows = t.len() as u32 / 4;
+/// Often withdraws rows of a table on a card: all, all but the first, the last ones.
+pub fn withdraw(dice: &mut Dice, card: Card, t: &mut [i32]) {
+    let rows = (t.len() / wide(card)) as u32;
     let live = match dice.below(16) {
         0 => 0,
         1 => 1,
@@ -89,12 +125,17 @@ pub fn withdraw(dice: &mut Dice, t: &mut [i32]) {
         4 | 5 => rows.saturating_sub(1 + dice.below(3)),
         _ => return,
     };
-    t.chunks_mut(4).skip(live as usize).for_each(|row| row[1] = 0);
+    t.chunks_mut(wide(card)).skip(live as usize).for_each(|row| row[1] = 0);
 }
 
-/// A table of these scores in one shade.
+/// A table of these scores in one shade, on the old card.
 pub fn scored(scores: &[i32]) -> Vec<i32> {
-    (1..).zip(scores).flat_map(|(i, &score)| [i, score, 0, 0]).collect()
+    scored_on(Card::Old, scores)
+}
+
+/// The same on a card.
+pub fn scored_on(card: Card, scores: &[i32]) -> Vec<i32> {
+    (1..).zip(scores).flat_map(|(i, &score)| [i, score, 0, 0, 77].into_iter().take(wide(card))).collect()
 }
 
 /// A session over two tables of these scores in one shade, read until settled and taken until finished.
@@ -166,8 +207,8 @@ pub fn query(dice: &mut Dice) -> Query {
     }
 }
 
-/// A query in range and its weights: often 1 and 1, often 9 and 9, else small ones, which tie more, or any.
-pub fn asked(dice: &mut Dice) -> Asked {
+/// A query in range on a card, and its weights: often 1 and 1, often 9 and 9, else small ones, which tie more, or any.
+pub fn asked(dice: &mut Dice, card: Card) -> Asked {
     let query = query(dice);
     let [field, trim] = match dice.below(8) {
         0..=2 => [1, 1],
@@ -175,15 +216,16 @@ pub fn asked(dice: &mut Dice) -> Asked {
         5 | 6 => [(); 2].map(|()| 1 + dice.below(3)),
         _ => [(); 2].map(|()| 1 + dice.below(9)),
     };
-    query.weights(FieldWeight(field), TrimWeight(trim))
+    query.weights(FieldWeight(field), TrimWeight(trim)).on(card)
 }
 
 /// Scores times the other table's weight, where that is legal: sums that would tie without weights tie with them, and
 /// others of the new scores no longer do.
 pub fn tie_by_weights(asked: Asked, field: &mut [i32], trim: &mut [i32]) {
+    let wide = wide(asked.field_card);
     for (t, weight) in [(field, asked.trim_weight.0), (trim, asked.field_weight.0)] {
         if t.get(1).is_some_and(|top| top * weight as i32 <= 9_999) {
-            t.chunks_mut(4).for_each(|row| row[1] *= weight as i32);
+            t.chunks_mut(wide).for_each(|row| row[1] *= weight as i32);
         }
     }
 }

@@ -1,5 +1,5 @@
 //! What demand 3 asks of a whole session, judged by the plain double loop over both tables.
-use crate::model::{near, withdrawn};
+use crate::model::{near, wide, withdrawn};
 use furzeladle::{Asked, Pair};
 use std::collections::HashSet;
 
@@ -31,8 +31,13 @@ pub struct Tables<'a> {
 }
 
 impl Tables<'_> {
-    fn rows(t: &[i32]) -> impl Iterator<Item = &[i32]> {
-        t.chunks(4)
+    /// How many numbers a row has: both tables are on one card.
+    pub fn wide(&self) -> usize {
+        wide(self.asked.field_card)
+    }
+
+    fn rows<'a>(&self, t: &'a [i32]) -> impl Iterator<Item = &'a [i32]> {
+        t.chunks(self.wide())
     }
 
     /// The weighted sum of a field score and a trim score.
@@ -41,15 +46,15 @@ impl Tables<'_> {
     }
 
     /// The live ones of the first n rows, with their places.
-    fn live(t: &[i32], n: usize) -> impl Iterator<Item = (usize, &[i32])> {
-        Self::rows(t).take(n).enumerate().filter(|(_, row)| !withdrawn(row))
+    fn live<'a>(&self, t: &'a [i32], n: usize) -> impl Iterator<Item = (usize, &'a [i32])> {
+        self.rows(t).take(n).enumerate().filter(|(_, row)| !withdrawn(row))
     }
 
     /// All qualifying pairs of the first p field rows and q trim rows, highest sum first.
     pub fn pairs(&self, p: usize, q: usize) -> Vec<Pair> {
         let mut all = Vec::new();
-        for (i, x) in Self::live(self.field, p) {
-            for (j, y) in Self::live(self.trim, q) {
+        for (i, x) in self.live(self.field, p) {
+            for (j, y) in self.live(self.trim, q) {
                 if near(self.asked.query.radius, x, y) {
                     let sum = self.sum(x[1], y[1]);
                     all.push(Pair { sum, field: i as u32 + 1, trim: j as u32 + 1 });
@@ -61,30 +66,31 @@ impl Tables<'_> {
     }
 
     pub fn counts(&self) -> (usize, usize) {
-        (self.field.len() / 4, self.trim.len() / 4)
+        (self.field.len() / self.wide(), self.trim.len() / self.wide())
     }
 
     /// Whether n rows show where a table ends: the last one, or a withdrawn one, is among them.
-    fn ends_within(t: &[i32], n: usize) -> bool {
-        n == t.len() / 4 || Self::rows(t).take(n).any(withdrawn)
+    fn ends_within(&self, t: &[i32], n: usize) -> bool {
+        n == t.len() / self.wide() || self.rows(t).take(n).any(withdrawn)
     }
 
     /// Whether n rows show that a table has no live ones: it has none at all, or the first is among them and withdrawn.
-    fn is_empty_by(t: &[i32], n: usize) -> bool {
-        t.is_empty() || Self::rows(t).take(n.min(1)).any(withdrawn)
+    fn is_empty_by(&self, t: &[i32], n: usize) -> bool {
+        t.is_empty() || self.rows(t).take(n.min(1)).any(withdrawn)
     }
 
     /// Whether reading (p, q) is sure of k, by the closed form.
     pub fn sure(&self, p: usize, q: usize) -> bool {
-        let (field_ends, trim_ends) = (Self::ends_within(self.field, p), Self::ends_within(self.trim, q));
-        let is_empty = Self::is_empty_by(self.field, p) || Self::is_empty_by(self.trim, q);
+        let (field_ends, trim_ends) = (self.ends_within(self.field, p), self.ends_within(self.trim, q));
+        let is_empty = self.is_empty_by(self.field, p) || self.is_empty_by(self.trim, q);
         if is_empty || (field_ends && trim_ends) {
             return true;
         }
         if p == 0 || q == 0 {
             return false;
         }
-        let unread = |i: usize, j: usize| self.sum(self.field[4 * i + 1], self.trim[4 * j + 1]);
+        let wide = self.wide();
+        let unread = |i: usize, j: usize| self.sum(self.field[wide * i + 1], self.trim[wide * j + 1]);
         let trim_part = if trim_ends { 0 } else { unread(0, q - 1) };
         let field_part = if field_ends { 0 } else { unread(p - 1, 0) };
         let ceiling = trim_part.max(field_part);
@@ -113,7 +119,9 @@ impl Tables<'_> {
             if !(1..=m).contains(&i) || !(1..=n).contains(&j) {
                 return Some(Fault::NoSuchRow);
             }
-            let (x, y) = (&self.field[4 * i - 4..4 * i], &self.trim[4 * j - 4..4 * j]);
+            let ends = (self.wide() * i, self.wide() * j);
+            let x = &self.field[ends.0 - self.wide()..ends.0];
+            let y = &self.trim[ends.1 - self.wide()..ends.1];
             if withdrawn(x) || withdrawn(y) {
                 return Some(Fault::Withdrawn);
             }

@@ -22,11 +22,17 @@ pub fn load(bytes: &[u8], kind: i32, out: &mut [i32]) -> Answer {
     furzeladle::load(bytes, kind, out).map_err(|refusal| (refusal.number, refusal.row))
 }
 
-/// A file with these rows, as the format spells it.
-pub fn file(kind: u32, rows: &[[i32; 4]]) -> Vec<u8> {
+/// How wide the columns of a row are; the last one is on the new card only.
+const COLUMNS: [usize; 5] = [6, 6, 7, 7, 6];
+
+/// A file with these rows of four or five numbers, as the format spells it.
+pub fn file<const N: usize>(kind: u32, rows: &[[i32; N]]) -> Vec<u8> {
     let mut text = format!("{:>6}{:>6}\n", rows.len(), kind);
-    for [pattern, score, a, b] in rows {
-        text += &format!("{pattern:>6}{score:>6}{a:>7}{b:>7}\n");
+    for row in rows {
+        for (number, wide) in row.iter().zip(COLUMNS) {
+            text += &format!("{number:>wide$}");
+        }
+        text += "\n";
     }
     text.into_bytes()
 }

@@ -1,9 +1,9 @@
 //! The rules' session, step by step, from their words alone: plain Rust that shares nothing with the library.
-use furzeladle::{Asked, Pair, Query};
+use furzeladle::{Asked, Card, Pair, Query};
 
 pub const PLACES: usize = 64;
 /// How many numbers a flat record is.
-pub const NUMBERS: usize = 206;
+pub const NUMBERS: usize = 207;
 
 /// The record, with the numbers as they come in: any.
 #[derive(Clone, Debug, PartialEq, Eq)]
@@ -18,6 +18,8 @@ pub struct Record {
     pub held: u32,
     pub places: [Pair; PLACES],
     pub joined: u64,
+    /// By the number of its coordinates.
+    pub card: u32,
 }
 
 const ZERO: Pair = Pair { sum: 0, field: 0, trim: 0 };
@@ -50,6 +52,7 @@ impl Record {
             held: l[9],
             places,
             joined: u64::from(l[10]) + (u64::from(l[11]) << 32),
+            card: l[206],
         }
     }
 
@@ -61,6 +64,7 @@ impl Record {
             l.extend([p.sum, p.field, p.trim]);
         }
         l.extend(self.weight);
+        l.push(self.card);
         l
     }
 
@@ -75,34 +79,103 @@ impl Record {
     }
 
     /// All its rows are read, or a withdrawn one is: scores fall, so that the last row read tells.
-    fn read_out(&self, tables: [&[i32]; 2], table: usize) -> bool {
+    fn read_out(&self, tables: Both, table: usize) -> bool {
         let depth = self.depth[table];
-        depth == self.rows[table] || (depth > 0 && withdrawn(row(tables[table], depth)))
+        depth == self.rows[table] || (depth > 0 && withdrawn(tables[table].row(depth)))
     }
 
-    fn both_read_out(&self, tables: [&[i32]; 2]) -> bool {
+    fn both_read_out(&self, tables: Both) -> bool {
         self.read_out(tables, 0) && self.read_out(tables, 1)
     }
 
     /// A table without rows, or one whose first row is read and withdrawn.
-    fn has_empty_table(&self, tables: [&[i32]; 2]) -> bool {
-        let is_empty = |i: usize| self.rows[i] == 0 || (self.depth[i] > 0 && withdrawn(row(tables[i], 1)));
+    fn has_empty_table(&self, tables: Both) -> bool {
+        let is_empty = |i: usize| self.rows[i] == 0 || (self.depth[i] > 0 && withdrawn(tables[i].row(1)));
         is_empty(0) || is_empty(1)
     }
 
     /// What row i of a table adds to a sum.
-    fn worth(&self, tables: [&[i32]; 2], table: usize, i: u32) -> u32 {
-        self.weight[table] * score(tables[table], i)
+    fn worth(&self, tables: Both, table: usize, i: u32) -> u32 {
+        self.weight[table] * tables[table].row(i)[1] as u32
     }
 }
 
-/// Row i, numbered from 1.
-fn row(t: &[i32], i: u32) -> &[i32] {
-    &t[4 * (i as usize - 1)..4 * i as usize]
+/// A lent slice, and how many of its numbers make a row.
+#[derive(Clone, Copy)]
+struct Lent<'a> {
+    numbers: &'a [i32],
+    wide: usize,
 }
 
-fn score(t: &[i32], i: u32) -> u32 {
-    row(t, i)[1] as u32
+/// The field table and the trim table.
+type Both<'a> = [Lent<'a>; 2];
+
+impl<'a> Lent<'a> {
+    /// Row i, numbered from 1.
+    fn row(&self, i: u32) -> &'a [i32] {
+        let end = self.wide * i as usize;
+        &self.numbers[end - self.wide..end]
+    }
+
+    fn rows(&self) -> usize {
+        self.numbers.len() / self.wide
+    }
+
+    fn size_fits(&self) -> bool {
+        self.numbers.len() % self.wide == 0 && self.rows() <= 65_535
+    }
+}
+
+/// How many numbers a row has on a card.
+pub fn wide(card: Card) -> usize {
+    match card {
+        Card::Old => 4,
+        Card::New => 5,
+    }
+}
+
+/// What a session is opened by. Any numbers.
+#[derive(Clone, Copy, Debug, PartialEq, Eq)]
+pub struct Opening {
+    pub query: Query,
+    /// Of the field table, then of the trim table.
+    pub weight: [u32; 2],
+    pub kind: [u32; 2],
+}
+
+impl Opening {
+    /// Of three or more numbers as a caller lends them.
+    pub fn of(lent: &[u32]) -> Opening {
+        let or = |place: usize, unsaid: u32| lent.get(place).copied().unwrap_or(unsaid);
+        Opening {
+            query: Query { k: lent[0], block: lent[1], radius: lent[2] },
+            weight: [or(3, 1), or(4, 1)],
+            kind: [or(5, 1), or(6, 2)],
+        }
+    }
+
+    /// All seven numbers.
+    pub fn numbers(&self) -> [u32; 7] {
+        let (q, [v, w], [field, trim]) = (self.query, self.weight, self.kind);
+        [q.k, q.block, q.radius, v, w, field, trim]
+    }
+}
+
+impl From<Query> for Opening {
+    fn from(query: Query) -> Opening {
+        Opening { query, weight: [1, 1], kind: [1, 2] }
+    }
+}
+
+impl From<Asked> for Opening {
+    fn from(asked: Asked) -> Opening {
+        let kind = |card: Card, old: u32, new: u32| if card == Card::New { new } else { old };
+        Opening {
+            query: asked.query,
+            weight: [asked.field_weight.0, asked.trim_weight.0],
+            kind: [kind(asked.field_card, 1, 3), kind(asked.trim_card, 2, 4)],
+        }
+    }
 }
 
 /// A score of 0: no pair with the row qualifies.
@@ -110,9 +183,14 @@ pub fn withdrawn(r: &[i32]) -> bool {
     r[1] == 0
 }
 
+/// Of two whole rows on one card: over a and b, and over L where they have it.
+pub fn squared_distance(x: &[i32], y: &[i32]) -> u64 {
+    assert_eq!(x.len(), y.len());
+    x[2..].iter().zip(&y[2..]).map(|(p, q)| u64::from(p.abs_diff(*q)).pow(2)).sum()
+}
+
 pub fn near(radius: u32, x: &[i32], y: &[i32]) -> bool {
-    let (da, db) = (i64::from(x[2]) - i64::from(y[2]), i64::from(x[3]) - i64::from(y[3]));
-    da * da + db * db <= i64::from(radius) * i64::from(radius)
+    squared_distance(x, y) <= u64::from(radius).pow(2)
 }
 
 fn qualifies(radius: u32, x: &[i32], y: &[i32]) -> bool {
@@ -138,8 +216,26 @@ fn query_refused(q: Query, weight: [u32; 2]) -> u32 {
     }
 }
 
-fn size_fits(t: &[i32]) -> bool {
-    t.len() % 4 == 0 && t.len() / 4 <= 65_535
+/// 1, 2, 3, 12; 10 of both kinds; 4 of both tables, each by its own kind; 15.
+fn open_refused(opening: &Opening, f: &[i32], t: &[i32]) -> u32 {
+    let code = query_refused(opening.query, opening.weight);
+    if code != 0 {
+        return code;
+    }
+    let [field, trim] = opening.kind;
+    if !matches!(field, 1 | 3) || !matches!(trim, 2 | 4) {
+        return 10;
+    }
+    let on = |new: bool| wide(if new { Card::New } else { Card::Old });
+    let (field_wide, trim_wide) = (on(field == 3), on(trim == 4));
+    let tables = [Lent { numbers: f, wide: field_wide }, Lent { numbers: t, wide: trim_wide }];
+    if !tables.iter().all(Lent::size_fits) {
+        return 4;
+    }
+    if field_wide != trim_wide {
+        return 15;
+    }
+    0
 }
 
 fn blocks(block: u32, depth: u32) -> u64 {
@@ -161,16 +257,16 @@ pub fn record_fits(r: &Record) -> bool {
         return false;
     }
     let held = r.pairs();
-    let pair_fits = |p: &Pair| {
-        (1..=r.depth[0]).contains(&p.field) && (1..=r.depth[1]).contains(&p.trim) && p.sum <= 179_982
-    };
+    let pair_fits =
+        |p: &Pair| (1..=r.depth[0]).contains(&p.field) && (1..=r.depth[1]).contains(&p.trim) && p.sum <= 179_982;
     let mark_fits = match r.last {
         0 => r.depth == [0, 0],
         1 => r.depth[0] > 0,
         2 => r.depth[1] > 0,
         _ => false,
     };
-    held.iter().all(pair_fits)
+    matches!(r.card, 2 | 3)
+        && held.iter().all(pair_fits)
         && held.windows(2).all(|w| rank(&w[0]) < rank(&w[1]))
         && mark_fits
         && r.places[held.len()..].iter().all(|p| *p == ZERO)
@@ -178,72 +274,75 @@ pub fn record_fits(r: &Record) -> bool {
 }
 
 /// 6 and 7 of rows from + 1 to to; 0 where neither refuses.
-fn rows_refused(t: &[i32], from: u32, to: u32) -> u32 {
+fn rows_refused(t: Lent, from: u32, to: u32) -> u32 {
     for i in from + 1..=to {
-        let r = row(t, i);
+        let r = t.row(i);
         let shade = -12_800..=12_700;
         let fits = (1..=999_999).contains(&r[0])
             && (0..=9_999).contains(&r[1])
             && shade.contains(&r[2])
-            && shade.contains(&r[3]);
+            && shade.contains(&r[3])
+            && r.get(4).is_none_or(|lightness| (0..=10_000).contains(lightness));
         if !fits {
             return 6;
         }
-        if i > 1 && r[1] > row(t, i - 1)[1] {
+        if i > 1 && r[1] > t.row(i - 1)[1] {
             return 7;
         }
     }
     0
 }
 
-/// 5, then 4.
-fn lent_refused(tables: [&[i32]; 2], r: &Record) -> u32 {
+/// The tables on the record's card; or 5, then 4.
+fn lent<'a>(f: &'a [i32], t: &'a [i32], r: &Record) -> Result<Both<'a>, u32> {
     if !record_fits(r) {
-        return 5;
+        return Err(5);
     }
+    let wide = wide(if r.card == 3 { Card::New } else { Card::Old });
+    let tables = [f, t].map(|numbers| Lent { numbers, wide });
     for (t, rows) in tables.iter().zip(r.rows) {
-        if !size_fits(t) || t.len() / 4 != rows as usize {
-            return 4;
+        if !t.size_fits() || t.rows() != rows as usize {
+            return Err(4);
         }
     }
-    0
+    Ok(tables)
 }
 
-fn call_refused(tables: [&[i32]; 2], r: &Record) -> u32 {
-    let code = lent_refused(tables, r);
-    if code != 0 {
-        return code;
+/// The same; or 5, 4, 6 or 7.
+fn called<'a>(f: &'a [i32], t: &'a [i32], r: &Record) -> Result<Both<'a>, u32> {
+    let tables = lent(f, t, r)?;
+    for (t, depth) in tables.iter().zip(r.depth) {
+        let code = rows_refused(*t, 0, depth);
+        if code != 0 {
+            return Err(code);
+        }
     }
-    let field = rows_refused(tables[0], 0, r.depth[0]);
-    if field != 0 {
-        return field;
-    }
-    rows_refused(tables[1], 0, r.depth[1])
+    Ok(tables)
 }
 
 /// The ceiling; none where both tables are read out.
-fn ceiling(tables: [&[i32]; 2], r: &Record) -> Option<u32> {
+fn ceiling(tables: Both, r: &Record) -> Option<u32> {
     let part = |table: usize| {
         (!r.read_out(tables, table)).then(|| r.worth(tables, 1 - table, 1) + r.worth(tables, table, r.depth[table]))
     };
     part(0).max(part(1))
 }
 
-fn secured(tables: [&[i32]; 2], r: &Record, p: &Pair) -> bool {
+fn secured(tables: Both, r: &Record, p: &Pair) -> bool {
     if r.depth.contains(&0) && !r.has_empty_table(tables) {
         return false;
     }
     ceiling(tables, r).is_none_or(|c| p.sum >= c)
 }
 
-fn settled(tables: [&[i32]; 2], r: &Record) -> bool {
+fn settled(tables: Both, r: &Record) -> bool {
     r.has_empty_table(tables)
         || r.both_read_out(tables)
         || r.out == r.query.k
         || (r.out + r.held == r.query.k && r.pairs().iter().all(|p| secured(tables, r, p)))
 }
 
-fn next_table(tables: [&[i32]; 2], r: &Record) -> usize {
+fn next_table(tables: Both, r: &Record) -> usize {
     if r.depth[0] == 0 {
         return 0;
     }
@@ -264,30 +363,28 @@ fn next_table(tables: [&[i32]; 2], r: &Record) -> usize {
     }
 }
 
-pub fn open(asked: impl Into<Asked>, f: &[i32], t: &[i32]) -> (Said, Record) {
-    let asked = asked.into();
-    let weight = [asked.field_weight.0, asked.trim_weight.0];
-    let mut code = query_refused(asked.query, weight);
-    if code == 0 && !(size_fits(f) && size_fits(t)) {
-        code = 4;
-    }
+pub fn open(opening: impl Into<Opening>, f: &[i32], t: &[i32]) -> (Said, Record) {
+    let opening = opening.into();
     let mut record = Record::of(&[0; NUMBERS]);
+    let code = open_refused(&opening, f, t);
     if code != 0 {
         return (Said::Refused(code), record);
     }
-    record.query = asked.query;
-    record.weight = weight;
-    record.rows = [(f.len() / 4) as u32, (t.len() / 4) as u32];
+    let is_new = opening.kind == [3, 4];
+    let wide = wide(if is_new { Card::New } else { Card::Old });
+    record.query = opening.query;
+    record.weight = opening.weight;
+    record.rows = [f, t].map(|numbers| (numbers.len() / wide) as u32);
+    record.card = if is_new { 3 } else { 2 };
     (Said::Opened, record)
 }
 
 /// The answer, and the pair tests that it took.
 pub fn read(f: &[i32], t: &[i32], r: &mut Record) -> Said {
-    let tables = [f, t];
-    let code = call_refused(tables, r);
-    if code != 0 {
-        return Said::Refused(code);
-    }
+    let tables = match called(f, t, r) {
+        Ok(tables) => tables,
+        Err(code) => return Said::Refused(code),
+    };
     if settled(tables, r) {
         return Said::Settled;
     }
@@ -310,7 +407,7 @@ pub fn read(f: &[i32], t: &[i32], r: &mut Record) -> Said {
             for i in from + 1..=to {
                 for j in start + 1..=end {
                     let (x, y) = if new == 0 { (i, j) } else { (j, i) };
-                    if qualifies(r.query.radius, row(f, x), row(t, y)) {
+                    if qualifies(r.query.radius, tables[0].row(x), tables[1].row(y)) {
                         let sum = r.worth(tables, 0, x) + r.worth(tables, 1, y);
                         met.push(Pair { sum, field: x, trim: y });
                     }
@@ -329,11 +426,10 @@ pub fn read(f: &[i32], t: &[i32], r: &mut Record) -> Said {
 }
 
 pub fn take(f: &[i32], t: &[i32], r: &mut Record) -> Said {
-    let tables = [f, t];
-    let code = call_refused(tables, r);
-    if code != 0 {
-        return Said::Refused(code);
-    }
+    let tables = match called(f, t, r) {
+        Ok(tables) => tables,
+        Err(code) => return Said::Refused(code),
+    };
     if r.held > 0 && secured(tables, r, &r.places[0]) {
         let given = r.places[0];
         let rest = r.pairs()[1..].to_vec();
@@ -351,7 +447,7 @@ pub fn take(f: &[i32], t: &[i32], r: &mut Record) -> Said {
 
 /// Table, first row and count of the rows last read; zeros where there are none.
 pub fn show(f: &[i32], t: &[i32], r: &Record) -> [u32; 3] {
-    if lent_refused([f, t], r) != 0 || r.last == 0 {
+    if lent(f, t, r).is_err() || r.last == 0 {
         return [0; 3];
     }
     let depth = r.depth[r.last as usize - 1];

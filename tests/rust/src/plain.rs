@@ -1,5 +1,5 @@
 //! The strict file as one would read it in Rust, without allocation and without str::parse: what the library's speed is
-//! measured beside. Like the library it checks the whole file before it writes a number.
+//! measured beside. Like the library it checks the whole file before it writes a number. N is the numbers of a row.
 use crate::Answer;
 
 fn column(bytes: &[u8], signed: bool) -> Option<i32> {
@@ -25,46 +25,64 @@ fn column(bytes: &[u8], signed: bool) -> Option<i32> {
     Some(if minus { -number } else { number })
 }
 
-fn row(line: &[u8]) -> Option<[i32; 4]> {
-    let row = [
-        column(&line[0..6], false)?,
-        column(&line[6..12], false)?,
-        column(&line[12..19], true)?,
-        column(&line[19..26], true)?,
-    ];
-    (line[26] == b'\n').then_some(row)
+const fn row_bytes(wide: usize) -> usize {
+    if wide == 5 {
+        33
+    } else {
+        27
+    }
 }
 
-fn in_range([pattern, score, a, b]: [i32; 4]) -> bool {
+fn row<const N: usize>(line: &[u8]) -> Option<[i32; N]> {
+    let mut row = [0; N];
+    row[0] = column(&line[0..6], false)?;
+    row[1] = column(&line[6..12], false)?;
+    row[2] = column(&line[12..19], true)?;
+    row[3] = column(&line[19..26], true)?;
+    if N == 5 {
+        row[4] = column(&line[26..32], false)?;
+    }
+    (line[row_bytes(N) - 1] == b'\n').then_some(row)
+}
+
+fn in_range<const N: usize>(row: &[i32; N]) -> bool {
     let shade = -12_800..=12_700;
-    (1..=999_999).contains(&pattern) && (0..=9_999).contains(&score) && shade.contains(&a) && shade.contains(&b)
+    (1..=999_999).contains(&row[0])
+        && (0..=9_999).contains(&row[1])
+        && shade.contains(&row[2])
+        && shade.contains(&row[3])
+        && (N == 4 || (0..=10_000).contains(&row[4]))
 }
 
-pub fn check(bytes: &[u8], kind: i32) -> Answer {
+fn header(bytes: &[u8], kind: i32) -> Answer {
     if bytes.len() < 13 {
         return Err((8, 0));
     }
-    let (Some(count), Some(found), b'\n') =
-        (column(&bytes[0..6], false), column(&bytes[6..12], false), bytes[12])
+    let (Some(count), Some(found), b'\n') = (column(&bytes[0..6], false), column(&bytes[6..12], false), bytes[12])
     else {
         return Err((9, 0));
     };
-    if !(1..=2).contains(&kind) || found != kind {
+    if !(1..=4).contains(&kind) || found != kind {
         return Err((10, 0));
     }
     if count > 65_535 {
         return Err((4, 0));
     }
-    if bytes.len() != 13 + 27 * count as usize {
+    Ok(count as u32)
+}
+
+fn check_rows<const N: usize>(bytes: &[u8], kind: i32) -> Answer {
+    let count = header(bytes, kind)?;
+    if bytes.len() != 13 + row_bytes(N) * count as usize {
         return Err((8, 0));
     }
     let mut before = i32::MAX;
-    for (i, line) in bytes[13..].chunks_exact(27).enumerate() {
+    for (i, line) in bytes[13..].chunks_exact(row_bytes(N)).enumerate() {
         let number = i as u32 + 1;
-        let Some(row) = row(line) else {
+        let Some(row) = row::<N>(line) else {
             return Err((9, number));
         };
-        if !in_range(row) {
+        if !in_range(&row) {
             return Err((6, number));
         }
         if row[1] > before {
@@ -72,18 +90,32 @@ pub fn check(bytes: &[u8], kind: i32) -> Answer {
         }
         before = row[1];
     }
-    Ok(count as u32)
+    Ok(count)
 }
 
-pub fn load(bytes: &[u8], kind: i32, out: &mut [i32]) -> Answer {
-    let count = check(bytes, kind)?;
-    if out.len() < 4 * count as usize {
+fn load_rows<const N: usize>(bytes: &[u8], kind: i32, out: &mut [i32]) -> Answer {
+    let count = check_rows::<N>(bytes, kind)?;
+    if out.len() < N * count as usize {
         return Err((11, 0));
     }
-    for (line, places) in bytes[13..].chunks_exact(27).zip(out.chunks_exact_mut(4)) {
-        if let Some(row) = row(line) {
+    for (line, places) in bytes[13..].chunks_exact(row_bytes(N)).zip(out.chunks_exact_mut(N)) {
+        if let Some(row) = row::<N>(line) {
             places.copy_from_slice(&row);
         }
     }
     Ok(count)
+}
+
+pub fn check(bytes: &[u8], kind: i32) -> Answer {
+    match kind {
+        3 | 4 => check_rows::<5>(bytes, kind),
+        _ => check_rows::<4>(bytes, kind),
+    }
+}
+
+pub fn load(bytes: &[u8], kind: i32, out: &mut [i32]) -> Answer {
+    match kind {
+        3 | 4 => load_rows::<5>(bytes, kind, out),
+        _ => load_rows::<4>(bytes, kind, out),
+    }
 }

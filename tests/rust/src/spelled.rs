@@ -9,16 +9,31 @@ fn column(bytes: &[u8], signed: bool) -> Option<i64> {
     (spelled == text && (signed || number >= 0)).then_some(number)
 }
 
-fn row(line: &[u8]) -> Option<[i64; 4]> {
-    if line[26] != b'\n' {
+/// How long a line of this kind is: the columns end before its last byte.
+fn line_length(kind: i32) -> usize {
+    if kind >= 3 {
+        33
+    } else {
+        27
+    }
+}
+
+/// The numbers of a line: four, and L if it is a long one.
+fn row(line: &[u8]) -> Option<Vec<i64>> {
+    let (columns, end) = line.split_at(line.len() - 1);
+    if end != b"\n" {
         return None;
     }
-    Some([
-        column(&line[0..6], false)?,
-        column(&line[6..12], false)?,
-        column(&line[12..19], true)?,
-        column(&line[19..26], true)?,
-    ])
+    let mut row = vec![
+        column(&columns[0..6], false)?,
+        column(&columns[6..12], false)?,
+        column(&columns[12..19], true)?,
+        column(&columns[19..26], true)?,
+    ];
+    if columns.len() > 26 {
+        row.push(column(&columns[26..32], false)?);
+    }
+    Some(row)
 }
 
 fn header(bytes: &[u8]) -> Option<[i64; 2]> {
@@ -28,37 +43,37 @@ fn header(bytes: &[u8]) -> Option<[i64; 2]> {
     Some([column(&bytes[0..6], false)?, column(&bytes[6..12], false)?])
 }
 
+fn in_range(row: &[i64]) -> bool {
+    let ranges = [1..=999_999, 0..=9_999, -12_800..=12_700, -12_800..=12_700, 0..=10_000];
+    row.iter().zip(ranges).all(|(number, range)| range.contains(number))
+}
+
 /// The rows, or the refusal's number and its row.
-pub fn rows(bytes: &[u8], kind: i32) -> Result<Vec<[i32; 4]>, (u32, u32)> {
+pub fn rows(bytes: &[u8], kind: i32) -> Result<Vec<Vec<i32>>, (u32, u32)> {
     if bytes.len() < 13 {
         return Err((8, 0));
     }
     let [count, found] = header(bytes).ok_or((9, 0))?;
-    if !(1..=2).contains(&kind) || found != i64::from(kind) {
+    if !(1..=4).contains(&kind) || found != i64::from(kind) {
         return Err((10, 0));
     }
     if count > 65_535 {
         return Err((4, 0));
     }
-    if bytes.len() as i64 != 13 + 27 * count {
+    if bytes.len() != 13 + line_length(kind) * count as usize {
         return Err((8, 0));
     }
-    let mut rows: Vec<[i32; 4]> = Vec::new();
-    for line in bytes[13..].chunks(27) {
+    let mut rows: Vec<Vec<i32>> = Vec::new();
+    for line in bytes[13..].chunks(line_length(kind)) {
         let number = rows.len() as u32 + 1;
-        let [pattern, score, a, b] = row(line).ok_or((9, number))?;
-        let shade = -12_800..=12_700;
-        if !(1..=999_999).contains(&pattern)
-            || !(0..=9_999).contains(&score)
-            || !shade.contains(&a)
-            || !shade.contains(&b)
-        {
+        let row = row(line).ok_or((9, number))?;
+        if !in_range(&row) {
             return Err((6, number));
         }
-        if rows.last().is_some_and(|before| score > i64::from(before[1])) {
+        if rows.last().is_some_and(|before| row[1] > i64::from(before[1])) {
             return Err((7, number));
         }
-        rows.push([pattern as i32, score as i32, a as i32, b as i32]);
+        rows.push(row.iter().map(|number| *number as i32).collect());
     }
     Ok(rows)
 }
@@ -66,11 +81,10 @@ pub fn rows(bytes: &[u8], kind: i32) -> Result<Vec<[i32; 4]>, (u32, u32)> {
 /// Reading into a lent slice.
 pub fn load(bytes: &[u8], kind: i32, out: &mut [i32]) -> Answer {
     let rows = rows(bytes, kind)?;
-    if out.len() < 4 * rows.len() {
+    let numbers = rows.concat();
+    if out.len() < numbers.len() {
         return Err((11, 0));
     }
-    for (place, number) in out.iter_mut().zip(rows.iter().flatten()) {
-        *place = *number;
-    }
+    out[..numbers.len()].copy_from_slice(&numbers);
     Ok(rows.len() as u32)
 }

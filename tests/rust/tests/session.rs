@@ -1,9 +1,11 @@
-//! The session beside the model of the rules and the plain double loop, over seeded tables and random calls.
-use furzeladle::{Asked, FieldWeight, Pair, Progress, Query, Refusal, Session, Table, Taken, TrimWeight, RECORD_SIZE};
-use furzeladle_tests::cases::{asked, scored, table, tie_by_weights, withdraw, Dice, Spread, WITHDRAWN};
+//! The session beside the model of the rules and the plain double loop: seeded tables on both cards, random calls.
+use furzeladle::{Asked, Card, FieldWeight, Pair, Progress, Query, Refusal, Session, Table, Taken, TrimWeight};
+use furzeladle::{Rows, RECORD_SIZE};
+use furzeladle_tests::cases::WITHDRAWN;
+use furzeladle_tests::cases::{asked, card, scored, scored_on, table, tie_by_weights, withdraw, Dice, Light, Spread};
 use furzeladle_tests::judge::{self, Fault, Tables};
 use furzeladle_tests::lent;
-use furzeladle_tests::model::{self, Record, Said};
+use furzeladle_tests::model::{self, Opening, Record, Said};
 use std::collections::HashMap;
 
 const CASES: u64 = 120_000;
@@ -51,9 +53,10 @@ fn show(f: &[i32], t: &[i32], session: &Session, record: &Record) {
     match session.show(f, t) {
         None => assert_eq!(wanted, [0; 3]),
         Some((which, first, rows)) => {
-            assert_eq!([which as u32, first, rows.len() as u32 / 4], wanted);
+            let wide = record.card as usize + 2;
+            assert_eq!([which as u32, first, (rows.len() / wide) as u32], wanted);
             let whole = if which == Table::Field { f } else { t };
-            assert_eq!(rows.as_ptr(), whole[4 * (first as usize - 1)..].as_ptr());
+            assert_eq!(rows.as_ptr(), whole[wide * (first as usize - 1)..].as_ptr());
         }
     }
 }
@@ -70,6 +73,8 @@ struct Totals {
     deeper_than_sure: u32,
     withdrawn_read: u32,
     ended_by_withdrawn: u32,
+    on_the_new_card: u64,
+    decided_by_lightness: u32,
 }
 
 impl Totals {
@@ -82,7 +87,8 @@ impl Totals {
 
     /// Pairs given, those of equal sum, those whose scores alone would not be equal, those of the largest sum.
     fn count_pairs(&mut self, tables: &Tables, given: &[Pair]) {
-        let scores = |p: &Pair| tables.field[4 * p.field as usize - 3] + tables.trim[4 * p.trim as usize - 3];
+        let score = |t: &[i32], i: u32| t[tables.wide() * (i as usize - 1) + 1];
+        let scores = |p: &Pair| score(tables.field, p.field) + score(tables.trim, p.trim);
         let tied = given.windows(2).filter(|w| w[0].sum == w[1].sum);
         self.pairs += given.len() as u32;
         self.ties += tied.clone().count() as u32;
@@ -93,11 +99,21 @@ impl Totals {
     /// Sessions that read a withdrawn row, and those that finished short of k because of one, rows being unread.
     fn count_withdrawn(&mut self, tables: &Tables, result: &judge::Session) {
         let (depths, (m, n)) = (result.depth, tables.counts());
-        let read = |t: &[i32], depth: u32| t.chunks(4).take(depth as usize).any(model::withdrawn);
+        let read = |t: &[i32], depth: u32| t.chunks(tables.wide()).take(depth as usize).any(model::withdrawn);
         let some_read = read(tables.field, depths.0) || read(tables.trim, depths.1);
         let short = result.finished && result.given.len() < tables.asked.query.k as usize;
         self.withdrawn_read += u32::from(some_read);
         self.ended_by_withdrawn += u32::from(some_read && short && depths != (m as u32, n as u32));
+    }
+
+    /// Sessions on the new card, and those with a pair of rows that L alone keeps apart.
+    fn count_card(&mut self, tables: &Tables) {
+        let radius = tables.asked.query.radius;
+        let apart = |x: &[i32], y: &[i32]| !model::near(radius, x, y) && model::near(radius, &x[..4], &y[..4]);
+        let (rows, others) = (tables.field.chunks(tables.wide()), tables.trim.chunks(tables.wide()));
+        let decided = rows.clone().any(|x| others.clone().any(|y| apart(x, y)));
+        self.on_the_new_card += u64::from(tables.asked.field_card == Card::New);
+        self.decided_by_lightness += u32::from(decided);
     }
 }
 
@@ -117,8 +133,8 @@ fn damaged_record(dice: &mut Dice, f: &[i32], t: &[i32], session: &Session, tota
     let mut numbers = *session.record();
     for _ in 0..dice.pick(&[1, 1, 2]) {
         let place = match dice.below(10) {
-            0 => dice.pick(&[204, 205]),
-            1..=3 => dice.below(206),
+            0 => dice.pick(&[204, 205, 206]),
+            1..=3 => dice.below(RECORD_SIZE as u32),
             _ => dice.below(24),
         } as usize;
         numbers[place] = other_number(dice, numbers[place]);
@@ -130,25 +146,33 @@ fn damaged_record(dice: &mut Dice, f: &[i32], t: &[i32], session: &Session, tota
     totals.count(said);
 }
 
+/// The same rows with L, or without it.
+fn on_the_other_card(t: &[i32], wide: usize) -> Vec<i32> {
+    let other = 9 - wide;
+    t.chunks(wide).flat_map(|row| row.iter().copied().chain([50]).take(other)).collect()
+}
+
 /// A call with a table that is not the session's, on a copy.
 fn damaged_table(dice: &mut Dice, f: &[i32], t: &[i32], session: &Session, totals: &mut Totals) {
     let mut tables = [f.to_vec(), t.to_vec()];
     let which = dice.below(2) as usize;
-    match dice.below(5) {
+    let wide = model::wide(session.card().unwrap());
+    match dice.below(6) {
         0 => tables.swap(0, 1),
-        2 if tables[which].len() >= 8 => {
-            let row = 1 + dice.below(tables[which].len() as u32 / 4 - 1) as usize;
-            tables[which][4 * row + 1] = tables[which][4 * row - 3] + 1;
+        2 if tables[which].len() >= 2 * wide => {
+            let row = 1 + dice.below((tables[which].len() / wide) as u32 - 1) as usize;
+            tables[which][wide * row + 1] = tables[which][wide * (row - 1) + 1] + 1;
         }
         1 => {
-            let new = tables[which].len() as i32 + dice.pick(&[-4, -1, 1, 4]);
+            let new = tables[which].len() as i32 + dice.pick(&[-5, -4, -1, 1, 4, 5]);
             tables[which].resize(new.max(0) as usize, 1);
         }
+        3 => tables = tables.map(|t| on_the_other_card(&t, wide)),
         _ => {
             if !tables[which].is_empty() {
                 let front = dice.pick(&[8, 24, 1_000_000]).min(tables[which].len() as u32);
                 let place = dice.below(front) as usize;
-                tables[which][place] = dice.pick(&[-1, 0, 1, 10_000, -12_801, 12_701, i32::MIN, i32::MAX]);
+                tables[which][place] = dice.pick(&[-1, 0, 1, 10_000, 10_001, -12_801, 12_701, i32::MIN, i32::MAX]);
             }
         }
     }
@@ -208,17 +232,18 @@ fn sessions_beside_the_double_loop() {
     for seed in 0..CASES {
         let mut dice = Dice::new(seed + 1);
         let longest = if dice.one_in(100) { 300 } else { dice.pick(&[2, 6, 12, 40]) };
-        let spread = Spread::of(&mut dice);
-        let other = if dice.one_in(2) { spread } else { Spread::of(&mut dice) };
+        let card = card(&mut dice);
+        let spread = Spread::of(&mut dice, card);
+        let other = if dice.one_in(2) { spread } else { Spread::of(&mut dice, card) };
         let (m, n) = (dice.below(longest), dice.below(longest));
         let mut field = table(&mut dice, m, spread);
         let mut trim = table(&mut dice, n, other);
-        let asked = asked(&mut dice);
+        let asked = asked(&mut dice, card);
         if dice.one_in(4) {
             tie_by_weights(asked, &mut field, &mut trim);
         }
-        withdraw(&mut dice, &mut field);
-        withdraw(&mut dice, &mut trim);
+        withdraw(&mut dice, card, &mut field);
+        withdraw(&mut dice, card, &mut trim);
         let tables = Tables { asked, field: &field, trim: &trim };
         let orders = [Order::TakeAfterEachRead, Order::ReadsThenTakes, Order::TakesWhilePossible, Order::Random];
         let result = play(&mut dice, &tables, orders[seed as usize % 4], &mut totals);
@@ -227,6 +252,7 @@ fn sessions_beside_the_double_loop() {
         assert_eq!(tables.judge(&result, limit), None, "seed {seed}");
         totals.count_pairs(&tables, &result.given);
         totals.count_withdrawn(&tables, &result);
+        totals.count_card(&tables);
         let deepest = result.depth.0.max(result.depth.1);
         totals.at_limit += u32::from(deepest == limit && tables.asked.query.block > 1);
         totals.deeper_than_sure += u32::from(deepest > sure as u32);
@@ -238,31 +264,29 @@ fn sessions_beside_the_double_loop() {
     assert!(totals.ties > 100_000 && totals.unharmed > 10_000 && totals.at_limit > 2_000);
     assert!(totals.ties_by_weights > 1_000 && totals.largest_sums > 1_000);
     assert!(totals.withdrawn_read > 20_000 && totals.ended_by_withdrawn > 10_000);
+    assert!((CASES * 2 / 5..CASES * 3 / 5).contains(&totals.on_the_new_card));
+    assert!(totals.decided_by_lightness > 5_000);
 }
 
 #[test]
 fn openings() {
-    let field = vec![1; 8];
+    let field = vec![1; 20];
     let mut refusals = HashMap::new();
-    for seed in 0..4_000 {
+    for seed in 0..8_000 {
         let mut dice = Dice::new(seed + 1);
-        let good = asked(&mut dice);
-        let Query { k, block, radius } = good.query;
-        let mut numbers = [k, block, radius, good.field_weight.0, good.trim_weight.0];
-        for _ in 0..dice.below(3) {
-            let place = dice.below(5) as usize;
-            numbers[place] = dice.pick(&[0, 1, 9, 10, 64, 65, 1_024, 1_025, 40_000, 40_001, u32::MAX]);
+        let mut query = some_asked(&mut dice);
+        if dice.one_in(4) {
+            query = query.cards(card(&mut dice), card(&mut dice));
         }
-        let query = Query { k: numbers[0], block: numbers[1], radius: numbers[2] };
-        let query = query.weights(FieldWeight(numbers[3]), TrimWeight(numbers[4]));
-        let lent = &field[..dice.below(9) as usize];
-        let (said, record) = model::open(query, lent, &field);
+        let (lent, other) = (&field[..some_length(&mut dice)], &field[..some_length(&mut dice)]);
+        let (said, record) = model::open(query, lent, other);
         let stood = [dice.below(1_000); RECORD_SIZE];
         let mut again = Session::from_record(stood);
-        assert_eq!(again.reopen(query, lent, &field).err(), Session::open(query, lent, &field).err());
-        match Session::open(query, lent, &field) {
+        assert_eq!(again.reopen(query, lent, other).err(), Session::open(query, lent, other).err());
+        match Session::open(query, lent, other) {
             Ok(session) => {
                 assert_eq!((said, session.record().to_vec()), (Said::Opened, record.flat()));
+                assert_eq!(session.card(), Some(query.trim_card));
                 assert_eq!(again, session);
             }
             Err(refusal) => {
@@ -272,27 +296,61 @@ fn openings() {
             }
         }
     }
-    let long = vec![0; 4 * 65_536];
     let query = Query { k: 1, block: 1, radius: 0 };
-    assert_eq!(Session::open(query, &long, &field), Err(Refusal { number: 4, row: 0 }));
-    assert!([1, 2, 3, 12, 4].iter().all(|number| refusals[number] > 20), "{refusals:?}");
+    let four = Err(Refusal { number: 4, row: 0 });
+    assert_eq!(Session::open(query, &vec![0; 4 * 65_536], &field), four);
+    assert_eq!(Session::open(query.on(Card::New), &vec![0; 5 * 65_536], &field), four);
+    assert!(Session::open(query.on(Card::New), &vec![0; 5 * 65_535], &field).is_ok());
+    assert!([1, 2, 3, 12, 4, 15].iter().all(|number| refusals[number] > 20), "{refusals:?}");
     let mut zeros = Session::from_record([0; RECORD_SIZE]);
     let five = Refusal { number: 5, row: 0 };
     assert_eq!(zeros.read(&field, &field), Err(five));
     assert_eq!(zeros.take(&field, &field), Err(five));
 }
 
+/// A query now and then out of range.
+fn some_asked(dice: &mut Dice) -> Asked {
+    let card = card(dice);
+    let mut numbers = Opening::from(asked(dice, card)).numbers();
+    for _ in 0..dice.below(3) {
+        let place = dice.below(5) as usize;
+        numbers[place] = dice.pick(&[0, 1, 9, 10, 64, 65, 1_024, 1_025, 40_000, 40_001, u32::MAX]);
+    }
+    let [k, block, radius, field, trim, ..] = numbers;
+    Query { k, block, radius }.weights(FieldWeight(field), TrimWeight(trim)).on(card)
+}
+
+/// How many numbers are lent: often whole rows on one card or both.
+fn some_length(dice: &mut Dice) -> usize {
+    let any = dice.below(21) as usize;
+    dice.pick(&[0, 4, 5, 8, 10, 15, 16, 20, 20, 20, any])
+}
+
+/// Where a row of the tiny tables lies: in a on the old card, in L on the new one.
+fn shade_at(card: Card) -> usize {
+    if card == Card::New {
+        4
+    } else {
+        2
+    }
+}
+
 /// Rows that may follow: every score down from the last one, in a few shades.
-fn next_rows(last: Option<i32>, top: i32, shades: &[i32]) -> Vec<[i32; 4]> {
+fn next_rows(card: Card, last: Option<i32>, top: i32, shades: &[i32]) -> Vec<Vec<i32>> {
     let mut scores: Vec<i32> = (0..=top).filter(|s| last.is_none_or(|l| *s <= l)).collect();
     if last.is_none() {
         scores.push(9_999);
     }
-    scores.iter().flat_map(|&s| shades.iter().map(move |&a| [1, s, a, 0])).collect()
+    let row = |score: i32, shade: i32| {
+        let mut row = vec![0; model::wide(card)];
+        (row[0], row[1], row[shade_at(card)]) = (1, score, shade);
+        row
+    };
+    scores.iter().flat_map(|&s| shades.iter().map(move |&x| row(s, x))).collect()
 }
 
 /// The table, and with one and two rows more.
-fn extensions(t: &[i32], ended: bool, top: i32, shades: &[i32], most: usize) -> Vec<Vec<i32>> {
+fn extensions(card: Card, t: &[i32], ended: bool, top: i32, shades: &[i32], most: usize) -> Vec<Vec<i32>> {
     let mut all = vec![t.to_vec()];
     if ended {
         return all;
@@ -301,8 +359,8 @@ fn extensions(t: &[i32], ended: bool, top: i32, shades: &[i32], most: usize) -> 
     for _ in 0..most {
         let mut longer = Vec::new();
         for end in &ends {
-            let last = end.len().checked_sub(3).map(|at| end[at]);
-            for row in next_rows(last, top, shades) {
+            let last = end.len().checked_sub(model::wide(card)).map(|at| end[at + 1]);
+            for row in next_rows(card, last, top, shades) {
                 longer.push([end.as_slice(), &row].concat());
             }
         }
@@ -312,23 +370,24 @@ fn extensions(t: &[i32], ended: bool, top: i32, shades: &[i32], most: usize) -> 
     all
 }
 
-/// Whether all legal tables that begin with these rows have the same list: by trying extensions, not by the closed form.
+/// Whether all legal tables that begin with these rows have the same list: by extensions, not by the closed form.
 fn sure_by_extensions(tables: &Tables, p: usize, q: usize, top: i32, shades: &[i32]) -> bool {
     let (m, n) = tables.counts();
     if m == 0 || n == 0 {
         return true;
     }
-    let (f, t) = (&tables.field[..4 * p], &tables.trim[..4 * q]);
+    let (wide, card) = (tables.wide(), tables.asked.field_card);
+    let (f, t) = (&tables.field[..wide * p], &tables.trim[..wide * q]);
     let list = |f: &[i32], t: &[i32]| {
         let longer = Tables { asked: tables.asked, field: f, trim: t };
-        let mut sums: Vec<u32> = longer.pairs(f.len() / 4, t.len() / 4).iter().map(|p| p.sum).collect();
+        let mut sums: Vec<u32> = longer.pairs(f.len() / wide, t.len() / wide).iter().map(|p| p.sum).collect();
         sums.truncate(tables.asked.query.k as usize);
         sums
     };
     let sums = list(f, t);
     [(2, 1), (1, 2)].iter().all(|&(more, less)| {
-        let fields = extensions(f, p == m, top, shades, more);
-        let trims = extensions(t, q == n, top, shades, less);
+        let fields = extensions(card, f, p == m, top, shades, more);
+        let trims = extensions(card, t, q == n, top, shades, less);
         fields.iter().all(|x| trims.iter().all(|y| list(x, y) == sums))
     })
 }
@@ -339,21 +398,22 @@ fn tiny_tables_against_every_sure_reading() {
     for seed in 0..TINY {
         let mut dice = Dice::new(seed + 1_000_001);
         let top = dice.between(1, 2);
-        let shades = [0, 7];
-        let spread = Spread { top, step: 1, plateau: dice.one_in(3), shades: 0, extreme: false };
+        let (shades, card) = ([0, 7], card(&mut dice));
+        let light = (card == Card::New).then_some(Light { ground: 0, alone: true });
+        let spread = Spread { top, step: 1, plateau: dice.one_in(3), shades: 0, extreme: false, light };
         let make = |dice: &mut Dice| {
             let rows = dice.below(5);
             let mut t = table(dice, rows, spread);
-            for row in t.chunks_mut(4) {
-                row[2] = dice.pick(&shades);
+            for row in t.chunks_mut(model::wide(card)) {
+                row[shade_at(card)] = dice.pick(&shades);
             }
-            withdraw(dice, &mut t);
+            withdraw(dice, card, &mut t);
             t
         };
         let (field, trim) = (make(&mut dice), make(&mut dice));
         let query = Query { k: dice.between(1, 3) as u32, block: dice.between(1, 3) as u32, radius: 5 };
         let [v, w] = [(); 2].map(|()| dice.pick(&[1, 1, 1, 2, 3, 9]));
-        let asked = query.weights(FieldWeight(v), TrimWeight(w));
+        let asked = query.weights(FieldWeight(v), TrimWeight(w)).on(card);
         let tables = Tables { asked, field: &field, trim: &trim };
         let (m, n) = tables.counts();
         let mut totals = Totals::default();
@@ -418,6 +478,10 @@ fn the_judge_reports_wrong_sessions() {
     let weighted = [pair(30, 1, 1), pair(29, 2, 1), pair(24, 1, 2)];
     assert_eq!(tables.judge(&session(&weighted, true, (2, 3)), 3), None);
     assert_eq!(tables.judge(&session(&right, true, (2, 3)), 3), Some(Fault::WrongSum));
+    let (light, dark) = ([1, 9, 0, 0, 6, 2, 8, 0, 0, 0], [1, 7, 0, 0, 0]);
+    let tables = Tables { asked: query.on(Card::New), field: &light, trim: &dark };
+    assert_eq!(tables.judge(&session(&[pair(15, 2, 1)], true, (2, 1)), 3), None);
+    assert_eq!(tables.judge(&session(&[pair(16, 1, 1)], true, (2, 1)), 3), Some(Fault::FarApart));
 }
 
 #[test]
@@ -506,7 +570,7 @@ fn records_with_weights_outside_their_range() {
     for _ in 0..5 {
         assert_eq!(s.read(&FIELD, &TRIM), Ok(Progress::Read));
     }
-    assert_eq!(s.record()[204..], [2, 3]);
+    assert_eq!(s.record()[204..], [2, 3, 2]);
     for place in [204, 205] {
         for (weight, wanted) in [(0, Some(5)), (1, None), (9, None), (10, Some(5)), (u32::MAX, Some(5))] {
             let mut record = *s.record();
@@ -534,7 +598,8 @@ fn held_sums_up_to_the_largest() {
     }
 }
 
-/// The first 204 numbers of a record are those from before there were weights: with 1 and 1 behind them it goes on.
+/// The first 204 numbers of a record are those from before there were weights: with 1, 1 and the old card behind them
+/// it goes on. The first 206 are those from before there were cards.
 #[test]
 fn a_record_without_weights_goes_on() {
     let mut s = Session::open(QUERY, &FIELD, &TRIM).unwrap();
@@ -544,17 +609,23 @@ fn a_record_without_weights_goes_on() {
     let mut stored = [0; RECORD_SIZE];
     stored[..204].copy_from_slice(&s.record()[..204]);
     assert_eq!(refusal(&stored), Some(5));
-    stored[204..].copy_from_slice(&[1, 1]);
+    stored[204..206].copy_from_slice(&[1, 1]);
+    assert_eq!(refusal(&stored), Some(5));
+    stored[206] = 2;
     assert_eq!(Session::from_record(stored), s);
 }
 
-/// A weight that is not lent is 1, and numbers behind the weights are not looked at.
+/// A weight that is not lent is 1, a kind that is not lent 1 or 2; numbers behind the kinds are not looked at.
 #[test]
 fn openings_by_fewer_numbers() {
     let opened = |numbers: &[u32]| lent::answers(numbers, &FIELD, &TRIM).opened;
     assert_eq!(opened(&[2, 1, 5]), opened(&[2, 1, 5, 1, 1]));
+    assert_eq!(opened(&[2, 1, 5]), opened(&[2, 1, 5, 1, 1, 1, 2]));
     assert_eq!(opened(&[2, 1, 5, 7]), opened(&[2, 1, 5, 7, 1]));
-    assert_eq!(opened(&[2, 1, 5, 7, 3, 0]), opened(&[2, 1, 5, 7, 3]));
+    assert_eq!(opened(&[2, 1, 5, 7, 3, 1]), opened(&[2, 1, 5, 7, 3]));
+    assert_eq!(opened(&[2, 1, 5, 7, 3, 1, 2, 0, 9]), opened(&[2, 1, 5, 7, 3]));
+    assert_eq!(opened(&[2, 1, 5, 7, 3, 3, 4, 0]), opened(&[2, 1, 5, 7, 3, 3, 4]));
+    assert_eq!(opened(&[2, 1, 5, 7, 3, 3]), (-15, [7; RECORD_SIZE]));
     assert_eq!(opened(&[2, 1, 5, 7, 3]).1.as_slice(), Session::open(weights(7, 3), &FIELD, &TRIM).unwrap().record());
     assert_eq!(opened(&[2, 1]), (-11, [7; RECORD_SIZE]));
     for numbers in [&[2, 1, 5, 0][..], &[2, 1, 5, 10], &[2, 1, 5, 1, 0], &[2, 1, 5, 1, 10]] {
@@ -569,10 +640,11 @@ fn over(k: u32, block: u32) -> Query {
 
 #[test]
 fn withdrawn_rows_by_hand() {
-    for (i, case) in WITHDRAWN.iter().enumerate() {
-        let (f, t) = (scored(case.field), scored(case.trim));
-        let (_, mut record) = model::open(case.query(), &f, &t);
-        let mut s = Session::open(case.query(), &f, &t).unwrap();
+    for (i, card) in (0..WITHDRAWN.len()).flat_map(|i| [(i, Card::Old), (i, Card::New)]) {
+        let case = &WITHDRAWN[i];
+        let (f, t) = (scored_on(card, case.field), scored_on(card, case.trim));
+        let (_, mut record) = model::open(case.query().on(card), &f, &t);
+        let mut s = Session::open(case.query().on(card), &f, &t).unwrap();
         while call(true, &f, &t, &mut s, &mut record) == Said::Read {}
         let mut sums = Vec::new();
         while let Said::Given(pair) = call(false, &f, &t, &mut s, &mut record) {
@@ -717,11 +789,11 @@ fn forged_records_over_withdrawn_rows() {
     let (mut given, mut finished_holding, mut read) = (0, 0, 0);
     for seed in 0..40_000 {
         let mut dice = Dice::new(seed + 4_000_001);
-        let spread = Spread { top: 9, step: 1, plateau: false, shades: 1, extreme: false };
+        let spread = Spread { top: 9, step: 1, plateau: false, shades: 1, extreme: false, light: None };
         let [f, t] = [(); 2].map(|()| {
             let rows = 1 + dice.below(8);
             let mut t = table(&mut dice, rows, spread);
-            withdraw(&mut dice, &mut t);
+            withdraw(&mut dice, Card::Old, &mut t);
             t
         });
         let query = Query { k: 1 + dice.below(4), block: 1 + dice.below(3), radius: 1 };
@@ -740,4 +812,180 @@ fn forged_records_over_withdrawn_rows() {
     }
     println!("forged: {given} given over an empty table, {finished_holding} finished holding pairs, {read} read on");
     assert!(given > 1_000 && finished_holding > 400 && read > 10_000);
+}
+
+/// A session of a query over two tables, to its end: its pairs.
+fn paired(asked: Asked, f: &[i32], t: &[i32]) -> Vec<Pair> {
+    let (_, mut record) = model::open(asked, f, t);
+    let mut s = Session::open(asked, f, t).unwrap();
+    while call(true, f, t, &mut s, &mut record) == Said::Read {}
+    let mut pairs = Vec::new();
+    while let Said::Given(pair) = call(false, f, t, &mut s, &mut record) {
+        pairs.push(pair);
+    }
+    pairs
+}
+
+/// Rows at one a and b: L from end to end of its range, and a distance that it makes alone.
+#[test]
+fn lightness_decides() {
+    let f = [1, 9, 3, 4, 0, 2, 8, 3, 4, 10_000];
+    let t = [1, 7, 3, 4, 10_000, 2, 5, 3, 4, 5];
+    let within = |radius| {
+        let pairs = paired(Query { k: 4, block: 1, radius }.on(Card::New), &f, &t);
+        pairs.iter().map(|pair| (pair.field, pair.trim)).collect::<Vec<_>>()
+    };
+    assert_eq!(within(0), [(2, 1)]);
+    assert_eq!(within(4), [(2, 1)]);
+    assert_eq!(within(5), [(2, 1), (1, 2)]);
+    assert_eq!(within(9_994), [(2, 1), (1, 2)]);
+    assert_eq!(within(9_995), [(2, 1), (1, 2), (2, 2)]);
+    assert_eq!(within(9_999), [(2, 1), (1, 2), (2, 2)]);
+    assert_eq!(within(10_000), [(1, 1), (2, 1), (1, 2), (2, 2)]);
+}
+
+/// 2, 3 and 6 make 7: each of the three coordinates counts.
+#[test]
+fn distance_over_three_coordinates() {
+    let f = [1, 9, 0, 0, 50];
+    for [a, b, l] in [[2, 3, 6], [3, -6, 2], [-6, 2, -3], [7, 0, 0], [0, -7, 0], [0, 0, 7], [0, 0, -7]] {
+        let t = [1, 7, a, b, 50 + l];
+        for (radius, pairs) in [(7, 1), (6, 0)] {
+            assert_eq!(paired(Query { k: 1, block: 1, radius }.on(Card::New), &f, &t).len(), pairs, "{a} {b} {l}");
+        }
+    }
+}
+
+/// L outside 0 to 10,000 is 6, before 7, in a read; a session refuses it of rows read before as well.
+#[test]
+fn lightness_outside_its_range() {
+    let (f, t) = ([1, 9, 0, 0, 0, 2, 8, 0, 0, 10_000], [1, 7, 0, 0, 5_000]);
+    let asked = over(2, 1).on(Card::New);
+    for (place, lightness, wanted) in [(4, -1, 6), (4, 10_001, 6), (9, -1, 6), (9, i32::MAX, 6), (4, i32::MIN, 6)] {
+        let mut bad = f;
+        bad[place] = lightness;
+        bad[6] = if place == 9 { 10 } else { 8 };
+        let mut s = Session::open(asked, &bad, &t).unwrap();
+        let refused = (0..9).find_map(|_| s.read(&bad, &t).err()).unwrap();
+        assert_eq!(refused.number, wanted, "{lightness}");
+        let mut s = Session::open(asked, &f, &t).unwrap();
+        while s.read(&f, &t).unwrap() == Progress::Read {}
+        assert_eq!(s.take(&bad, &t).err().map(|refusal| refusal.number), Some(6), "{lightness}");
+    }
+}
+
+/// Twenty numbers are five rows on the old card and four on the new one: what is opened says which.
+#[test]
+fn twenty_numbers() {
+    let numbers: Vec<i32> = [1, 5, 0, 0].into_iter().cycle().take(20).collect();
+    let opened = |card| Session::open(over(1, 1).on(card), &numbers, &numbers).unwrap();
+    let (mut old, mut new) = (opened(Card::Old), opened(Card::New));
+    assert_eq!((old.card(), &old.record()[3..5]), (Some(Card::Old), &[5, 5][..]));
+    assert_eq!((new.card(), &new.record()[3..5]), (Some(Card::New), &[4, 4][..]));
+    assert_eq!(old.read(&numbers, &numbers), Ok(Progress::Read));
+    assert_eq!(old.show(&numbers, &numbers), Some((Table::Field, 1, &numbers[..4])));
+    assert_eq!(new.read(&numbers, &numbers), Ok(Progress::Read));
+    assert_eq!(new.show(&numbers, &numbers), Some((Table::Field, 1, &numbers[..5])));
+    // the other card in the record: the row counts no longer are those of opening
+    for (session, other) in [(&old, 3), (&new, 2)] {
+        let mut record = *session.record();
+        record[206] = other;
+        let mut turned = Session::from_record(record);
+        assert_eq!(turned.read(&numbers, &numbers), Err(Refusal { number: 4, row: 0 }));
+        assert_eq!(turned.show(&numbers, &numbers), None);
+    }
+}
+
+/// 15 of two cards comes after 4, also where a table is empty, and each table is counted on its own card.
+#[test]
+fn tables_on_different_cards() {
+    let numbers = [1; 40];
+    let refusal = |field: Card, trim: Card, m: usize, n: usize| {
+        let asked = over(1, 1).weights(FieldWeight(1), TrimWeight(1)).cards(field, trim);
+        Session::open(asked, &numbers[..m], &numbers[..n]).err().map(|refusal| refusal.number)
+    };
+    for (m, n, wanted) in
+        [(0, 0, 15), (0, 5, 15), (4, 0, 15), (20, 20, 15), (4, 5, 15), (5, 5, 4), (4, 4, 4), (5, 4, 4)]
+    {
+        assert_eq!(refusal(Card::Old, Card::New, m, n), Some(wanted), "{m}, {n}");
+        assert_eq!(refusal(Card::New, Card::Old, n, m), Some(wanted), "{n}, {m}");
+    }
+    assert_eq!(refusal(Card::New, Card::New, 0, 5), None);
+    assert_eq!(refusal(Card::New, Card::New, 4, 5), Some(4));
+    assert_eq!(refusal(Card::Old, Card::Old, 20, 5), Some(4));
+    let said = Refusal { number: 15, row: 0 };
+    assert_eq!((said.word(), said.meaning()), ("cards", "the two tables are on different cards"));
+}
+
+/// Kinds out of their place are 10, after 12 and before 4; all of it as the model has it.
+#[test]
+fn kinds_out_of_their_place() {
+    let numbers = [1; 20];
+    let kinds = [0, 1, 2, 3, 4, 5, 6, 257, u32::MAX];
+    let (mut tens, mut opened) = (0, 0);
+    for (field, trim) in kinds.iter().flat_map(|&field| kinds.map(|trim| (field, trim))) {
+        for (weight, m, n) in [(1, 20, 20), (1, 19, 20), (1, 20, 19), (1, 4, 5), (1, 0, 0), (10, 20, 20)] {
+            let query = [1, 1, 0, weight, 1, field, trim];
+            let (f, t) = (&numbers[..m], &numbers[..n]);
+            let (answer, left) = lent::answers(&query, f, t).opened;
+            let (said, record) = model::open(Opening::of(&query), f, t);
+            let wanted = match said {
+                Said::Refused(number) => (-(number as i32), vec![7; RECORD_SIZE]),
+                _ => (0, record.flat()),
+            };
+            assert_eq!((answer, left.to_vec()), wanted, "{query:?}, {m}, {n}");
+            tens += u32::from(answer == -10);
+            opened += u32::from(answer == 0);
+        }
+    }
+    assert_eq!((tens, opened), (5 * (81 - 4), 2 * 2));
+    // a field kind alone: the trim table stays on the old card
+    for (field, wanted) in [(0, -10), (1, 0), (2, -10), (3, -15), (4, -10)] {
+        assert_eq!(lent::answers(&[1, 1, 0, 1, 1, field], &numbers, &numbers).opened.0, wanted);
+    }
+}
+
+/// A record's card is 2 or 3: another is 5, by read, take and show.
+#[test]
+fn records_on_other_cards() {
+    let f = [1, 9, 0, 0, 0, 2, 8, 0, 0, 9, 3, 8, 0, 0, 9, 4, 8, 0, 0, 9];
+    let mut s = Session::open(over(2, 1).on(Card::New), &f, &f).unwrap();
+    assert_eq!(s.read(&f, &f), Ok(Progress::Read));
+    assert_eq!(s.record()[206], 3);
+    for card in [0, 1, 4, 5, 257, 258, u32::MAX, 1 << 31 | 3] {
+        let mut record = *s.record();
+        record[206] = card;
+        let mut bad = Session::from_record(record);
+        let five = Refusal { number: 5, row: 0 };
+        assert_eq!((bad.read(&f, &f), bad.take(&f, &f)), (Err(five), Err(five)), "card {card}");
+        assert_eq!((bad.show(&f, &f), bad.card()), (None, None), "card {card}");
+        assert_eq!(bad.record(), &record);
+    }
+}
+
+/// Tables that know their card, from file to list.
+#[test]
+fn rows_that_know_their_card() {
+    let file = |kind: u32| furzeladle_tests::file(kind, &[[1, 9, 0, 0, 0], [2, 8, 0, 0, 10_000]]);
+    let old = |kind: u32| furzeladle_tests::file(kind, &[[1, 9, 0, 0], [2, 8, 0, 0]]);
+    let field = Rows::read(&file(3), Table::Field, Card::New).unwrap();
+    let trim = Rows::read(&file(4), Table::Trim, Card::New).unwrap();
+    let plain = Rows::read(&old(2), Table::Trim, Card::Old).unwrap();
+    assert_eq!((field.card(), field.count(), field.numbers().len()), (Card::New, 2, 10));
+    assert_eq!((plain.card(), plain.count(), plain.numbers().len()), (Card::Old, 2, 8));
+    let pairs = over(4, 1).over(&field, &trim).list().unwrap().pairs;
+    assert_eq!(pairs.iter().map(|listed| listed.pair.sum).collect::<Vec<_>>(), [18, 16]);
+    let fifteen = Refusal { number: 15, row: 0 };
+    assert_eq!(over(4, 1).over(&field, &plain).list(), Err(fifteen));
+    assert_eq!(over(4, 1).over(&field, &plain).listing(), Err(fifteen));
+    assert_eq!(over(4, 1).over(&field, &plain).open(), Err(fifteen));
+    let session = over(4, 1).over(&field, &trim).open().unwrap();
+    assert_eq!(session, Session::open(over(4, 1).on(Card::New), field.numbers(), trim.numbers()).unwrap());
+    let refused = |bytes: &[u8], table, card| Rows::read(bytes, table, card).unwrap_err();
+    assert_eq!(refused(&file(3), Table::Trim, Card::New).number, 10);
+    assert_eq!(refused(&file(3), Table::Field, Card::Old).number, 10);
+    assert_eq!(refused(&old(3), Table::Field, Card::New).number, 8);
+    assert_eq!(refused(b"", Table::Field, Card::New).number, 8);
+    let falling = furzeladle_tests::file(3, &[[1, 8, 0, 0, 0], [2, 9, 0, 0, 0]]);
+    assert_eq!(refused(&falling, Table::Field, Card::New), Refusal { number: 7, row: 2 });
 }

@@ -5,56 +5,63 @@ use Prim.Native.Nat.{ℕ, _-_, _≤_, _<_}
 use native.Mathlib.Omega.{arith}
 use borrow.Author.Needs.{needs}
 use borrow.Author.Tests.{not-true, not-false}
-use Rattle.rules.specs.Tables.{row, withdrawn, rowCount}
+use Rattle.rules.specs.Tables.{table, row, withdrawn, rowCount}
+use Rattle.rules.specs.Widths.{has-row}
 use Rattle.block.specs.Live.{above-live}
 use Rattle.block.proofs.live_rows.Statement.{statement}
 use Rattle.block.proofs.live_rows.Tie as tie
 
 abbrev Inv-loop : tie.InvT-loop
-Inv-loop x n₀ n =
-    (n ≤ rowCount x) × ((i : ℕ) → n ≤ i → i < rowCount x → withdrawn (row x i) ≡ true)
+Inv-loop n x m₀ m =
+    (m ≤ rowCount (table n x))
+    × ((i : ℕ) → m ≤ i → i < rowCount (table n x) → withdrawn (row (table n x) i) ≡ true)
 
 abbrev μ-loop : tie.MeasureT-loop
-μ-loop x n₀ n = n
+μ-loop n x m₀ m = m
 
 row-count-requires : tie.Need-row-count-requires Inv-loop μ-loop
 row-count-requires c κs = search needs
 
 loop-holds : tie.Need-loop-holds Inv-loop μ-loop
 loop-holds c =
-    let n = c .row-count .ensures in
-    (omega (arith, n), λ i h k. absurd (omega (arith, h, k, n)))
+    let m = c .row-count .ensures in
+    (omega (arith, m), λ i h k. absurd (omega (arith, h, k, m)))
 
 sub-is-withdrawn : tie.Need-sub-is-withdrawn Inv-loop μ-loop
 sub-is-withdrawn c = omega arith
 
 is-withdrawn-requires : tie.Need-is-withdrawn-requires Inv-loop μ-loop
-is-withdrawn-requires c κs = omega arith
+is-withdrawn-requires c κs =
+    let s = c .before .before .before .args in
+    has-row (table (s .n) (s .x .now)) _ (omega arith)
 
 returns : tie.Need-returns Inv-loop μ-loop
 returns c =
-    let s = c .before .before .before .before .before in
-    let v = c .before .before .before .loop in
-    let some = c .before .before .loop-test .taken in
+    let at = c .before .before in
+    let s = at .before .before .before in
+    let v = at .before .loop in
+    let some = at .loop-test .taken in
+    let x = table (s .args .n) (s .args .x .now) in
     let last = sym (c .before .is-withdrawn .ensures) ∙ not-true _ (c .if1 .taken) in
     record {
       upto = v .inv .0;
-      live = λ i h. above-live (s .args .x .now) (s .pre) i (v .n - 1) (omega (arith, h)) (omega (arith, some)) last;
+      live = λ i h. above-live x (s .pre) i (v .m - 1) (omega (arith, h)) (omega (arith, some)) last;
       beyond = v .inv .1;
     }
 
-sub-n : tie.Need-sub-n Inv-loop μ-loop
-sub-n c = omega arith
+sub-m : tie.Need-sub-m Inv-loop μ-loop
+sub-m c = omega arith
 
 loop-less : tie.Need-loop-less Inv-loop μ-loop
 loop-less c = omega arith
 
 loop-again : tie.Need-loop-again Inv-loop μ-loop
 loop-again c =
-    let s = c .before .before .before .before .before in
-    let v = c .before .before .before .loop in
+    let at = c .before .before in
+    let s = at .before .before .before in
+    let v = at .before .loop in
     let last = sym (c .before .is-withdrawn .ensures) ∙ not-false _ (c .if1 .left) in
-    (omega arith, λ i h k. s .pre (v .n - 1) i h k last)
+    (omega arith, λ i h k. s .pre (v .m - 1) i h k last)
 
 returns-2 : tie.Need-returns-2 Inv-loop μ-loop
 returns-2 c =
@@ -73,7 +80,7 @@ live-rows-spec =
     sub-is-withdrawn
     is-withdrawn-requires
     returns
-    sub-n
+    sub-m
     loop-less
     loop-again
     returns-2)

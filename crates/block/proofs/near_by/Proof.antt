@@ -1,43 +1,46 @@
--- `near_by` meets its contract: of rows that are not withdrawn both tests are the rule's. Assumes nothing.
-use mathlib.Core.Path.{_≡_, sym, ap₂, _∙_}
-use native.Mathlib.Omega.{arith}
+-- `near_by` meets its contract, whichever code is chosen. Assumes nothing.
+use mathlib.Core.Path.{_≡_, subst}
+use mathlib.Core.Bool.{false}
+use Prim.Native.Nat.{ℕ}
+use Rattle.rules.specs.Tables.{table, HasRow, row, withdrawn}
+use Rattle.block.specs.Small.{SmallPairs}
 use borrow.Author.Needs.{needs}
-use Rattle.rules.specs.Tables.{row, qualifies, terms}
-use Rattle.session_laws.specs.ReadOut.{rows-qualify-in}
 use Rattle.block.proofs.near_by.Statement.{statement}
 use Rattle.block.proofs.near_by.Tie as tie
 
-shade-requires : tie.Need-shade-requires
-shade-requires c κs = search needs
+-- what the code for n asks
+abbrev Asks : tie.Start → ℕ → Type 0
+Asks s n =
+    let x = table n (s .args .x .now) in
+    let y = table n (s .args .y .now) in
+    (HasRow x (s .args .i) × HasRow y (s .args .j)) × (((withdrawn (row x (s .args .i)) ≡ false)
+    × (withdrawn (row y (s .args .j)) ≡ false)) × SmallPairs (s .args .q .radius) x y)
 
-shade-requires-2 : tie.Need-shade-requires-2
-shade-requires-2 c κs = search needs
-
--- the distance of the two shades is all that the rule asks
-asks : (c : tie.After-shade2)
-    → let a = c .before .before .args in
-    qualifies (a .q .radius) (c .before .shade .result) (c .shade2 .result)
-    ≡ terms (a .q) .near (row (a .x .now) (a .i)) (row (a .y .now) (a .j))
-asks c =
-    let s = c .before .before in
-    let a = s .args in
-    let live = s .pre .1 .0 in
-    ap₂ (qualifies (a .q .radius)) (c .before .shade .ensures) (c .shade2 .ensures)
-    ∙ sym (rows-qualify-in (a .q .radius) (row (a .x .now) (a .i)) (row (a .y .now) (a .j)) (live .0) (live .1))
-
-near-small-requires : tie.Need-near-small-requires
-near-small-requires c κs =
-    let s = c .before .before in
-    let k = s .pre .1 .1 in (
-      rw (c .before .shade .ensures) (k .first (s .args .i) (omega arith)),
-      rw (c .shade2 .ensures) (k .second (s .args .j) (omega arith)),
-      k .within,
-    )
+near-by-at-requires : tie.Need-near-by-at-requires
+near-by-at-requires c κs = let s = c .before in subst (Asks s) (c .if1 .taken) (s .pre)
 
 returns : tie.Need-returns
-returns c = c .near-small .ensures ∙ asks (c .before)
+returns c = rw (c .before .if1 .taken) (c .near-by-at .ensures)
+
+near-by-at-requires-2 : tie.Need-near-by-at-requires-2
+near-by-at-requires-2 c κs = let s = c .before .before in subst (Asks s) (c .if2 .taken) (s .pre)
+
+returns-2 : tie.Need-returns-2
+returns-2 c = rw (c .before .if2 .taken) (c .near-by-at2 .ensures)
+
+near-by-at-requires-3 : tie.Need-near-by-at-requires-3
+near-by-at-requires-3 c κs = search needs
+
+returns-3 : tie.Need-returns-3
+returns-3 c = search needs
 
 pub near-by-spec : {M : Type 1} → statement M
 near-by-spec =
     tie.close
-    (tie.spec shade-requires shade-requires-2 near-small-requires returns)
+    (tie.spec
+    near-by-at-requires
+    returns
+    near-by-at-requires-2
+    returns-2
+    near-by-at-requires-3
+    returns-3)

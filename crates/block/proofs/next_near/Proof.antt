@@ -1,18 +1,23 @@
 -- `next_near` meets its contract: no row that was passed lies near. Assumes nothing.
-use mathlib.Core.Path.{_≡_, sym, _∙_}
+use mathlib.Core.Path.{_≡_}
 use Prim.Native.Nat.{_+_, _-_, _≤_}
 use native.Mathlib.Omega.{arith}
-use Rattle.rules.specs.Tables.{terms}
+use Rattle.rules.specs.Tables.{table, terms}
+use Rattle.rules.specs.Widths.{has-row}
 use Rattle.block.specs.Near.{NoneNear, none-more, none-on}
 use Rattle.block.proofs.next_near.Statement.{statement}
 use Rattle.block.proofs.next_near.Tie as tie
 
 abbrev Inv-loop : tie.InvT-loop
-Inv-loop q x i y n j k₀ k =
-    (j ≤ k) × (k ≤ n) × NoneNear (terms q) x i y j k
+Inv-loop n q x i y m j k₀ k =
+    (j ≤ k) × (k ≤ m) × NoneNear (terms q) (table n x) i (table n y) j k
 
 abbrev μ-loop : tie.MeasureT-loop
-μ-loop q x i y n j k₀ k = n - k
+μ-loop n q x i y m j k₀ k = m - k
+
+-- where the turn began, from the test of its one row
+abbrev turn : tie.After-near-by Inv-loop μ-loop → tie.In-loop Inv-loop μ-loop
+turn c = c .before .before .before
 
 loop-holds : tie.Need-loop-holds Inv-loop μ-loop
 loop-holds c = (omega arith, omega (arith, c .pre .0 .3), λ b h k. absurd (omega (arith, h, k)))
@@ -32,10 +37,12 @@ loop-again : tie.Need-loop-again Inv-loop μ-loop
 loop-again c =
     let v = c .before .before .before .loop in
     let s = c .before .before .before .before .args in
+    let x = table (s .n) (s .x .now) in
+    let y = table (s .n) (s .y .now) in
     let far = c .before .eight-far .ensures (c .if1 .taken) in (
       omega (arith, v .inv .0),
       far .0,
-      none-on (terms (s .q)) (s .x .now) (s .i) (s .y .now) (s .j) (v .k) (v .inv .2) (v .k + 8) (far .1),
+      none-on (terms (s .q)) x (s .i) y (s .j) (v .k) (v .inv .2) (v .k + 8) (far .1),
     )
 
 near-by-requires : tie.Need-near-by-requires Inv-loop μ-loop
@@ -43,17 +50,18 @@ near-by-requires c κs =
     let s = c .before .before .before .before in
     let turn = c .before .before .loop-test .taken in
     let l = s .pre .0 .2 in
-    (omega (arith, s .pre .0 .0, turn, l .upto), ((s .pre .0 .1, l .live _ turn), s .pre .1))
+    let y = table (s .args .n) (s .args .y .now) in
+    ((s .pre .0 .0, has-row y _ (omega (arith, turn, l .upto))), ((s .pre .0 .1, l .live _ turn), s .pre .1))
 
 returns : tie.Need-returns Inv-loop μ-loop
 returns c =
-    let v = c .before .before .before .before .before .loop in
-    let turn = c .before .before .before .before .loop-test .taken in
+    let at = turn (c .before) in
+    let v = at .before .loop in
     record {
       from = v .inv .0;
-      upto = omega (arith, turn);
+      upto = omega (arith, at .loop-test .taken);
       none-before = v .inv .2;
-      found = λ _. sym (c .before .near-by .ensures) ∙ c .if2 .taken;
+      found = λ _. rw (← c .before .near-by .ensures) (c .if2 .taken);
     }
 
 add-k-2 : tie.Need-add-k-2 Inv-loop μ-loop
@@ -64,19 +72,22 @@ loop-less-2 c = omega arith
 
 loop-again-2 : tie.Need-loop-again-2 Inv-loop μ-loop
 loop-again-2 c =
-    let v = c .before .before .before .before .before .loop in
-    let s = c .before .before .before .before .before .before .args in
-    let here = sym (c .before .near-by .ensures) ∙ c .if2 .left in (
+    let at = turn (c .before) in
+    let v = at .before .loop in
+    let s = at .before .before .args in
+    let x = table (s .n) (s .x .now) in
+    let y = table (s .n) (s .y .now) in (
       omega (arith, v .inv .0),
-      omega (arith, c .before .before .before .before .loop-test .taken),
-      none-more (terms (s .q)) (s .x .now) (s .i) (s .y .now) (s .j) (v .k) (v .inv .2) here,
+      omega (arith, at .loop-test .taken),
+      none-more (terms (s .q)) x (s .i) y (s .j) (v .k) (v .inv .2)
+          (rw (← c .before .near-by .ensures) (c .if2 .left)),
     )
 
 returns-2 : tie.Need-returns-2 Inv-loop μ-loop
 returns-2 c =
     let v = c .before .loop in
     let s = c .before .before .args in
-    let e : v .k ≡ s .n = omega (arith, v .inv .1, c .loop-test .left) in
+    let e : v .k ≡ s .m = omega (arith, v .inv .1, c .loop-test .left) in
     record {
       from = omega (arith, v .inv .0);
       upto = omega arith;

@@ -2,7 +2,7 @@
 use native.Mathlib.Omega.{arith}
 use mathlib.Core.Path.{refl}
 use Prim.Native.Nat.{_+_, _≤_}
-use Rattle.rules.specs.Tables.{pairAt, pairSum}
+use Rattle.rules.specs.Tables.{table, pairAt, pairSum}
 use Rattle.rules.specs.Calls.{mostSum}
 use Rattle.session_laws.specs.Tables.{weighted-most}
 use borrow.Author.Needs.{needs}
@@ -15,8 +15,10 @@ low c =
     let s = c .before .before in
     let a = s .args in
     let fits = s .pre .0 in
-    let first = weighted-most (a .x .now) (a .i) (fits .1) (a .q .weights .field .0) (fits .0 .field-weight .1) in
-    let second = weighted-most (a .y .now) (a .j) (fits .2) (a .q .weights .trim .0) (fits .0 .trim-weight .1) in
+    let x = table (a .n) (a .x .now) in
+    let y = table (a .n) (a .y .now) in
+    let first = weighted-most x (a .i) (fits .1) (a .q .weights .field .0) (fits .0 .field-weight .1) in
+    let second = weighted-most y (a .j) (fits .2) (a .q .weights .trim .0) (fits .0 .trim-weight .1) in
     omega (arith, c .before .weighted .ensures .0, c .weighted2 .ensures .0)
 
 weighted-requires : tie.Need-weighted-requires
@@ -25,29 +27,29 @@ weighted-requires c κs = search needs
 weighted-requires-2 : tie.Need-weighted-requires-2
 weighted-requires-2 c κs = search needs
 
-add-t10 : tie.Need-add-t10
-add-t10 c = search needs
+add-t11 : tie.Need-add-t11
+add-t11 c = search needs
 
-cast-t11 : tie.Need-cast-t11
-cast-t11 c = record { fits = omega (arith, low c) }
-
-add-t12 : tie.Need-add-t12
-add-t12 c = search needs
+cast-t12 : tie.Need-cast-t12
+cast-t12 c = record { fits = omega (arith, low c) }
 
 add-t13 : tie.Need-add-t13
 add-t13 c = search needs
 
-cast-t14 : tie.Need-cast-t14
-cast-t14 c = search needs
+add-t14 : tie.Need-add-t14
+add-t14 c = search needs
 
-add-t15 : tie.Need-add-t15
-add-t15 c = search needs
+cast-t15 : tie.Need-cast-t15
+cast-t15 c = search needs
 
 add-t16 : tie.Need-add-t16
 add-t16 c = search needs
 
-cast-t17 : tie.Need-cast-t17
-cast-t17 c = search needs
+add-t17 : tie.Need-add-t17
+add-t17 c = search needs
+
+cast-t18 : tie.Need-cast-t18
+cast-t18 c = search needs
 
 returns : tie.Need-returns
 unfolding pairAt pairSum
@@ -62,12 +64,12 @@ pair-at-spec =
     (tie.spec
     weighted-requires
     weighted-requires-2
-    add-t10
-    cast-t11
-    add-t12
+    add-t11
+    cast-t12
     add-t13
-    cast-t14
-    add-t15
+    add-t14
+    cast-t15
     add-t16
-    cast-t17
+    add-t17
+    cast-t18
     returns)

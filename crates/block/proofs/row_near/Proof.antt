@@ -4,16 +4,18 @@ use Prim.Native.Nat.{_-_, _≤_}
 use native.Mathlib.Numerals.{add-one}
 use native.Mathlib.Omega.{arith}
 use borrow.Author.Needs.{needs}
-use Rattle.rules.specs.Tables.{rowCount}
+use Rattle.rules.specs.Tables.{table, rowCount}
+use Rattle.rules.specs.Widths.{has-row, count-most}
 use Rattle.block.specs.Near.{placed, rowNear}
 use Rattle.block.proofs.row_near.Statement.{statement}
 use Rattle.block.proofs.row_near.Tie as tie
 
 abbrev Inv-loop : tie.InvT-loop
-Inv-loop q x i y n seen₀ j₀ seen j = (j ≤ n) × (n ≡ rowCount y) × (seen ≡ rowNear (placed q) x y i j)
+Inv-loop n q x i y m seen₀ j₀ seen j =
+    (j ≤ m) × (m ≡ rowCount (table n y)) × (seen ≡ rowNear (placed q) (table n x) (table n y) i j)
 
 abbrev μ-loop : tie.MeasureT-loop
-μ-loop q x i y n seen₀ j₀ seen j = n - j
+μ-loop n q x i y m seen₀ j₀ seen j = m - j
 
 row-count-requires : tie.Need-row-count-requires Inv-loop μ-loop
 row-count-requires c κs = search needs
@@ -23,10 +25,14 @@ unfolding rowNear
 loop-holds c = (search needs, c .row-count .ensures, refl)
 
 near-requires : tie.Need-near-requires Inv-loop μ-loop
-near-requires c κs = omega arith
+near-requires c κs =
+    let s = c .before .before .before in
+    (s .pre, has-row (table (s .args .n) (s .args .y .now)) (c .before .loop .j) (omega arith))
 
 add-j : tie.Need-add-j Inv-loop μ-loop
-add-j c = omega arith
+add-j c =
+    let s = c .before .before .before .before .args in
+    omega (arith, count-most (table (s .n) (s .y .now)))
 
 loop-less : tie.Need-loop-less Inv-loop μ-loop
 loop-less c = omega arith
@@ -37,10 +43,12 @@ loop-again c = (search needs, c .before .before .before .row-count .ensures, rw 
 
 returns : tie.Need-returns Inv-loop μ-loop
 returns c =
-    let s = c .before .before .before in
+    let s = c .before .before .before .args in
     let v = c .before .loop in
-    let e : v .j ≡ rowCount (s .args .y .now) = omega arith in
-    v .inv .2 ∙ ap (rowNear (placed (s .args .q)) (s .args .x .now) (s .args .y .now) (s .args .i)) e
+    let x = table (s .n) (s .x .now) in
+    let y = table (s .n) (s .y .now) in
+    let e : v .j ≡ rowCount y = omega arith in
+    v .inv .2 ∙ ap (rowNear (placed (s .q)) x y (s .i)) e
 
 pub row-near-spec : {M : Type 1} → statement M
 row-near-spec =

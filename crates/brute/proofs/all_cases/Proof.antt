@@ -1,4 +1,4 @@
--- `all_cases` is safe and ends: 4,000 seeds. Assumes nothing.
+-- `all_cases` is safe and ends: 8,000 seeds. Assumes nothing.
 use Prim.Native.Nat.{_≤_, _-_}
 use borrow.Author.Needs.{needs}
 use Rattle.brute.proofs.all_cases.Statement.{statement}
@@ -8,8 +8,8 @@ pub all-cases-spec : {M : Type 1} → statement M
 all-cases-spec =
     tie.close
     (tie.spec
-    (λ tally₀ seed₀ tally seed. seed ≤ 4000)
-    (λ tally₀ seed₀ tally seed. 4000 - seed)
+    (λ tally₀ seed₀ tally seed. seed ≤ 8000)
+    (λ tally₀ seed₀ tally seed. 8000 - seed)
     (search needs)
     (search needs)
     (search needs)

@@ -1,6 +1,8 @@
 -- `is_empty` meets its contract. Assumes nothing.
 use mathlib.Core.Path.{refl}
 use borrow.Author.Tests.{eq-eqb, ne-eqb, lt-ltb, le-ltb}
+use Rattle.rules.specs.Tables.{table}
+use Rattle.rules.specs.Widths.{rows-row}
 use Rattle.rules.specs.Session.{isEmpty}
 use borrow.Author.Needs.{needs}
 use Rattle.ceiling.proofs.is_empty.Statement.{statement}
@@ -11,7 +13,9 @@ unfolding isEmpty
 returns c = simp (eq-eqb _ _ (c .if1 .taken)) refl
 
 is-withdrawn-requires : tie.Need-is-withdrawn-requires
-is-withdrawn-requires c κs = search needs
+is-withdrawn-requires c κs =
+    let s = c .before .before in
+    rows-row (table (s .args .n) (s .args .t .now)) 0 (s .args .depth) (c .if2 .taken) (s .pre)
 
 returns-2 : tie.Need-returns-2
 unfolding isEmpty

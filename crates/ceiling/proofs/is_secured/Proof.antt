@@ -1,7 +1,8 @@
 -- `is_secured` meets its contract. Assumes nothing.
 use mathlib.Core.Path.{_≡_, refl}
 use mathlib.Core.Bool.{true, false}
-use Rattle.rules.specs.Session.{bothReadOut}
+use Rattle.rules.specs.Session.{lentTable, bothReadOut}
+use Rattle.ceiling.specs.Bare.{bare}
 use Rattle.ceiling.specs.Last.{read-secured}
 use borrow.Author.Needs.{needs}
 use Rattle.ceiling.proofs.is_secured.Statement.{statement}
@@ -17,9 +18,11 @@ returns : tie.Need-returns
 returns c =
     let s = c .before .before .before in
     let a = s .args in
-    let out : bothReadOut (a .f .now) (a .t .now) (a .s) ≡ true =
+    let b = bare (a .n) (a .rows) (a .depth) (a .weights) in
+    let out : bothReadOut (lentTable b (a .f .now)) (lentTable b (a .t .now)) b ≡ true =
     simp (c .before .before .read-out .ensures, c .before .read-out2 .ensures) at (c .if1 .taken) in
-    rw (read-secured (a .f .now) (a .t .now) (a .s) (a .p) (s .pre)) (simp out refl)
+    rw (read-secured (lentTable b (a .f .now)) (lentTable b (a .t .now)) b (a .p) (s .pre))
+    (simp out refl)
 
 threshold-requires : tie.Need-threshold-requires
 threshold-requires c κs = search needs
@@ -31,10 +34,12 @@ returns-2 : tie.Need-returns-2
 returns-2 c =
     let s = c .before .before .before .before .before in
     let a = s .args in
-    let out : bothReadOut (a .f .now) (a .t .now) (a .s) ≡ false =
+    let b = bare (a .n) (a .rows) (a .depth) (a .weights) in
+    let out : bothReadOut (lentTable b (a .f .now)) (lentTable b (a .t .now)) b ≡ false =
     simp (c .before .before .before .before .read-out .ensures, c .before .before .before .read-out2 .ensures) at
     (c .before .before .if1 .left) in
-    rw (read-secured (a .f .now) (a .t .now) (a .s) (a .p) (s .pre)) (simp (out, c .before .threshold .ensures) refl)
+    rw (read-secured (lentTable b (a .f .now)) (lentTable b (a .t .now)) b (a .p) (s .pre))
+    (simp (out, c .before .threshold .ensures) refl)
 
 pub is-secured-spec : {M : Type 1} → statement M
 is-secured-spec =

@@ -2,6 +2,8 @@
 use mathlib.Core.Path.{refl, _∙_}
 use native.Mathlib.Omega.{arith}
 use borrow.Author.Tests.{eq-eqb, ne-eqb}
+use Rattle.rules.specs.Tables.{table}
+use Rattle.rules.specs.Widths.{rows-row}
 use Rattle.rules.specs.Session.{withdrawnWithin, readOut}
 use Rattle.session_laws.specs.ReadOut.{within-last}
 use borrow.Author.Needs.{needs}
@@ -20,14 +22,17 @@ sub-is-withdrawn : tie.Need-sub-is-withdrawn
 sub-is-withdrawn c = search needs
 
 is-withdrawn-requires : tie.Need-is-withdrawn-requires
-is-withdrawn-requires c κs = search needs
+is-withdrawn-requires c κs =
+    let s = c .before .before in
+    rows-row (table (s .args .n) (s .args .t .now)) _ (s .args .depth) (omega (arith, c .if2 .left)) (s .pre .there)
 
 returns-3 : tie.Need-returns-3
 unfolding readOut
 returns-3 c =
     let s = c .before .before .before in
     let last =
-    within-last (s .args .t .now) (s .args .depth) (s .pre .fit) (omega (arith, c .before .if2 .left)) in
+    within-last (table (s .args .n) (s .args .t .now)) (s .args .depth) (s .pre .fit)
+    (omega (arith, c .before .if2 .left)) in
     simp (ne-eqb _ _ (c .before .before .if1 .left), last, c .is-withdrawn .ensures) refl
 
 pub read-out-spec : {M : Type 1} → statement M

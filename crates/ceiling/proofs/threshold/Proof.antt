@@ -1,11 +1,28 @@
 -- `threshold` meets its contract: the higher of the two parts. Assumes nothing.
-use Rattle.rules.specs.Session.{ceilingBy}
+use Prim.Native.Nat.{ℕ, _<_}
+use native.Mathlib.Omega.{arith}
+use Rattle.rules.specs.declared.Session.{Session}
+use Rattle.rules.specs.Tables.{HasRow}
+use Rattle.rules.specs.Widths.{rows-row}
+use Rattle.rules.specs.Session.{lentTable, ceilingBy}
+use Rattle.ceiling.specs.Bare.{bare}
 use borrow.Author.Needs.{needs}
 use Rattle.ceiling.proofs.threshold.Statement.{statement}
 use Rattle.ceiling.proofs.threshold.Tie as tie
 
+-- what is asked of the session
+abbrev told : tie.Start → Session
+told s = bare (s .args .n) (s .args .rows) (s .args .depth) (s .args .weights)
+
+-- the slices have the rows read
+field-row : (s : tie.Start) (i : ℕ) → i < s .args .depth .field .0 → HasRow (lentTable (told s) (s .args .f .now)) i
+field-row s i h = rows-row (lentTable (told s) (s .args .f .now)) i _ h (s .pre .field .there)
+
+trim-row : (s : tie.Start) (i : ℕ) → i < s .args .depth .trim .0 → HasRow (lentTable (told s) (s .args .t .now)) i
+trim-row s i h = rows-row (lentTable (told s) (s .args .t .now)) i _ h (s .pre .trim .there)
+
 weighted-requires : tie.Need-weighted-requires
-weighted-requires c κs = search needs
+weighted-requires c κs = field-row c 0 (omega (arith, c .pre .field-some))
 
 cast-weighted : tie.Need-cast-weighted
 cast-weighted c = search needs
@@ -14,7 +31,7 @@ sub-weighted : tie.Need-sub-weighted
 sub-weighted c = search needs
 
 weighted-requires-2 : tie.Need-weighted-requires-2
-weighted-requires-2 c κs = search needs
+weighted-requires-2 c κs = trim-row (c .before) _ (omega (arith, c .before .pre .trim-some))
 
 cast-weighted-2 : tie.Need-cast-weighted-2
 cast-weighted-2 c = search needs
@@ -23,10 +40,11 @@ sub-weighted-2 : tie.Need-sub-weighted-2
 sub-weighted-2 c = search needs
 
 weighted-requires-3 : tie.Need-weighted-requires-3
-weighted-requires-3 c κs = search needs
+weighted-requires-3 c κs = field-row (c .before .before) _ (omega (arith, c .before .before .pre .field-some))
 
 weighted-requires-4 : tie.Need-weighted-requires-4
-weighted-requires-4 c κs = search needs
+weighted-requires-4 c κs =
+    let s = c .before .before .before in trim-row s 0 (omega (arith, s .pre .trim-some))
 
 read-out-requires : tie.Need-read-out-requires
 read-out-requires c κs = c .before .before .before .before .pre .trim

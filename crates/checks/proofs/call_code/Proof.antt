@@ -1,12 +1,10 @@
 -- `call_code` meets its contract: the rows are looked at only once 5 and 4 have passed. Assumes nothing.
 use mathlib.Core.Path.{_≡_, refl, sym, _∙_}
 use mathlib.Core.Bool.{true}
-use mathlib.Core.List.{List}
 use Prim.Native.Nat.{ℕ, _+_, _≤_}
 use native.Mathlib.Omega.{arith}
-use lib.IntN.{ℤ}
 use borrow.Author.Tests.{ne-eqb}
-use Rattle.rules.specs.Tables.{mostRows, HasRows}
+use Rattle.rules.specs.Tables.{Table, table, mostRows, HasRows}
 use Rattle.rules.specs.Widths.{has-rows}
 use Rattle.session_laws.specs.Calls.{SameSize}
 use Rattle.checks.specs.Codes.{callOf, lent-of-out}
@@ -15,12 +13,13 @@ use Rattle.checks.proofs.call_code.Statement.{statement}
 use Rattle.checks.proofs.call_code.Tie as tie
 
 known : (c : tie.Else1) → let s = c .before .before .args in
-    (s .fits ≡ true) × (SameSize (s .rows .field .0) (s .f .now) × SameSize (s .rows .trim .0) (s .t .now))
+    let on = table (s .rows .card) in
+    (s .fits ≡ true) × (SameSize (s .rows .field .0) (on (s .f .now)) × SameSize (s .rows .trim .0) (on (s .t .now)))
 known c =
     let s = c .before .before .args in
     lent-of-out (s .fits) (s .rows) (s .f .now) (s .t .now) (sym (c .before .lent-code .ensures) ∙ c .if1 .left)
 
-rows-within : (t : List ℤ) (rows depth : ℕ) → SameSize rows t → (depth ≤ rows) × (rows ≤ mostRows)
+rows-within : (t : Table) (rows depth : ℕ) → SameSize rows t → (depth ≤ rows) × (rows ≤ mostRows)
     → (0 + depth ≤ mostRows) × HasRows t (0 + depth)
 rows-within t rows depth h k = (omega (arith, k), has-rows t (0 + depth) (omega (arith, h .count, k)))
 

@@ -1,9 +1,8 @@
 -- `fits` meets its contract: the numbers, then place after place. Assumes nothing.
-use mathlib.Core.Path.{_≡_, sym, _∙_}
 use Prim.Native.Nat.{_-_}
 use native.Mathlib.Omega.{arith}
-use lib.ListN.{length, length-map}
 use borrow.Author.Needs.{needs}
+use Rattle.rules.proofs.Places.{places-long}
 use Rattle.checks.proofs.Looking.{Looking, look-starts, look-on, look-stops, look-ends}
 use Rattle.checks.proofs.fits.Statement.{statement}
 use Rattle.checks.proofs.fits.Tie as tie
@@ -13,6 +12,10 @@ Inv-loop s n depth fits₀ before₀ i₀ fits before i = Looking s i before fit
 
 abbrev μ-loop : tie.MeasureT-loop
 μ-loop s n depth fits₀ before₀ i₀ fits before i = 64 - i
+
+-- the start of the call, from the check of the numbers
+abbrev start : tie.After-numbers-fit Inv-loop μ-loop → tie.Start Inv-loop μ-loop
+start c = c .before .before .before .before .before
 
 cast-n : tie.Need-cast-n Inv-loop μ-loop
 cast-n c = search needs
@@ -25,10 +28,9 @@ first-place-requires c κs = search needs
 
 loop-holds : tie.Need-loop-holds Inv-loop μ-loop
 loop-holds c =
-    let s = c .before .before .before .before .before .before in
+    let s = start (c .before) in
     let n = c .before .numbers-fit in
-    let long : length (s .args .t1 .pairs) ≡ 64 =
-    sym (length-map (s .args .t1 .pairs) _) ∙ s .good .0 .1 .1 .1 .1 .1 .1 .1 .1 .0 .1 .0 .1 in
+    let long = places-long (s .args .t1) _ (s .good .0) in
     look-starts (s .args .t1) (n .result) (c .first-place .result) long (n .ensures) (c .first-place .ensures)
 
 mul-p : tie.Need-mul-p Inv-loop μ-loop
@@ -50,24 +52,26 @@ loop-less c = search needs
 
 loop-again : tie.Need-loop-again Inv-loop μ-loop
 loop-again c =
-    let s = c .before .before .before .before .before .before .before .before .before .before .before .args .t1 in
-    let v = c .before .before .before .before .loop in
+    let turn = c .before .before .before in
+    let s = start (turn .before .before .before) .args .t1 in
+    let v = turn .before .loop in
     let k = c .before .place-key in
-    look-on s (v .i) (v .before) (v .fits) (v .inv) (c .before .before .before .loop-test .taken) (k .result)
+    look-on s (v .i) (v .before) (v .fits) (v .inv) (turn .loop-test .taken) (k .result)
     (k .ensures) (c .if1 .left)
 
 returns : tie.Need-returns Inv-loop μ-loop
 returns c =
-    let s = c .before .before .before .before .before .before .before .before .args .t1 in
+    let s = start (c .before .before .before) .args .t1 in
     let v = c .before .loop in
     look-ends s (v .i) (v .before) (v .fits) (v .inv) (omega (arith, c .loop-test .left))
 
 returns-2 : tie.Need-returns-2 Inv-loop μ-loop
 returns-2 c =
-    let s = c .before .before .before .before .before .before .before .before .before .before .before .args .t1 in
-    let v = c .before .before .before .before .loop in
+    let turn = c .before .before .before in
+    let s = start (turn .before .before .before) .args .t1 in
+    let v = turn .before .loop in
     let k = c .before .place-key in
-    look-stops s (v .i) (v .before) (v .fits) (v .inv) (c .before .before .before .loop-test .taken) (k .result)
+    look-stops s (v .i) (v .before) (v .fits) (v .inv) (turn .loop-test .taken) (k .result)
     (k .ensures) (c .if1 .taken)
 
 pub fits-spec : {M : Type 1} → statement M

@@ -4,8 +4,8 @@ use borrow.Author.Needs.{needs}
 use Rattle.checks.proofs.same_size_code.Statement.{statement}
 use Rattle.checks.proofs.same_size_code.Tie as tie
 
-row-count-requires : tie.Need-row-count-requires
-row-count-requires c κs = search needs
+rows-lent-requires : tie.Need-rows-lent-requires
+rows-lent-requires c κs = search needs
 
 size-fits-requires : tie.Need-size-fits-requires
 size-fits-requires c κs = search needs
@@ -15,7 +15,7 @@ unless-requires c κs = search needs
 
 returns : tie.Need-returns
 unfolding sameSizeCode
-returns c = simp (c .before .size-fits .ensures, c .before .before .row-count .ensures) at (c .unless .ensures)
+returns c = simp (c .before .size-fits .ensures, c .before .before .rows-lent .ensures) at (c .unless .ensures)
 
 pub same-size-code-spec : {M : Type 1} → statement M
-same-size-code-spec = tie.close (tie.spec row-count-requires size-fits-requires unless-requires returns)
+same-size-code-spec = tie.close (tie.spec rows-lent-requires size-fits-requires unless-requires returns)

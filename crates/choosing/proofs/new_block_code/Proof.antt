@@ -1,25 +1,35 @@
 -- `new_block_code` meets its contract. Assumes nothing.
-use mathlib.Core.Path.{_≡_, refl, sym, ap, _∙_}
+use mathlib.Core.Path.{_≡_, refl, sym, ap, subst, subst₂, _∙_}
 use native.Mathlib.Omega.{arith}
-use lib.ListN.{length, length-map}
-use Prim.Native.Nat.{_≤_}
+use Prim.Native.Nat.{_+_, _-_, _≤_}
 use mathlib.Core.Bool.{Bool, cond}
-use Rattle.rules.specs.Tables.{mostRows, HasRows}
+use Rattle.rules.specs.Session.{lentTable}
+use Rattle.rules.specs.Tables.{Table, mostRows, HasRows}
 use Rattle.rules.specs.Read.{oldDepth, newDepth}
+use Rattle.rules.proofs.Places.{places-long}
 use Rattle.choosing.specs.Due.{Due, due, new-inside, code-is}
 use borrow.Author.Needs.{needs}
 use Rattle.choosing.proofs.new_block_code.Statement.{statement}
 use Rattle.choosing.proofs.new_block_code.Tie as tie
 
--- what is known of the table that is read next; a record has 64 pair places, that is its array's type
-known : (c : tie.After-field-next)
-    → Due (c .field-next .result) (c .before .args .f .now) (c .before .args .t .now) (c .before .args .s)
+-- the two tables
+abbrev field : tie.Start → Table
+field s = lentTable (s .args .s) (s .args .f .now)
+
+abbrev trim : tie.Start → Table
+trim s = lentTable (s .args .s) (s .args .t .now)
+
+-- the one that is read next
+abbrev own : tie.After-field-next → Table
+own c = cond (c .field-next .result) (field (c .before)) (trim (c .before))
+
+-- what is known of it
+known : (c : tie.After-field-next) → Due (c .field-next .result) (field (c .before)) (trim (c .before))
+    (c .before .args .s)
 known c =
     let s = c .before in
-    let a = s .args in
-    let long : length (a .s .pairs) ≡ 64 =
-    sym (length-map (a .s .pairs) _) ∙ s .good .1 .1 .0 .1 .1 .1 .1 .1 .1 .1 .1 .0 .1 .0 .1 in
-    due (a .f .now) (a .t .now) (a .s) (s .pre .0 .lent) long (s .pre .1) (c .field-next .result)
+    let long = places-long (s .args .s) _ (s .good .1 .1 .0) in
+    due (field s) (trim s) (s .args .s) (s .pre .0 .lent) long (s .pre .1) (c .field-next .result)
     (c .field-next .ensures)
 
 field-next-requires : tie.Need-field-next-requires
@@ -36,29 +46,41 @@ next-depth-requires c κs =
     let k = known (c .before .before) in
     (k .ready .query .block .1, omega (arith, c .pick2 .ensures, k .left, k .few))
 
+-- where the table is chosen, from its next depth
+abbrev chosen : tie.After-next-depth → tie.After-field-next
+chosen c = c .before .before .before
+
 -- the depths before and after
 old : (c : tie.After-pick2)
     → c .pick2 .result ≡ oldDepth (c .before .before .field-next .result) (c .before .before .before .args .s)
 old c = c .pick2 .ensures
 
 new : (c : tie.After-next-depth)
-    → c .next-depth .result
-    ≡ newDepth (c .before .before .before .field-next .result) (c .before .before .before .before .args .s)
+    → c .next-depth .result ≡ newDepth (chosen c .field-next .result) (chosen c .before .args .s)
 new c = simp (c .next-depth .ensures, c .before .pick2 .ensures, c .before .before .pick .ensures) refl
 
 -- the new block lies within its table
 inside : (c : tie.After-next-depth)
     → (c .before .pick2 .result ≤ c .next-depth .result) × (c .next-depth .result ≤ mostRows)
-    × HasRows
-    (cond (c .before .before .before .field-next .result) (c .before .before .before .before .args .f .now)
-    (c .before .before .before .before .args .t .now))
-    (c .next-depth .result)
+    × HasRows (own (chosen c)) (c .next-depth .result)
 inside c =
-    let a = c .before .before .before .before .args in
-    let k =
-    new-inside (a .f .now) (a .t .now) (a .s) (c .before .before .before .field-next .result)
-    (known (c .before .before .before)) in
-    omega (arith, old (c .before), new c, k .0, k .1, k .2)
+    let at = chosen c in
+    let k = new-inside (field (at .before)) (trim (at .before)) (at .before .args .s) (at .field-next .result)
+    (known at) in (
+      omega (arith, old (c .before), new c, k .0),
+      omega (arith, new c, k .1),
+      subst (HasRows (own at)) (sym (new c)) (k .2),
+    )
+
+-- so its rows may be looked at
+looked : (c : tie.After-next-depth) (t : Table) → own (chosen c) ≡ t
+    → let d = c .before .pick2 .result in let e = c .next-depth .result in
+    (d + (e - d) ≤ mostRows) × HasRows t (d + (e - d))
+looked c t same =
+    let k = inside c in
+    let end : c .next-depth .result ≡ c .before .pick2 .result + (c .next-depth .result - c .before .pick2 .result) =
+    omega (arith, k .0) in
+    (omega (arith, k .0, k .1), subst₂ HasRows same end (k .2))
 
 cast-from : tie.Need-cast-from
 cast-from c = search needs
@@ -71,41 +93,33 @@ cast-n c = search needs
 
 rows-code-requires : tie.Need-rows-code-requires
 rows-code-requires c κs =
-    let a = c .before .before .before .before .before .args in
-    let k = inside (c .before) in
-    let e : length (cond (c .before .before .before .before .field-next .result) (a .f .now) (a .t .now)) ≡ length
-    (a .f .now) =
-    ap (λ (b : Bool). length (cond b (a .f .now) (a .t .now))) (c .if1 .taken) in
-    omega (arith, k .0, k .1, k .2, e)
+    let s = chosen (c .before) .before in
+    looked (c .before) (field s) (ap (λ (b : Bool). cond b (field s) (trim s)) (c .if1 .taken))
 
 returns : tie.Need-returns
 returns c =
-    let a = c .before .before .before .before .before .before .args in
-    let next = c .before .before .before .before .before .field-next in
-    let own = sym (ap (λ (b : Bool). cond b (a .f .now) (a .t .now)) (c .before .if1 .taken)) in
+    let depth = c .before .before in
+    let s = chosen depth .before in
+    let next = chosen depth .field-next in
+    let same = sym (ap (λ (b : Bool). cond b (field s) (trim s)) (c .before .if1 .taken)) in
     c .rows-code .ensures
-    ∙ code-is (a .f .now) (a .t .now) (a .s) (next .result) (next .ensures) (a .f .now)
-    (c .before .before .before .pick2 .result) (c .before .before .next-depth .result) own
-    (old (c .before .before .before)) (new (c .before .before))
+    ∙ code-is (field s) (trim s) (s .args .s) (next .result) (next .ensures) (field s) (depth .before .pick2 .result)
+    (depth .next-depth .result) same (old (depth .before)) (new depth)
 
 rows-code-requires-2 : tie.Need-rows-code-requires-2
 rows-code-requires-2 c κs =
-    let a = c .before .before .before .before .before .args in
-    let k = inside (c .before) in
-    let e : length (cond (c .before .before .before .before .field-next .result) (a .f .now) (a .t .now)) ≡ length
-    (a .t .now) =
-    ap (λ (b : Bool). length (cond b (a .f .now) (a .t .now))) (c .if1 .left) in
-    omega (arith, k .0, k .1, k .2, e)
+    let s = chosen (c .before) .before in
+    looked (c .before) (trim s) (ap (λ (b : Bool). cond b (field s) (trim s)) (c .if1 .left))
 
 returns-2 : tie.Need-returns-2
 returns-2 c =
-    let a = c .before .before .before .before .before .before .args in
-    let next = c .before .before .before .before .before .field-next in
-    let own = sym (ap (λ (b : Bool). cond b (a .f .now) (a .t .now)) (c .before .if1 .left)) in
+    let depth = c .before .before in
+    let s = chosen depth .before in
+    let next = chosen depth .field-next in
+    let same = sym (ap (λ (b : Bool). cond b (field s) (trim s)) (c .before .if1 .left)) in
     c .rows-code2 .ensures
-    ∙ code-is (a .f .now) (a .t .now) (a .s) (next .result) (next .ensures) (a .t .now)
-    (c .before .before .before .pick2 .result) (c .before .before .next-depth .result) own
-    (old (c .before .before .before)) (new (c .before .before))
+    ∙ code-is (field s) (trim s) (s .args .s) (next .result) (next .ensures) (trim s) (depth .before .pick2 .result)
+    (depth .next-depth .result) same (old (depth .before)) (new depth)
 
 pub new-block-code-spec : {M : Type 1} → statement M
 new-block-code-spec =

@@ -19,16 +19,20 @@ held-fits : (s : Scan) → fitting s ≡ true → heldOf s ≡ record { fits = t
 unfolding heldOf
 held-fits s f = rw f
 
+-- the start of the call, from where the scan's fields are known
+abbrev start : tie.After-struct-known4 → tie.Start
+start c = c .before .before .before .before
+
 returns : tie.Need-returns
 unfolding heldOf
-returns c = simp (not-true (fitting (c .before .before .before .before .before .args .s)) (c .if1 .taken))
+returns c = simp (not-true (fitting (start (c .before) .args .s)) (c .if1 .taken))
 
 signed-worth-requires : tie.Need-signed-worth-requires
 signed-worth-requires c κs = search needs
 
 returns-2 : tie.Need-returns-2
 returns-2 c =
-    let s = c .before .before .before .before .before .before .args .s in
+    let s = start (c .before .before) .args .s in
     let call = c .signed-worth in
     rw (toZ-ofZ {w = w32} {z = call .result} (sfits-of (call .ok)))
     (ap (λ (z : ℤ). record { fits = true; number = z }) (call .ensures)

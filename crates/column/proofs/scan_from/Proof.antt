@@ -23,6 +23,10 @@ Inv-loop bytes at end signed s₀ i₀ s i =
 abbrev μ-loop : tie.MeasureT-loop
 μ-loop bytes at end signed s₀ i₀ s i = end - i
 
+-- what was handed in, from where the loop stands
+abbrev given : tie.At-loop Inv-loop μ-loop → tie.Start Inv-loop μ-loop
+given c = c .before .before
+
 loop-holds : tie.Need-loop-holds Inv-loop μ-loop
 loop-holds c =
     let s = c .before .args in
@@ -42,8 +46,9 @@ shared-slice-read-step c = search needs
 
 step-requires : tie.Need-step-requires Inv-loop μ-loop
 step-requires c κs =
-    let l = c .before .before .before .loop in
-    let s = c .before .before .before .before .before .args in
+    let at = c .before .before .before in
+    let l = at .loop in
+    let s = given at .args in
     let place = c .before .place-value in (
       left-some (l .s .worth) (s .end - l .i) (l .inv .2),
       rw (place .ensures) (place-small (s .end - 1 - l .i) (omega arith)),
@@ -58,8 +63,9 @@ loop-less c = search needs
 loop-again : tie.Need-loop-again Inv-loop μ-loop
 unfolding scanned stepped
 loop-again c =
-    let l = c .before .before .before .before .loop in
-    let s = c .before .before .before .before .before .before .args in
+    let at = c .before .before .before .before in
+    let l = at .loop in
+    let s = given at .args in
     let bytes = s .bytes .now in
     let b = getD bytes (l .i) 0 in
     let m = s .signed && eqb b 45 in

@@ -11,11 +11,14 @@ use borrow.Author.Needs.{needs}
 use Rattle.column.proofs.step.Statement.{statement}
 use Rattle.column.proofs.step.Tie as tie
 
+-- the start of the call, from where the scan's fields are known
+abbrev start : tie.After-struct-known5 → tie.Start
+start c = c .before .before .before .before .before
+
 -- a byte is worth at most 15 at a place of at most 1,000,000
-small : (c : tie.After-byte-worth) →
-    c .before .before .before .before .before .before .args .place * c .byte-worth .result ≤ 15000000
+small : (c : tie.After-byte-worth) → start (c .before) .args .place * c .byte-worth .result ≤ 15000000
 small c =
-    let at = c .before .before .before .before .before .before in
+    let at = start (c .before) in
     let s = at .args in
     let worth : c .byte-worth .result ≤ 15 =
     omega (arith, c .byte-worth .ensures, worth-small (s .signed && eqb (s .byte) 45) (s .byte)) in

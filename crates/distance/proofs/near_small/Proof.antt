@@ -1,52 +1,70 @@
--- `near_small` meets its contract: the squares of small gaps fit, and their sum is the squared distance. Assumes
+-- `near_small` meets its contract: the squares of three small gaps fit, and their sum is the squared distance. Assumes
 -- nothing.
-use Rattle.distance.proofs.Gap as G
+use mathlib.Core.Path.{_≡_, refl, ap, _∙_}
+use Prim.Native.Nat.{ℕ, _*_, _-_, _≤_}
+use native.Mathlib.Omega.{arith}
+use lib.Dec.{leb}
+use lib.ListN.{length, take}
+use Rattle.rules.specs.Tables.{squares, squaredDistance}
 use Rattle.distance.proofs.Square as S
 use borrow.Author.Needs.{needs}
 use Rattle.distance.proofs.near_small.Statement.{statement}
 use Rattle.distance.proofs.near_small.Tie as tie
 
-apart-small-requires : tie.Need-apart-small-requires
-apart-small-requires c κs = search needs
+abbrev Inv-loop : tie.InvT-loop
+Inv-loop radius x y sum₀ k₀ sum k =
+    (k ≤ length x) × (sum ≤ 1073676289 * k) × (sum ≡ squaredDistance (take k x) (take k y))
 
-apart-small-requires-2 : tie.Need-apart-small-requires-2
-apart-small-requires-2 c κs = search needs
+abbrev μ-loop : tie.MeasureT-loop
+μ-loop radius x y sum₀ k₀ sum k = length x - k
 
-mul-result : tie.Need-mul-result
-mul-result c = S.squares-fit _ _ (c .before .before .before .apart-small .ensures .1) (c .apart-small2 .ensures .1) .0
+loop-holds : tie.Need-loop-holds Inv-loop μ-loop
+unfolding squares
+loop-holds c = (search needs, search needs, refl)
 
-mul-result-2 : tie.Need-mul-result-2
-mul-result-2 c = S.squares-fit _ _ (c .before .before .before .apart-small .ensures .1) (c .apart-small2 .ensures .1) .1
+small-square-at-requires : tie.Need-small-square-at-requires Inv-loop μ-loop
+small-square-at-requires c κs =
+    let small = c .before .before .pre .0 in
+    (search needs, search needs, small .0, small .1)
 
-add-result : tie.Need-add-result
-add-result c = S.squares-fit _ _ (c .before .before .before .apart-small .ensures .1) (c .apart-small2 .ensures .1) .2
+add-sum : tie.Need-add-sum Inv-loop μ-loop
+add-sum c = search needs
 
-mul-result-3 : tie.Need-mul-result-3
-mul-result-3 c =
-    let at = c .before .before .before .before .before in
-    let s =
-    at .before in S.radius-fits (s .args .radius) (s .pre .2)
+add-k : tie.Need-add-k Inv-loop μ-loop
+add-k c = search needs
 
-returns : tie.Need-returns
+loop-less : tie.Need-loop-less Inv-loop μ-loop
+loop-less c = search needs
+
+loop-again : tie.Need-loop-again Inv-loop μ-loop
+loop-again c =
+    let s = c .before .before .before in
+    let square = c .small-square-at in
+    let e = S.next (s .args .x .now) (s .args .y .now) (s .pre .1 .0) (c .before .before .loop .k) (square .result)
+    (c .before .loop-test .taken) (square .ensures .0) in
+    (search needs, omega arith, omega (arith, e))
+
+mul-result : tie.Need-mul-result Inv-loop μ-loop
+mul-result c = S.radius-fits (c .before .before .args .radius) (omega arith)
+
+returns : tie.Need-returns Inv-loop μ-loop
 returns c =
-    let s = c .before .before .before .before .before .before .args in
-    let p = c .before .before .before .apart-small in
-    let q = c .apart-small2 in
-    S.sum-in (s .x) (s .y) (p .result) (q .result)
-    (G.gap-of-passed _ _ _ (c .before .before .before .before .before .struct-told .given .0 .1)
-    (c .before .before .before .before .struct-told2 .given .0 .1) (p .ensures .0))
-    (G.gap-of-passed _ _ _ (c .before .before .struct-told3 .given .1 .0 .1) (c .before .struct-told4 .given .1 .0 .1)
-    (q .ensures .0))
-    (s .radius)
+    let s = c .before .before in
+    let radius = s .args .radius in
+    ap (λ (d : ℕ). leb d (radius * radius)) (c .before .loop .inv .2)
+    ∙ S.sum-in (s .args .x .now) (s .args .y .now) (s .pre .1 .0) (c .before .loop .k) radius (omega arith)
 
 pub near-small-spec : {M : Type 1} → statement M
 near-small-spec =
     tie.close
     (tie.spec
-    apart-small-requires
-    apart-small-requires-2
+    Inv-loop
+    μ-loop
+    loop-holds
+    small-square-at-requires
+    add-sum
+    add-k
+    loop-less
+    loop-again
     mul-result
-    mul-result-2
-    add-result
-    mul-result-3
     returns)

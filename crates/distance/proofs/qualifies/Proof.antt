@@ -1,42 +1,75 @@
--- `qualifies` meets its contract: a gap above the radius is too far, else what is left of the radius' square decides.
--- Assumes nothing.
+-- `qualifies` meets its contract: what the coordinates seen leave of the radius' square decides. Assumes nothing.
+use mathlib.Core.Path.{_≡_}
+use Prim.Native.Nat.{_+_, _*_, _-_, _≤_}
 use native.Mathlib.Omega.{arith}
+use lib.ListN.{length, take}
+use Rattle.rules.specs.Tables.{squares, squaredDistance}
 use Rattle.distance.proofs.Square as S
 use borrow.Author.Needs.{needs}
 use Rattle.distance.proofs.qualifies.Statement.{statement}
 use Rattle.distance.proofs.qualifies.Tie as tie
 
-offset-of-requires : tie.Need-offset-of-requires
-offset-of-requires c κs = search needs
+abbrev Inv-loop : tie.InvT-loop
+Inv-loop radius x y r left₀ k₀ left k =
+    (k ≤ length x) × (left + squaredDistance (take k x) (take k y) ≡ radius * radius)
 
-returns : tie.Need-returns
+abbrev μ-loop : tie.MeasureT-loop
+μ-loop radius x y r left₀ k₀ left k = length x - k
+
+mul-left : tie.Need-mul-left Inv-loop μ-loop
+mul-left c = S.square-fits (c .args .radius) (omega (arith, c .fits .radius))
+
+loop-holds : tie.Need-loop-holds Inv-loop μ-loop
+unfolding squares
+loop-holds c = (search needs, omega arith)
+
+square-at-requires : tie.Need-square-at-requires Inv-loop μ-loop
+square-at-requires c κs = search needs
+
+-- one coordinate more, at either branch
+turn : (c : tie.After-square-at Inv-loop μ-loop)
+    → squaredDistance (take (c .before .before .loop .k + 1) (c .before .before .before .args .x .now))
+    (take (c .before .before .loop .k + 1) (c .before .before .before .args .y .now))
+    ≡ squaredDistance (take (c .before .before .loop .k) (c .before .before .before .args .x .now))
+    (take (c .before .before .loop .k) (c .before .before .before .args .y .now))
+    + c .square-at .result
+turn c =
+    let s = c .before .before .before in
+    S.next (s .args .x .now) (s .args .y .now) (s .pre) (c .before .before .loop .k) (c .square-at .result)
+    (c .before .loop-test .taken) (c .square-at .ensures)
+
+returns : tie.Need-returns Inv-loop μ-loop
 returns c =
-    let s = c .before .before .before .args in
-    let d = c .before .before .offset-of in
-    S.too-far (s .x) (s .y) (d .result .a) (d .result .b) (d .ensures .0) (d .ensures .1) (s .radius) (c .if1 .taken)
-
-mul-result : tie.Need-mul-result
-mul-result c = let d = c .before .before .before .offset-of in S.square-fits (d .result .b) (d .ensures .3)
-
-mul-result-2 : tie.Need-mul-result-2
-mul-result-2 c =
     let s = c .before .before .before .before in
-    S.square-fits (s .args .radius) (omega (arith, s .fits .radius))
+    S.too-far (s .args .x .now) (s .args .y .now) (s .pre) (c .before .before .before .loop .k + 1) (s .args .radius)
+    (omega (arith, turn (c .before)))
 
-mul-result-3 : tie.Need-mul-result-3
-mul-result-3 c = let d = c .before .before .before .before .offset-of in S.square-fits (d .result .a) (d .ensures .2)
+add-k : tie.Need-add-k Inv-loop μ-loop
+add-k c = search needs
 
-sub-result : tie.Need-sub-result
-sub-result c = S.square-le (c .before .before .if1 .left)
+loop-less : tie.Need-loop-less Inv-loop μ-loop
+loop-less c = search needs
 
-returns-2 : tie.Need-returns-2
+loop-again : tie.Need-loop-again Inv-loop μ-loop
+loop-again c = (search needs, omega (arith, turn (c .before)))
+
+returns-2 : tie.Need-returns-2 Inv-loop μ-loop
 returns-2 c =
-    let s = c .before .before .before .before .before .args in
-    let d = c .before .before .before .before .offset-of in
-    S.fits-in (s .x) (s .y) (d .result .a) (d .result .b) (d .ensures .0) (d .ensures .1) (s .radius)
-    (c .before .before .if1 .left)
+    let s = c .before .before in
+    S.near-enough (s .args .x .now) (s .args .y .now) (s .pre) (c .before .loop .k) (s .args .radius) (omega arith)
+    (omega arith)
 
 pub qualifies-spec : {M : Type 1} → statement M
 qualifies-spec =
     tie.close
-    (tie.spec offset-of-requires returns mul-result mul-result-2 mul-result-3 sub-result returns-2)
+    (tie.spec
+    Inv-loop
+    μ-loop
+    mul-left
+    loop-holds
+    square-at-requires
+    returns
+    add-k
+    loop-less
+    loop-again
+    returns-2)

@@ -1,41 +1,60 @@
--- `squared_distance` meets its contract: both squares fit, and so does their sum, or it is too large. Assumes nothing.
+-- `squared_distance` meets its contract: the sum of the coordinates seen, or the largest number. Assumes nothing.
+use mathlib.Core.Path.{_≡_, refl, ap, _∙_}
+use Prim.Native.Nat.{ℕ, _-_, _≤_, _^_, min}
 use native.Mathlib.Omega.{arith}
+use lib.ListN.{length, take}
+use Rattle.rules.specs.Tables.{squares, squaredDistance}
 use Rattle.distance.proofs.Square as S
 use borrow.Author.Needs.{needs}
 use Rattle.distance.proofs.squared_distance.Statement.{statement}
 use Rattle.distance.proofs.squared_distance.Tie as tie
 
-offset-of-requires : tie.Need-offset-of-requires
-offset-of-requires c κs = search needs
+abbrev Inv-loop : tie.InvT-loop
+Inv-loop x y sum₀ k₀ sum k = (k ≤ length x) × (sum ≡ min (squaredDistance (take k x) (take k y)) (2 ^ 64 - 1))
 
-mul-aa : tie.Need-mul-aa
-mul-aa c = let d = c .before .offset-of in S.square-fits (d .result .a) (d .ensures .2)
+abbrev μ-loop : tie.MeasureT-loop
+μ-loop x y sum₀ k₀ sum k = length x - k
 
-mul-bb : tie.Need-mul-bb
-mul-bb c = let d = c .before .before .offset-of in S.square-fits (d .result .b) (d .ensures .3)
+loop-holds : tie.Need-loop-holds Inv-loop μ-loop
+unfolding squares
+loop-holds c = (search needs, refl)
 
-sub-if1 : tie.Need-sub-if1
-sub-if1 c =
-    let d = c .before .before .offset-of in
-    omega (arith, S.square-fits (d .result .a) (d .ensures .2))
+square-at-requires : tie.Need-square-at-requires Inv-loop μ-loop
+square-at-requires c κs = search needs
 
-add-result : tie.Need-add-result
-add-result c =
-    let d = c .before .before .before .offset-of in
-    record { fits = omega (arith, S.square-fits (d .result .a) (d .ensures .2)) }
+add-capped-requires : tie.Need-add-capped-requires Inv-loop μ-loop
+add-capped-requires c κs = search needs
 
-returns : tie.Need-returns
+add-k : tie.Need-add-k Inv-loop μ-loop
+add-k c = search needs
+
+loop-less : tie.Need-loop-less Inv-loop μ-loop
+loop-less c = search needs
+
+loop-again : tie.Need-loop-again Inv-loop μ-loop
+loop-again c =
+    let s = c .before .before .before .before in
+    let square = c .before .square-at in
+    let e = S.next (s .args .x .now) (s .args .y .now) (s .pre) (c .before .before .before .loop .k) (square .result)
+    (c .before .before .loop-test .taken) (square .ensures) in
+    (search needs, omega (arith, e))
+
+returns : tie.Need-returns Inv-loop μ-loop
 returns c =
-    let s = c .before .before .before .before .args in
-    let d = c .before .before .before .offset-of in
-    S.sum-is (s .x) (s .y) (d .result .a) (d .result .b) (d .ensures .0) (d .ensures .1) (d .ensures .2) (c .if1 .taken)
-
-returns-2 : tie.Need-returns-2
-returns-2 c =
-    let s = c .before .before .before .before .args in
-    let d = c .before .before .before .offset-of in
-    S.sum-over (s .x) (s .y) (d .result .a) (d .result .b) (d .ensures .0) (d .ensures .1) (c .if1 .left)
+    let s = c .before .before in
+    let e = S.whole (s .args .x .now) (s .args .y .now) (s .pre) (c .before .loop .k) (omega arith) in
+    c .before .loop .inv .1 ∙ ap (λ (d : ℕ). min d (2 ^ 64 - 1)) e
 
 pub squared-distance-spec : {M : Type 1} → statement M
 squared-distance-spec =
-    tie.close (tie.spec offset-of-requires mul-aa mul-bb sub-if1 add-result returns returns-2)
+    tie.close
+    (tie.spec
+    Inv-loop
+    μ-loop
+    loop-holds
+    square-at-requires
+    add-capped-requires
+    add-k
+    loop-less
+    loop-again
+    returns)

@@ -9,6 +9,10 @@ use borrow.Author.Needs.{needs, sfits-of}
 use Rattle.file_check.proofs.read_header.Statement.{statement}
 use Rattle.file_check.proofs.read_header.Tie as tie
 
+-- where both columns are read, from the first of the two numbers
+abbrev columns : tie.After-natural → tie.After-column-at2
+columns c = c .before .before .before .before .before
+
 returns : tie.Need-returns
 unfolding headerHeld
 returns c = simp (lt-leb _ _ (c .if1 .taken))
@@ -30,7 +34,7 @@ natural-requires-2 c κs = search needs
 
 returns-2 : tie.Need-returns-2
 returns-2 c =
-    let at = c .before .before .before .before .before .before .before in
+    let at = columns (c .before .before) in
     let count = at .before .column-at in
     let kind = at .column-at2 in
     let bytes = at .before .before .before .before .args .bytes .now in

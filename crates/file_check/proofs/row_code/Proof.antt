@@ -9,9 +9,6 @@ use Rattle.file_check.proofs.row_code.Tie as tie
 unless-requires : tie.Need-unless-requires
 unless-requires c κs = search needs
 
-in-range-requires : tie.Need-in-range-requires
-in-range-requires c κs = search needs
-
 unless-requires-2 : tie.Need-unless-requires-2
 unless-requires-2 c κs = search needs
 
@@ -27,26 +24,17 @@ first-requires-2 c κs = search needs
 returns : tie.Need-returns
 unfolding heldRowCode
 returns c =
-    let limit = c .before .before .before .before .before in
-    let told = limit .before .before .before .before .before .struct-told .given in
-    let columns = limit .before .before .before .before .before .before in
-    let s = columns .before in
-    let row = s .args .row in
-    let pattern = toZ-ofZ {w = w32} {z = row .pattern} (sfits-of (told .1 .0 .1)) in
-    let score = toZ-ofZ {w = w32} {z = row .score} (sfits-of (told .1 .1 .0 .1)) in
-    let a = toZ-ofZ {w = w32} {z = row .a} (sfits-of (told .1 .1 .1 .0 .1)) in
-    let b = toZ-ofZ {w = w32} {z = row .b} (sfits-of (told .1 .1 .1 .1 .0 .1)) in
+    let told = c .before .before .before in
+    let limit = told .before .before in
+    let s = limit .before .before in
+    let score = toZ-ofZ {w = w32} {z = s .args .row .score} (sfits-of (told .struct-told .given .1 .1 .0 .1)) in
     let before = toZ-ofZ (s .fits .before) in
     simp (
       c .before .first .ensures,
       c .before .before .unless3 .ensures,
       limit .unless2 .ensures,
-      limit .before .in-range .ensures,
-      columns .unless .ensures,
-      pattern,
+      limit .before .unless .ensures,
       score,
-      a,
-      b,
       before,
     )
     at (c .first2 .ensures)
@@ -56,7 +44,6 @@ row-code-spec =
     tie.close
     (tie.spec
     unless-requires
-    in-range-requires
     unless-requires-2
     unless-requires-3
     first-requires

@@ -5,11 +5,13 @@ use lib.ListN.{length}
 use mir.Syntax.{w32}
 use mir.Facts.{toZ-ofZ}
 use Rattle.rules.specs.declared.Answer.{Answer}
+use Rattle.rules.specs.declared.Kinds.{Kinds}
 use Rattle.rules.specs.declared.Query.{Query}
 use Rattle.rules.specs.declared.Step.{Step}
 use Rattle.rules.specs.Numbers.{said, signed}
+use Rattle.rules.specs.Tables.{Table, fieldTable, trimTable}
 use Rattle.rules.specs.Calls.{openCall}
-use Rattle.record_layout.specs.Flat.{querySize, flatSize, queryIn}
+use Rattle.record_layout.specs.Flat.{querySize, flatSize, queryIn, kindsIn}
 use Rattle.answers.specs.Refusals.{Numbered, open-refusal}
 use Rattle.flat_calls.specs.Calls.{leftIn, openStep, openNumber, openLeaves}
 use Rattle.flat_calls.specs.Unchanged.{refused-left, accepted-left}
@@ -19,17 +21,32 @@ use borrow.Author.Needs.{needs, sfits-of}
 use Rattle.flat_open.proofs.start.Statement.{statement}
 use Rattle.flat_open.proofs.start.Tie as tie
 
--- where the opening was called from, and what it answers
-abbrev origin : tie.After-start → tie.Start
-origin c = c .before .before .before .before .before
+-- where the opening was called from: the numbers were long enough, and the two tables, of their kinds
+abbrev long : tie.After-start → tie.Else1
+long c = c .before .before .before
 
+abbrev origin : tie.After-start → tie.Start
+origin c = long c .before .before .before
+
+abbrev fields : tie.After-start → Table
+fields c = fieldTable (kindsIn (origin c .args .query .now)) (origin c .args .f .now)
+
+abbrev trims : tie.After-start → Table
+trims c = trimTable (kindsIn (origin c .args .query .now)) (origin c .args .t .now)
+
+-- what the opening answers
 abbrev called : tie.After-start → Step
-called c = openCall (queryIn (origin c .args .query .now)) (origin c .args .f .now) (origin c .args .t .now)
+called c = openCall (queryIn (origin c .args .query .now)) (fields c) (trims c)
 
 stepped : (c : tie.After-start) → c .start .result ≡ called c
 stepped c =
     let s = origin c .args in
-    c .start .ensures ∙ ap (λ (q : Query). openCall q (s .f .now) (s .t .now)) (c .before .query-in .ensures)
+    let kinds = c .before .kinds-in .result in
+    c .start .ensures
+    ∙ ap (λ (q : Query). openCall q (fieldTable kinds (s .f .now)) (trimTable kinds (s .t .now)))
+    (c .before .before .query-in .ensures)
+    ∙ ap (λ (k : Kinds). openCall (queryIn (s .query .now)) (fieldTable k (s .f .now)) (trimTable k (s .t .now)))
+    (c .before .kinds-in .ensures)
 
 -- what stands in the lent slice: the record of an accepted opening, or what stood there
 written : (c : tie.At-match-came) → c .match .lent ≡ leftIn (origin (c .before) .args .lent .now) (called (c .before))
@@ -44,7 +61,8 @@ written c =
     w .7 ∙ w .4 .ensures ∙ sym (accepted-left l r accepted) ∙ ap (leftIn l) e)
     (λ w.
     let q = queryIn (s .query .now) in
-    let refused = not-opened q (s .f .now) (s .t .now) (r .answer) (ap (λ (x : Step). x .answer) e) (w .0 .keys2) in
+    let answer = ap (λ (x : Step). x .answer) e in
+    let refused = not-opened q (fields (c .before)) (trims (c .before)) (r .answer) answer (w .0 .keys2) in
     w .1 ∙ sym (refused-left l r refused) ∙ ap (leftIn l) e)
     (c .match .came)
 
@@ -60,6 +78,9 @@ returns c =
 query-in-requires : tie.Need-query-in-requires
 query-in-requires c κs = search needs
 
+kinds-in-requires : tie.Need-kinds-in-requires
+kinds-in-requires c κs = search needs
+
 start-requires : tie.Need-start-requires
 start-requires c κs = search needs
 
@@ -68,8 +89,7 @@ enum-told c = search needs
 
 pack-requires : tie.Need-pack-requires
 pack-requires c κs =
-    let call = c .before .before .before .before in
-    let at = call .before .before in
+    let at = long (c .before .before .before .before) in
     let s = at .before .before .before .args in
     right-long querySize flatSize (s .query .now) (s .lent .now) (at .if1 .left)
 
@@ -86,9 +106,9 @@ unfolding openNumber openLeaves openStep
 returns-2 c =
     let number = toZ-ofZ {w = w32} {z = c .told .result} (sfits-of (c .told .ok)) in
     let e = stepped (c .before .before) in
-    let long = c .before .before .before .before .if1 .left in (
-      simp long (number ∙ c .told .ensures ∙ ap (λ (r : Step). signed (said (r .answer))) e),
-      simp long (written (c .before)),
+    let left = long (c .before .before) .if1 .left in (
+      simp left (number ∙ c .told .ensures ∙ ap (λ (r : Step). signed (said (r .answer))) e),
+      simp left (written (c .before)),
     )
 
 pub start-spec : {M : Type 1} → statement M
@@ -98,6 +118,7 @@ start-spec =
     short-requires
     returns
     query-in-requires
+    kinds-in-requires
     start-requires
     enum-told
     pack-requires

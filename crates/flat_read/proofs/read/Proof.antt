@@ -8,7 +8,10 @@ use mir.Syntax.{w32}
 use mir.Facts.{toZ-ofZ}
 use borrow.Author.Tests.{lt-ltb, le-ltb}
 use Rattle.rules.specs.declared.Answer.{Answer}
+use Rattle.rules.specs.declared.Session.{Session}
 use Rattle.rules.specs.declared.Step.{Step}
+use Rattle.rules.specs.Tables.{Table}
+use Rattle.rules.specs.Session.{lentTable}
 use Rattle.rules.specs.Numbers.{said, signed}
 use Rattle.rules.specs.Query.{wasRead}
 use Rattle.rules.specs.Calls.{readCall}
@@ -22,17 +25,28 @@ use borrow.Author.Needs.{needs, sfits-of}
 use Rattle.flat_read.proofs.read.Statement.{statement}
 use Rattle.flat_read.proofs.read.Tie as tie
 
--- where the read was called from, and what it answers
+-- where the read was called from; the record lent, the two tables on its card, and what the read answers
 abbrev start : tie.After-read → tie.Start
 start c = c .before .before .before .before .before
 
+abbrev lent : tie.After-read → Session
+lent c = unflatten (start c .args .lent .now)
+
+abbrev fields : tie.After-read → Table
+fields c = lentTable (lent c) (start c .args .f .now)
+
+abbrev trims : tie.After-read → Table
+trims c = lentTable (lent c) (start c .args .t .now)
+
 abbrev called : tie.After-read → Step
-called c = readCall (start c .args .f .now) (start c .args .t .now) (unflatten (start c .args .lent .now))
+called c = readCall (fields c) (trims c) (lent c)
 
 stepped : (c : tie.After-read) → c .read .result ≡ called c
 stepped c =
     let s = start c .args in
-    c .read .ensures ∙ ap (readCall (s .f .now) (s .t .now)) (c .before .unpack .ensures .0)
+    c .read .ensures
+    ∙ ap (λ (r : Session). readCall (lentTable r (s .f .now)) (lentTable r (s .t .now)) r)
+    (c .before .unpack .ensures .0)
 
 -- what stands in the lent slice: the record of a read block, or what stood there
 written : (c : tie.At-match-came) → c .match .lent ≡ leftIn (start (c .before) .args .lent .now) (called (c .before))
@@ -47,11 +61,11 @@ written c =
     w .7 ∙ w .4 .ensures ∙ sym (accepted-left l r accepted) ∙ ap (leftIn l) e)
     (λ w.
     let same = ap (λ (x : Step). x .answer) e in
-    let other = not-read (s .f .now) (s .t .now) (unflatten l) (r .answer) same (w .0 .keys2) in
+    let other = not-read (fields (c .before)) (trims (c .before)) (unflatten l) (r .answer) same (w .0 .keys2) in
     let quiet = sym (ap (λ (x : Step). wasRead (x .answer)) e) ∙ other in
     let at = c .before .before in
     let long : flatSize ≤ length l = omega (arith, at .before .before .if1 .left) in
-    w .1 ∙ sym (read-left l (at .unpack .ensures .1) long (s .f .now) (s .t .now) quiet))
+    w .1 ∙ sym (read-left l (at .unpack .ensures .1) long (fields (c .before)) (trims (c .before)) quiet))
     (c .match .came)
 
 short-requires : tie.Need-short-requires

@@ -3,6 +3,8 @@ use mathlib.Core.Path.{_≡_, sym, ap, _∙_}
 use mathlib.Core.Bool.{Bool}
 use native.Mathlib.Omega.{arith}
 use borrow.Author.Tests.{eq-eqb, ne-eqb}
+use Rattle.rules.specs.Tables.{Table}
+use Rattle.rules.specs.Session.{lentTable}
 use Rattle.rules.specs.Calls.{lentCode}
 use Rattle.session_laws.specs.Calls.{Lent, lent-out}
 use Rattle.checks.specs.Codes.{lentOf, lent-is}
@@ -14,21 +16,26 @@ use Rattle.flat_show.proofs.put_shown.Tie as tie
 abbrev start : tie.After-lent-code → tie.Start
 start c = c .before .before .before
 
+-- the lent numbers as tables on the record's card
+abbrev fields : tie.After-lent-code → Table
+fields c = lentTable (start c .args .s) (start c .args .f .now)
+
+abbrev trims : tie.After-lent-code → Table
+trims c = lentTable (start c .args .s) (start c .args .t .now)
+
 -- what the checks answer is the rule's
-code-is : (c : tie.After-lent-code)
-    → let s = start c .args in c .lent-code .result ≡ lentCode (s .f .now) (s .t .now) (s .s)
+code-is : (c : tie.After-lent-code) → c .lent-code .result ≡ lentCode (fields c) (trims c) (start c .args .s)
 code-is c =
     let s = start c .args in
     c .lent-code .ensures
     ∙ ap (λ (b : Bool). lentOf b (s .s .rows) (s .f .now) (s .t .now)) (c .before .fits2 .ensures)
     ∙ lent-is (s .f .now) (s .t .now) (s .s)
 
-passed : (c : tie.Else1)
-    → let s = start (c .before) .args in lentCode (s .f .now) (s .t .now) (s .s) ≡ 0
+passed : (c : tie.Else1) → lentCode (fields (c .before)) (trims (c .before)) (start (c .before) .args .s) ≡ 0
 passed c = sym (code-is (c .before)) ∙ c .if1 .left
 
-known : (c : tie.Else1) → let s = start (c .before) .args in Lent (s .f .now) (s .t .now) (s .s)
-known c = let s = start (c .before) .args in lent-out (s .f .now) (s .t .now) (s .s) (passed c)
+known : (c : tie.Else1) → Lent (fields (c .before)) (trims (c .before)) (start (c .before) .args .s)
+known c = lent-out (fields (c .before)) (trims (c .before)) (start (c .before) .args .s) (passed c)
 
 fits-requires : tie.Need-fits-requires
 fits-requires c κs = search needs

@@ -3,6 +3,7 @@ use mathlib.Core.Path.{ap, _∙_}
 use mir.Syntax.{w32}
 use mir.Facts.{toZ-ofZ}
 use Rattle.rules.specs.declared.Session.{Session}
+use Rattle.rules.specs.Session.{lentTable}
 use Rattle.record_layout.specs.Flat.{pairSize, flatSize, laidAt}
 use Rattle.flat_calls.specs.Calls.{shownNumbers, showSaid, showNumber, showWrites}
 use Rattle.flat_calls.specs.Lengths.{left-long, right-long}
@@ -38,11 +39,13 @@ unfolding showNumber showWrites showSaid
 returns-2 c =
     let at = c .before .before .before .before .before in
     let s = at .before .before .before .args in
+    let f = s .f .now in
+    let t = s .t .now in
     let long = at .if1 .left in (
       simp long,
       simp long
           (c .before .before .put-shown .ensures
-          ∙ ap (λ (r : Session). laidAt 0 (shownNumbers (s .f .now) (s .t .now) r) (s .place .now))
+          ∙ ap (λ (r : Session). laidAt 0 (shownNumbers (lentTable r f) (lentTable r t) r) (s .place .now))
           (c .before .before .before .before .unpack .ensures .0)),
     )
 

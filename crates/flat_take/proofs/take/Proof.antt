@@ -5,7 +5,10 @@ use lib.ListN.{length}
 use mir.Syntax.{w32}
 use mir.Facts.{toZ-ofZ}
 use Rattle.rules.specs.declared.Answer.{Answer}
+use Rattle.rules.specs.declared.Session.{Session}
 use Rattle.rules.specs.declared.Step.{Step}
+use Rattle.rules.specs.Tables.{Table}
+use Rattle.rules.specs.Session.{lentTable}
 use Rattle.rules.specs.Numbers.{said, signed}
 use Rattle.rules.specs.Query.{wasGiven}
 use Rattle.rules.specs.Calls.{takeCall}
@@ -20,17 +23,28 @@ use borrow.Author.Needs.{needs, sfits-of}
 use Rattle.flat_take.proofs.take.Statement.{statement}
 use Rattle.flat_take.proofs.take.Tie as tie
 
--- where the take was called from, and what it answers
+-- where the take was called from; the record lent, the two tables on its card, and what the take answers
 abbrev start : tie.After-take → tie.Start
 start c = let at = c .before .before .before in at .before .before .before
 
+abbrev lent : tie.After-take → Session
+lent c = unflatten (start c .args .lent .now)
+
+abbrev fields : tie.After-take → Table
+fields c = lentTable (lent c) (start c .args .f .now)
+
+abbrev trims : tie.After-take → Table
+trims c = lentTable (lent c) (start c .args .t .now)
+
 abbrev called : tie.After-take → Step
-called c = takeCall (start c .args .f .now) (start c .args .t .now) (unflatten (start c .args .lent .now))
+called c = takeCall (fields c) (trims c) (lent c)
 
 stepped : (c : tie.After-take) → c .take .result ≡ called c
 stepped c =
     let s = start c .args in
-    c .take .ensures ∙ ap (takeCall (s .f .now) (s .t .now)) (c .before .unpack .ensures .0)
+    c .take .ensures
+    ∙ ap (λ (r : Session). takeCall (lentTable r (s .f .now)) (lentTable r (s .t .now)) r)
+    (c .before .unpack .ensures .0)
 
 -- what stands in the lent slice: the record after a pair was given, or what stood there
 written : (c : tie.At-match-came) → c .match .lent ≡ leftIn (start (c .before) .args .lent .now) (called (c .before))
@@ -47,7 +61,7 @@ written c =
     let quiet = sym (ap (λ (x : Step). wasGiven (x .answer)) e) ∙ not-given (r .answer) (w .0 .keys2) in
     let at = c .before .before in
     let long = left-long flatSize pairSize l (s .pair .now) (at .before .before .if1 .left) in
-    w .1 ∙ sym (take-left l (at .unpack .ensures .1) long (s .f .now) (s .t .now) quiet))
+    w .1 ∙ sym (take-left l (at .unpack .ensures .1) long (fields (c .before)) (trims (c .before)) quiet))
     (c .match .came)
 
 short-requires : tie.Need-short-requires

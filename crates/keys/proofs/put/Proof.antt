@@ -7,6 +7,10 @@ use borrow.Author.Needs.{needs}
 use Rattle.keys.proofs.put.Statement.{statement}
 use Rattle.keys.proofs.put.Tie as tie
 
+-- where the new pair's key is known, from the search for its place
+abbrev keyed : tie.After-find → tie.After-key
+keyed c = c .before .before .before
+
 key-requires : tie.Need-key-requires
 key-requires c κs = search needs
 
@@ -15,9 +19,9 @@ find-requires c κs = search needs
 
 returns : tie.Need-returns
 returns c =
-    let s = c .before .before .before .before .before in
+    let s = keyed (c .before) .before in
     let a = s .args .a .now in
-    let k = c .before .before .before .before .key in
+    let k = keyed (c .before) .key in
     let i = c .before .find in
     P.unchanged (s .args .n) (s .args .room) (s .args .p) a (s .pre) (omega arith) (k .result) (i .result) (k .ensures)
     (i .ensures .0) (c .if1 .taken)
@@ -30,10 +34,11 @@ add-result c = search needs
 
 returns-2 : tie.Need-returns-2
 returns-2 c =
-    let s = c .before .before .before .before .before .before .before .before in
+    let found = c .before .before .before .before in
+    let s = keyed found .before in
     let a = s .args .a .now in
-    let k = c .before .before .before .before .before .before .before .key in
-    let i = c .before .before .before .before .find in
+    let k = keyed found .key in
+    let i = found .find in
     let long : length a ≡ 64 = omega arith in
     P.grown (s .args .n) (s .args .room) (s .args .p) a (s .pre) long (k .result) (i .result) (k .ensures)
     (i .ensures .0)
@@ -47,10 +52,11 @@ shift-requires-2 c κs = search needs
 
 returns-3 : tie.Need-returns-3
 returns-3 c =
-    let s = c .before .before .before .before .before .before .before .before in
+    let found = c .before .before .before .before in
+    let s = keyed found .before in
     let a = s .args .a .now in
-    let k = c .before .before .before .before .before .before .before .key in
-    let i = c .before .before .before .before .find in
+    let k = keyed found .key in
+    let i = found .find in
     let long : length a ≡ 64 = omega arith in
     P.replaced (s .args .n) (s .args .room) (s .args .p) a (s .pre) long (k .result) (i .result) (k .ensures)
     (i .ensures .0)

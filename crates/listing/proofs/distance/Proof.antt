@@ -2,7 +2,8 @@
 use mathlib.Core.Path.{_≡_}
 use Prim.Native.Nat.{_-_, _<_, _^_, min}
 use native.Mathlib.Omega.{arith}
-use Rattle.rules.specs.Tables.{row, squaredDistance}
+use Rattle.rules.specs.Widths.{rows-row}
+use Rattle.rules.specs.Tables.{table, row, squaredDistance}
 use Rattle.listing.specs.Shown.{lineOf}
 use borrow.Author.Needs.{needs}
 use Rattle.listing.proofs.distance.Statement.{statement}
@@ -15,7 +16,9 @@ cast-shade : tie.Need-cast-shade
 cast-shade c = search needs
 
 shade-requires : tie.Need-shade-requires
-shade-requires c κs = search needs
+shade-requires c κs =
+    let s = c .before in
+    rows-row (table (s .args .n) (s .args .f .now)) _ _ (omega (arith, s .pre .field .0)) (s .pre .field .1)
 
 sub-shade-2 : tie.Need-sub-shade-2
 sub-shade-2 c = search needs
@@ -24,7 +27,9 @@ cast-shade-2 : tie.Need-cast-shade-2
 cast-shade-2 c = search needs
 
 shade-requires-2 : tie.Need-shade-requires-2
-shade-requires-2 c κs = search needs
+shade-requires-2 c κs =
+    let s = c .before .before .before in
+    rows-row (table (s .args .n) (s .args .t .now)) _ _ (omega (arith, s .pre .trim .0)) (s .pre .trim .1)
 
 squared-distance-requires : tie.Need-squared-distance-requires
 squared-distance-requires c κs = search needs
@@ -33,11 +38,12 @@ returns : tie.Need-returns
 unfolding lineOf
 returns c =
     let s = c .before .before .before .before .before in
-    let x = row (s .args .f .now) (s .args .p .field - 1) .shade in
-    let y = row (s .args .t .now) (s .args .p .trim - 1) .shade in
+    let x = row (table (s .args .n) (s .args .f .now)) (s .args .p .field - 1) .shade in
+    let y = row (table (s .args .n) (s .args .t .now)) (s .args .p .trim - 1) .shade in
     let small : squaredDistance x y < 2 ^ 64 = s .pre .small in
     let e : c .squared-distance .result ≡ min (squaredDistance x y) (2 ^ 64 - 1) =
-    simp (c .before .before .before .shade .ensures, c .before .shade2 .ensures) at (c .squared-distance .ensures) in
+    simp (c .before .before .before .shade .ensures .0, c .before .shade2 .ensures .0) at
+    (c .squared-distance .ensures) in
     omega arith
 
 pub distance-spec : {M : Type 1} → statement M

@@ -5,6 +5,7 @@ use Prim.Native.Nat.{ℕ, _+_, _*_, _-_, _≤_}
 use native.Mathlib.Omega.{arith}
 use lib.ListN.{length, getD}
 use borrow.Author.Needs.{needs}
+use Rattle.rules.specs.Tables.{table}
 use Rattle.rules.specs.Session.{noPair, placeCount}
 use Rattle.rules.specs.Query.{list}
 use Rattle.printing.specs.Put.{putAt}
@@ -17,19 +18,28 @@ use Rattle.listing.proofs.put_pairs.Statement.{statement}
 use Rattle.listing.proofs.put_pairs.Tie as tie
 
 abbrev Inv-loop : tie.InvT-loop
-Inv-loop out₀ at f t run i₀ out i =
-    (run .count ≤ placeCount) × Writing (lineAt f t) lineLength at (list (run .query) f t) out₀ i out
+Inv-loop out₀ at n f t run i₀ out i =
+    (run .count ≤ placeCount)
+    × Writing (lineAt (table n f) (table n t)) lineLength at (list (run .query) (table n f) (table n t)) out₀ i out
 
 abbrev μ-loop : tie.MeasureT-loop
-μ-loop out₀ at f t run i₀ out i = run .count - i
+μ-loop out₀ at n f t run i₀ out i = run .count - i
+
+-- the start of the call, from where its loop stands
+abbrev start : tie.At-loop Inv-loop μ-loop → tie.Start Inv-loop μ-loop
+start c = c .before .before
+
+-- where the turn began, from the line put
+abbrev turn : tie.After-put-line Inv-loop μ-loop → tie.In-loop Inv-loop μ-loop
+turn c = c .before .before .before .before
 
 loop-holds : tie.Need-loop-holds Inv-loop μ-loop
 loop-holds c =
     let s = c .before .args in
-    let f = s .f .now in
-    let t = s .t .now in
-    let l = list (s .t5 .query) f t in (
-      count-few f t (s .t5) (c .before .pre .1),
+    let f = table (s .n) (s .f .now) in
+    let t = table (s .n) (s .t .now) in
+    let l = list (s .t6 .query) f t in (
+      count-few f t (s .t6) (c .before .pre .1),
       writing-starts (lineAt f t) lineLength (s .at) l (s .out .now),
     )
 
@@ -47,9 +57,10 @@ cast-line-of c = search needs
 
 line-of-requires : tie.Need-line-of-requires Inv-loop μ-loop
 line-of-requires c κs =
-    let s = c .before .before .before .before in
+    let s = start (c .before .before) in
     let i = c .before .before .loop .i in
-    pair-at (s .args .f .now) (s .args .t .now) (s .args .t5) (s .pre .1) i (c .before .loop-test .taken) .shown
+    pair-at (table (s .args .n) (s .args .f .now)) (table (s .args .n) (s .args .t .now)) (s .args .t6) (s .pre .1) i
+    (c .before .loop-test .taken) .shown
 
 mul-put-line : tie.Need-mul-put-line Inv-loop μ-loop
 mul-put-line c = search needs
@@ -61,7 +72,7 @@ put-line-requires : tie.Need-put-line-requires Inv-loop μ-loop
 put-line-requires c κs =
     let at = c .before .before .before in
     let l = at .before .loop in
-    omega (arith, at .loop-test .taken, l .inv .0, l .inv .1 .kept, at .before .before .before .pre .0)
+    omega (arith, at .loop-test .taken, l .inv .0, l .inv .1 .kept, start (at .before) .pre .0)
 
 add-i : tie.Need-add-i Inv-loop μ-loop
 add-i c = search needs
@@ -73,12 +84,12 @@ loop-again : tie.Need-loop-again Inv-loop μ-loop
 loop-again c =
     let line = c .before .before .before .before .line-of in
     let put = c .before .before .put-line in
-    let at = c .before .before .before .before .before .before in
+    let at = turn (c .before .before) in
     let l = at .before .loop in
-    let s = at .before .before .before in
-    let f = s .args .f .now in
-    let t = s .args .t .now in
-    let run = s .args .t5 in
+    let s = start (at .before) in
+    let f = table (s .args .n) (s .args .f .now) in
+    let t = table (s .args .n) (s .args .t .now) in
+    let run = s .args .t6 in
     let p = pair-at f t run (s .pre .1) (l .i) (at .loop-test .taken) in
     let bytes : lineBytes (line .result) ≡ lineAt f t (l .i) (getD (list (run .query) f t) (l .i) noPair) =
     ap lineBytes (line .ensures)
@@ -92,10 +103,10 @@ same-length c = c .before .loop .inv .1 .kept
 
 returns : tie.Need-returns Inv-loop μ-loop
 returns c =
-    let s = c .before .before .before in
-    let f = s .args .f .now in
-    let t = s .args .t .now in
-    let run = s .args .t5 in
+    let s = start (c .before) in
+    let f = table (s .args .n) (s .args .f .now) in
+    let t = table (s .args .n) (s .args .t .now) in
+    let run = s .args .t6 in
     let l = c .before .loop in
     let all = list (run .query) f t in
     let done : length all ≤ l .i = omega (arith, c .loop-test .left, counted f t run (s .pre .1)) in

@@ -2,6 +2,9 @@
 use mathlib.Core.Path.{subst₂}
 use mathlib.Core.List.{List}
 use lib.IntN.{ℤ}
+use native.Mathlib.Omega.{arith}
+use Rattle.rules.specs.Tables.{table}
+use Rattle.rules.specs.Widths.{has-row}
 use Rattle.skipping.specs.Effect.{Effect}
 use borrow.Author.Needs.{needs}
 use Rattle.meeting.proofs.effect_parts.Statement.{statement}
@@ -14,12 +17,18 @@ rows-requires-2 : tie.Need-rows-requires-2
 rows-requires-2 c κs = search needs
 
 effect-requires : tie.Need-effect-requires
-effect-requires c κs = search needs
+effect-requires c κs =
+    let s = c .before .before in
+    let n = s .args .n in (
+      has-row (table n (c .before .rows .result .now)) 0
+          (omega (arith, c .before .rows .ensures .0 .1, s .pre .0 .some)),
+      has-row (table n (c .rows2 .result .now)) 0 (omega (arith, c .rows2 .ensures .0 .1, s .pre .1 .some)),
+    )
 
 returns : tie.Need-returns
 returns c =
     let s = c .before .before .before .args in
-    subst₂ (λ (x y : List ℤ). Effect (s .full) (s .low) (s .q) x y (c .effect .result))
+    subst₂ (λ (x y : List ℤ). Effect (s .full) (s .low) (s .q) (table (s .n) x) (table (s .n) y) (c .effect .result))
     (c .before .before .rows .ensures .0 .0) (c .before .rows2 .ensures .0 .0) (c .effect .ensures)
 
 pub effect-parts-spec : {M : Type 1} → statement M

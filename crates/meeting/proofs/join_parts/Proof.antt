@@ -1,5 +1,6 @@
 -- `join_parts` meets its contract: the parts are the blocks. Assumes nothing.
 use mathlib.Core.Path.{sym, subst}
+use Rattle.rules.specs.Tables.{table}
 use Rattle.block.specs.Block.{Rows}
 use Rattle.meeting.specs.Meets.{part-rows}
 use borrow.Author.Needs.{needs}
@@ -17,10 +18,15 @@ join-requires c κs =
     let s = c .before .before .before in
     let a = s .args in
     let fits = s .pre .1 in
-    let fields = subst (Rows (a .x .from)) (sym (c .before .before .rows .ensures .0 .0)) in
-    let trims = subst (Rows (a .y .from)) (sym (c .before .rows2 .ensures .0 .0)) in (
+    let fields = subst (λ l. Rows (a .x .from) (table (a .n) l)) (sym (c .before .before .rows .ensures .0 .0)) in
+    let trims = subst (λ l. Rows (a .y .from) (table (a .n) l)) (sym (c .before .rows2 .ensures .0 .0)) in (
       s .pre .0,
-      (fits .0, fields (part-rows (a .f .now) (a .x) (fits .1)), trims (part-rows (a .t .now) (a .y) (fits .2))),
+      (
+        fits .0,
+        fits .1,
+        fields (part-rows (table (a .n) (a .f .now)) (a .x) (fits .2)),
+        trims (part-rows (table (a .n) (a .t .now)) (a .y) (fits .3)),
+      ),
     )
 
 returns : tie.Need-returns

@@ -2,13 +2,14 @@
 -- Assumes nothing.
 use mathlib.Core.Path.{_≡_, refl, sym, ap, ap₂, _∙_}
 use mathlib.Core.Bool.{cond}
-use mathlib.Core.List.{List}
 use Prim.Native.Nat.{ℕ, _+_, _*_, _-_, _≤_, _<_, _^_}
-use lib.IntN.{ℤ}
 use native.Mathlib.Omega.{arith}
 use borrow.Author.Needs.{needs}
 use Rattle.rules.specs.declared.Query.{Query}
 use Rattle.rules.specs.declared.Session.{Session}
+use Rattle.rules.specs.Tables.{Table}
+use Rattle.rules.specs.Widths.{rows-less}
+use Rattle.rules.specs.Session.{lentTable}
 use Rattle.rules.specs.Read.{meet, meetBlocksBy, meetBlocks}
 use Rattle.session_laws.specs.Read.{blocks-keep, blocks-joined}
 use Rattle.meeting.specs.declared.Span.{Span}
@@ -27,17 +28,34 @@ Inv-loop field s f t new depth n keys₀ block room m₀ c₀ i₀ keys m c i =
     × (room ≡ s .query .k - s .out)
     × (c ≡ i * block)
     × (m .held ≤ room)
-    × Stands (meetBlocks field s (spanBlock (cond field f t) new) (cond field t f) depth i) m keys
+    × Stands
+    (meetBlocks field s (spanBlock (cond field (lentTable s f) (lentTable s t)) new)
+    (cond field (lentTable s t) (lentTable s f)) depth i)
+    m keys
 
 abbrev μ-loop : tie.MeasureT-loop
 μ-loop field s f t new depth n keys₀ block room m₀ c₀ i₀ keys m c i = n - i
 
--- the table that is read, and the other one
-abbrev own : tie.Start Inv-loop μ-loop → List ℤ
-own s = cond (s .args .field) (s .args .f .now) (s .args .t .now)
+-- the start of the call, from where its loop stands
+abbrev start : tie.At-loop Inv-loop μ-loop → tie.Start Inv-loop μ-loop
+start c = c .before .before .before .before
 
-abbrev other : tie.Start Inv-loop μ-loop → List ℤ
-other s = cond (s .args .field) (s .args .t .now) (s .args .f .now)
+-- where the loop stood at the head of the turn, from the end of the turn's block
+abbrev turn : tie.After-lesser Inv-loop μ-loop → tie.At-loop Inv-loop μ-loop
+turn c = c .before .before
+
+-- the two tables: the one that is read, and the other one
+abbrev fields : tie.Start Inv-loop μ-loop → Table
+fields s = lentTable (s .args .s) (s .args .f .now)
+
+abbrev trims : tie.Start Inv-loop μ-loop → Table
+trims s = lentTable (s .args .s) (s .args .t .now)
+
+abbrev own : tie.Start Inv-loop μ-loop → Table
+own s = cond (s .args .field) (fields s) (trims s)
+
+abbrev other : tie.Start Inv-loop μ-loop → Table
+other s = cond (s .args .field) (trims s) (fields s)
 
 -- the record after i blocks
 abbrev after : tie.Start Inv-loop μ-loop → ℕ → Session
@@ -49,9 +67,9 @@ ready s i =
     (s .pre .0 .0)
 
 -- the turn's block begins above the depth
-begins : (c : tie.In-loop Inv-loop μ-loop) → c .before .loop .c < c .before .before .before .before .before .args .depth
+begins : (c : tie.In-loop Inv-loop μ-loop) → c .before .loop .c < start (c .before) .args .depth
 begins c =
-    let s = c .before .before .before .before .before in
+    let s = start (c .before) in
     let v = c .before .loop in
     let low =
     block-begins (s .args .n) (s .args .s .query .block) (s .args .depth) (v .i) (s .pre .1 .1 .2)
@@ -61,7 +79,7 @@ begins c =
 -- the joined count has room for what is left
 room : (c : tie.In-loop Inv-loop μ-loop) → c .before .loop .m .joined < 2 ^ 63
 room c =
-    let s = c .before .before .before .before .before in
+    let s = start (c .before) in
     let v = c .before .loop in
     let few =
     blocks-joined (s .args .field) (s .args .s) (spanBlock (own s) (s .args .new)) (other s) (s .args .depth) (v .i) in
@@ -73,31 +91,30 @@ old c = record { from = c .before .before .loop .c; to = c .lesser .result }
 
 -- it lies within its table, and so do the two blocks as field and trim
 old-inside : (c : tie.After-lesser Inv-loop μ-loop)
-    → let at = c .before .before .before .before .before in
-    SpanFits (old c) (other (at .before))
+    → SpanFits (old c) (other (start (turn c)))
 old-inside c =
-    let s = c .before .before .before .before .before .before in
+    let s = start (turn c) in
     let least = s .pre .0 .0 .query .block .0 in
     record {
       some = omega (arith, begins (c .before), c .lesser .ensures, least);
       few = omega (arith, c .lesser .ensures, s .pre .1 .1 .0);
-      within = omega (arith, c .lesser .ensures, s .pre .1 .1 .1);
+      within =
+          rows-less (other s) (c .lesser .result) (s .args .depth) (omega (arith, c .lesser .ensures))
+          (s .pre .1 .1 .1);
       fit = λ i h. s .pre .1 .0 .1 i (omega (arith, h, c .lesser .ensures));
     }
 
 inside : (c : tie.After-either2 Inv-loop μ-loop)
-    → let at = c .before .before .before .before .before in
-    SpanFits (c .before .either .result)
-    (at .before .before .before .args .f .now)
-    × SpanFits (c .either2 .result) (at .before .before .before .args .t .now)
+    → let s = start (turn (c .before .before)) in
+    SpanFits (c .before .either .result) (fields s) × SpanFits (c .either2 .result) (trims s)
 inside c =
-    let s = c .before .before .before .before .before .before .before .before in
-    let a = s .args in
-    let l = c .before .before in (
+    let l = c .before .before in
+    let s = start (turn l) in
+    let a = s .args in (
       rw (c .before .either .ensures)
-          (inside-field (a .f .now) (a .t .now) (a .new) (old l) (a .field) (s .pre .1 .0 .0) (old-inside l)),
+          (inside-field (fields s) (trims s) (a .new) (old l) (a .field) (s .pre .1 .0 .0) (old-inside l)),
       rw (c .either2 .ensures)
-          (inside-trim (a .f .now) (a .t .now) (a .new) (old l) (a .field) (s .pre .1 .0 .0) (old-inside l)),
+          (inside-trim (fields s) (trims s) (a .new) (old l) (a .field) (s .pre .1 .0 .0) (old-inside l)),
     )
 
 cast-block : tie.Need-cast-block Inv-loop μ-loop
@@ -126,7 +143,7 @@ loop-holds c =
 
 add-lesser : tie.Need-add-lesser Inv-loop μ-loop
 add-lesser c =
-    let s = c .before .before .before .before .before in
+    let s = start (c .before) in
     record { fits = omega (arith, begins c, s .pre .1 .1 .0, s .pre .0 .0 .query .block .1) }
 
 lesser-requires : tie.Need-lesser-requires Inv-loop μ-loop
@@ -141,20 +158,21 @@ either-requires-2 c κs = search needs
 meet-parts-requires : tie.Need-meet-parts-requires Inv-loop μ-loop
 meet-parts-requires c κs =
     let parts = inside (c .before) in
-    let s = c .before .before .before .before .before .before .before .before .before in
-    let v = c .before .before .before .before .before .loop in (
+    let at = turn (c .before .before .before) in
+    let s = start at in
+    let v = at .loop in (
       (
         v .inv .4,
         omega (arith, s .pre .0 .0 .query .k .1),
         room (c .before .before .before .before),
         v .inv .5 .pairs .long,
       ),
-      (s .pre .0 .0 .query, parts .0, parts .1),
+      (s .pre .0 .0 .query, s .pre .0 .0 .card, parts .0, parts .1),
     )
 
 add-c : tie.Need-add-c Inv-loop μ-loop
 add-c c =
-    let s = c .before .before .before .before .before .before .before .before .before .before in
+    let s = start (turn (c .before .before .before .before)) in
     record {
       fits = omega (
         arith,
@@ -172,25 +190,25 @@ loop-less c = omega arith
 
 loop-again : tie.Need-loop-again Inv-loop μ-loop
 loop-again c =
-    let start = c .before .before .before .before .before .before .before .before .before .before in
-    let s = start .args in
-    let v = c .before .before .before .before .before .before .loop in
-    let l = c .before .before .before .before in
-    let x = c .before .before .before .either in
-    let y = c .before .before .either2 in
-    let new = spanBlock (own start) (s .new) in
-    let r = after start (v .i) in
-    let kept = blocks-keep (s .field) (s .s) new (other start) (s .depth) (v .i) in
+    let parts = c .before .before in
+    let l = parts .before .before in
+    let at = start (turn l) in
+    let s = at .args in
+    let v = turn l .loop in
+    let x = parts .before .either in
+    let y = parts .either2 in
+    let new = spanBlock (own at) (s .new) in
+    let r = after at (v .i) in
+    let kept = blocks-keep (s .field) (s .s) new (other at) (s .depth) (v .i) in
     let left : r .query .k - r .out ≡ s .s .query .k - s .s .out =
     ap₂ (λ (q : Query) (out : ℕ). q .k - out) (kept .query) (kept .out) in
     let met =
-    c .meet-parts .ensures .meets r (ready start (v .i)) (kept .query) left
+    c .meet-parts .ensures .meets r (ready at (v .i)) (kept .query) left
     (v .inv .5) in
-    let as-rule : meet r (spanBlock (s .f .now) (x .result)) (spanBlock (s .t .now) (y .result)) ≡ after start
-    (v .i + 1) =
-    ap₂ (λ (a b : Span). meet r (spanBlock (s .f .now) a) (spanBlock (s .t .now) b)) (x .ensures) (y .ensures)
-    ∙ parts-meet (s .f .now) (s .t .now) (s .new) (old l) (s .field) r
-    ∙ blocks-next (s .field) (s .s) new (other start) (s .depth) (v .i) (v .c) (l .lesser .result)
+    let as-rule : meet r (spanBlock (fields at) (x .result)) (spanBlock (trims at) (y .result)) ≡ after at (v .i + 1) =
+    ap₂ (λ (a b : Span). meet r (spanBlock (fields at) a) (spanBlock (trims at) b)) (x .ensures) (y .ensures)
+    ∙ parts-meet (fields at) (trims at) (s .new) (old l) (s .field) r
+    ∙ blocks-next (s .field) (s .s) new (other at) (s .depth) (v .i) (v .c) (l .lesser .result)
     (s .s .query .block) r _ refl (v .inv .3) refl (l .lesser .ensures) refl in (
       omega arith,
       refl,
@@ -202,9 +220,8 @@ loop-again c =
 
 returns : tie.Need-returns Inv-loop μ-loop
 returns c =
-    let start = c .before .before .before .before .before in
     let v = c .before .loop in
-    let e : v .i ≡ start .args .n = omega arith in
+    let e : v .i ≡ start (c .before) .args .n = omega arith in
     rw (sym e) (v .inv .5)
 
 pub meet-blocks-spec : {M : Type 1} → statement M

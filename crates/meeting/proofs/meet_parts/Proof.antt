@@ -3,6 +3,7 @@ use mathlib.Core.Path.{sym}
 use lib.Dec.{eqb}
 use Prim.Native.Nat.{_+_, _%_}
 use lib.ListN.{getD}
+use Rattle.rules.specs.Tables.{table}
 use Rattle.keys.specs.Held.{pairOf}
 use Rattle.meeting.specs.Side.{spanBlock}
 use Rattle.skipping.specs.Effect.{Effect}
@@ -10,6 +11,10 @@ use Rattle.meeting.specs.Stands.{meets-joined, meets-counted}
 use borrow.Author.Needs.{needs}
 use Rattle.meeting.proofs.meet_parts.Statement.{statement}
 use Rattle.meeting.proofs.meet_parts.Tie as tie
+
+-- the start of the call, from what the block pair comes to
+abbrev start : tie.After-effect-parts → tie.Start
+start c = c .before .before .before .before .before
 
 add-last : tie.Need-add-last
 add-last c = search needs
@@ -29,33 +34,36 @@ effect-parts-requires c κs = search needs
 join-parts-requires : tie.Need-join-parts-requires
 join-parts-requires c κs = search needs
 
-add-t20 : tie.Need-add-t20
-add-t20 c = search needs
+add-t21 : tie.Need-add-t21
+add-t21 c = search needs
 
 -- the effect, of the last key's sum
-effect : (c : tie.After-effect-parts) → let a = c .before .before .before .before .before .args in
+effect : (c : tie.After-effect-parts) → let a = start c .args in
     Effect (eqb (a .m .held) (a .room)) (pairOf (getD (a .keys .now) ((a .m .held + 63) % 64) 0) .sum) (a .q)
-    (spanBlock (a .f .now) (a .x) .rows) (spanBlock (a .t .now) (a .y) .rows) (c .effect-parts .result)
+    (spanBlock (table (a .n) (a .f .now)) (a .x) .rows) (spanBlock (table (a .n) (a .t .now)) (a .y) .rows)
+    (c .effect-parts .result)
 effect c = rw (sym (c .before .pair .ensures)) (c .effect-parts .ensures)
 
 returns : tie.Need-returns
 returns c =
-    let a = c .before .before .before .before .before .before .before .before .before .args in
-    meets-joined (a .q) (a .room) (spanBlock (a .f .now) (a .x)) (spanBlock (a .t .now) (a .y)) (a .m)
-    (a .keys .now) (c .before .before .before .before .effect-parts .result)
-    (effect (c .before .before .before .before)) (c .before .before .before .if1 .taken)
+    let at = c .before .before .before .before in
+    let a = start at .args in
+    meets-joined (a .q) (a .room) (spanBlock (table (a .n) (a .f .now)) (a .x))
+    (spanBlock (table (a .n) (a .t .now)) (a .y)) (a .m)
+    (a .keys .now) (at .effect-parts .result) (effect at) (c .before .before .before .if1 .taken)
     (c .before .join-parts .result) _ (c .before .join-parts .ensures)
 
-add-t17 : tie.Need-add-t17
-add-t17 c = search needs
+add-t18 : tie.Need-add-t18
+add-t18 c = search needs
 
 returns-2 : tie.Need-returns-2
 returns-2 c =
-    let s = c .before .before .before .before .before .before .before in
+    let at = c .before .before in
+    let s = start at in
     let a = s .args in
-    meets-counted (a .q) (a .room) (spanBlock (a .f .now) (a .x)) (spanBlock (a .t .now) (a .y)) (a .m)
-    (a .keys .now) (c .before .before .effect-parts .result)
-    (effect (c .before .before)) (c .before .if1 .left) (s .pre .0 .0) (s .pre .0 .3)
+    meets-counted (a .q) (a .room) (spanBlock (table (a .n) (a .f .now)) (a .x))
+    (spanBlock (table (a .n) (a .t .now)) (a .y)) (a .m)
+    (a .keys .now) (at .effect-parts .result) (effect at) (c .before .if1 .left) (s .pre .0 .0) (s .pre .0 .3)
 
 pub meet-parts-spec : {M : Type 1} → statement M
 meet-parts-spec =
@@ -67,7 +75,7 @@ meet-parts-spec =
     pair-requires
     effect-parts-requires
     join-parts-requires
-    add-t20
+    add-t21
     returns
-    add-t17
+    add-t18
     returns-2)

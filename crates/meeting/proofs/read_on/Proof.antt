@@ -1,9 +1,13 @@
 -- `read_on` meets its contract: the new block and the other table's blocks are the rule's. Assumes nothing.
 use mathlib.Core.Bool.{cond}
-use Prim.Native.Nat.{_+_, _*_, _-_, _<_, _≤_}
+use mathlib.Core.List.{List}
+use Prim.Native.Nat.{ℕ, _+_, _*_, _-_, _<_, _≤_}
 use native.Mathlib.Nat.{div-mul-le-self}
 use native.Mathlib.Omega.{arith}
 use Rattle.rules.specs.declared.Session.{Session}
+use Rattle.rules.specs.Tables.{Table}
+use Rattle.rules.specs.Widths.{rows-less}
+use Rattle.rules.specs.Session.{lentTable}
 use Rattle.rules.specs.Read.{meetBlocks, rowsBetween, oldDepth, newDepth, blockCount, readTableBy}
 use Rattle.session_laws.specs.Read.{blocks-keep}
 use Rattle.choosing.specs.Ready.{Ready}
@@ -13,6 +17,17 @@ use Rattle.meeting.specs.Stands.{Stands, read-is}
 use borrow.Author.Needs.{needs}
 use Rattle.meeting.proofs.read_on.Statement.{statement}
 use Rattle.meeting.proofs.read_on.Tie as tie
+
+-- the start of the call, from the new depth
+abbrev start : tie.After-next-depth → tie.Start
+start c = c .before .before .before .before
+
+-- the table that is read, and the other one
+abbrev own : tie.Start → Table
+own s = let a = s .args in cond (a .field) (lentTable (a .s) (a .f .now)) (lentTable (a .s) (a .t .now))
+
+abbrev other : tie.Start → Table
+other s = let a = s .args in cond (a .field) (lentTable (a .s) (a .t .now)) (lentTable (a .s) (a .f .now))
 
 pick-requires : tie.Need-pick-requires
 pick-requires c κs = search needs
@@ -40,14 +55,15 @@ cast-meet-blocks-3 c = search needs
 
 meet-blocks-requires : tie.Need-meet-blocks-requires
 meet-blocks-requires c κs =
-    let s = c .before .before .before .before .before .before in
+    let at = c .before .before in
+    let s = start at in
     let due = s .pre .0 in
     let n = c .before .block-count in
-    let pick3 = c .before .before .before .pick3 in
+    let pick3 = at .before .pick3 in
     let deep = div-mul-le-self (pick3 .result + s .args .s .query .block - 1) (s .args .s .query .block) in
-    let e = c .before .before .next-depth .ensures in
-    let p = c .before .before .before .before .before .pick .ensures in
-    let q = c .before .before .before .before .pick2 .ensures in
+    let e = at .next-depth .ensures in
+    let p = at .before .before .before .pick .ensures in
+    let q = at .before .before .pick2 .ensures in
     let r = pick3 .ensures in
     let blocks : n .result * s .args .s .query .block < pick3 .result + s .args .s .query .block =
     rw (n .ensures .0) (omega (arith, due .ready .query .block .0)) in (
@@ -57,12 +73,12 @@ meet-blocks-requires c κs =
           record {
             some = omega (arith, due .left, due .ready .query .block .0);
             few = omega (arith, due .few);
-            within = omega (arith, due .rows);
+            within = rows-less (own s) _ _ (omega (arith, due .left)) (due .rows);
             fit = λ i h. s .pre .1 .new i (omega (arith, h));
           },
           λ i h. s .pre .1 .other i (omega (arith, h)),
         ),
-        (omega (arith, due .other-few), omega (arith, due .other-rows), blocks),
+        (omega (arith, due .other-few), rows-less (other s) _ _ (omega arith) (due .other-rows), blocks),
       ),
     )
 
@@ -78,32 +94,35 @@ met s =
     let a = s .args in
     let depth = otherDepth (a .field) (a .s) in
     meetBlocks (a .field) (a .s)
-    (rowsBetween (cond (a .field) (a .f .now) (a .t .now)) (oldDepth (a .field) (a .s)) (newDepth (a .field) (a .s)))
-    (cond (a .field) (a .t .now) (a .f .now)) depth (blockCount (a .s .query .block) depth)
+    (rowsBetween (own s) (oldDepth (a .field) (a .s)) (newDepth (a .field) (a .s))) (other s) depth
+    (blockCount (a .s .query .block) depth)
 
 ready : (s : tie.Start) → Ready (met s)
 ready s = blocks-ready (s .args .field) (s .args .s) _ _ _ _ (s .pre .0 .ready)
 
+-- the keys that the meeting leaves, its last argument
+abbrev keys : tie.After-meet-blocks → List ℕ
+keys c =
+    let after-new = c .meet-blocks .last .1 .1 .1 .1 .1 in
+    after-new .1 .1 .0
+
 -- the numbers and keys stand for it
 stands : (c : tie.After-meet-blocks)
-    → let at = c .before .before .before .before .before in
-    Stands (met (at .before .before)) (c .meet-blocks .result)
-    (c .meet-blocks .last .1 .1 .1 .1 .1 .1 .1 .0)
+    → Stands (met (start (c .before .before .before))) (c .meet-blocks .result) (keys c)
 stands c =
-    let at = c .before .before .before .before .before in
+    let at = c .before .before .before in
     simp (
       c .before .before .block-count .ensures .0,
-      c .before .before .before .next-depth .ensures,
-      c .before .before .before .before .pick3 .ensures,
-      c .before .before .before .before .before .pick2 .ensures,
-      at .before .pick .ensures,
+      at .next-depth .ensures,
+      at .before .pick3 .ensures,
+      at .before .before .pick2 .ensures,
+      at .before .before .before .pick .ensures,
     )
     at (c .meet-blocks .ensures)
 
 few : (c : tie.After-meet-blocks) → c .meet-blocks .result .held ≤ 64
 few c =
-    let at = c .before .before .before .before .before in
-    let k = ready (at .before .before) in
+    let k = ready (start (c .before .before .before)) in
     omega (arith, stands c .held, k .room, k .query .k .1)
 
 cast-t19 : tie.Need-cast-t19
@@ -113,16 +132,17 @@ returns : tie.Need-returns
 unfolding readTableBy
 returns c =
     let m = c .before .before .before in
-    let s = m .before .before .before .before .before .before .before in
+    let at = m .before .before .before in
+    let s = start at in
     let a = s .args in
     let is = read-is (a .field) (newDepth (a .field) (a .s)) (a .s) (met s) (blocks-keep (a .field) (a .s) _ _ _ _)
-    (ready s) (m .meet-blocks .result) (m .meet-blocks .last .1 .1 .1 .1 .1 .1 .1 .0) (stands m) in (
+    (ready s) (m .meet-blocks .result) (keys m) (stands m) in (
       simp (
         c .before .pick4 .ensures,
         c .before .before .down-to .ensures,
-        m .before .before .before .next-depth .ensures,
-        m .before .before .before .before .before .pick2 .ensures,
-        m .before .before .before .before .before .before .pick .ensures,
+        at .next-depth .ensures,
+        at .before .before .pick2 .ensures,
+        at .before .before .before .pick .ensures,
       )
           is,
       few m,

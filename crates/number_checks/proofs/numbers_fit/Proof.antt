@@ -90,17 +90,21 @@ mul-most c =
     let k = mul-le-mul (c .before .block-count .ensures .1) (c .block-count2 .ensures .1) in
     record { fits = omega arith }
 
+is-card-requires : tie.Need-is-card-requires
+is-card-requires c κs = search needs
+
 returns-4 : tie.Need-returns-4
 unfolding numbersFit
 returns-4 c =
     let at = c .before .before .before .before .before in
     simp (
-      eq-eqb _ _ (queried (at .before .before .before)),
-      field (at .before),
-      trim (c .before .before .before .before),
-      c .before .before .mark-fits .ensures,
-      c .before .block-count .ensures .0,
-      c .block-count2 .ensures .0,
+      eq-eqb _ _ (queried (at .before .before .before .before)),
+      field (at .before .before),
+      trim at,
+      c .before .before .before .mark-fits .ensures,
+      c .before .before .block-count .ensures .0,
+      c .before .block-count2 .ensures .0,
+      c .is-card .ensures,
     )
     refl
 
@@ -120,4 +124,5 @@ numbers-fit-spec =
     block-count-requires
     block-count-requires-2
     mul-most
+    is-card-requires
     returns-4)

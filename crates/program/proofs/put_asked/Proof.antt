@@ -1,5 +1,6 @@
 -- `put_asked` meets its contract. Assumes nothing.
 use mathlib.Core.Path.{_≡_, sym, ap, _∙_}
+use Rattle.rules.specs.Tables.{fieldTable, trimTable}
 use Rattle.rules.specs.declared.Query.{Query}
 use Rattle.rules.specs.Query.{inputCode, inputQuery}
 use Rattle.program_input.specs.declared.Input.{Input}
@@ -25,11 +26,12 @@ returns c =
     let if = c .before .before .before .before in
     let read = if .before .before .read-input in
     let s = if .before .before .before .before .before .args in
+    let f = fieldTable (s .kinds) (s .f .now) in
+    let t = trimTable (s .kinds) (s .t .now) in
     let input = s .input .now in
     let code = ap (λ (x : Input). x .code) (read .ensures) in
     written-as
-    (refused-as (read .result .code) (inputCode input) (answerBytes (inputQuery input) (s .f .now) (s .t .now)) code
-    (if .if1 .taken))
+    (refused-as (read .result .code) (inputCode input) (answerBytes (inputQuery input) f t) code (if .if1 .taken))
     (c .before .before .refuse .ensures)
 
 put-answer-requires : tie.Need-put-answer-requires
@@ -44,8 +46,8 @@ returns-2 c =
     let if = c .before .before .before .before in
     let read = if .before .before .read-input in
     let s = if .before .before .before .before .before .args in
-    let f = s .f .now in
-    let t = s .t .now in
+    let f = fieldTable (s .kinds) (s .f .now) in
+    let t = trimTable (s .kinds) (s .t .now) in
     let input = s .input .now in
     let none : inputCode input ≡ 0 = sym (ap (λ (x : Input). x .code) (read .ensures)) ∙ if .if1 .left in
     let asks : read .result .query ≡ inputQuery input =

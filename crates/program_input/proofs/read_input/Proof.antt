@@ -13,6 +13,18 @@ use borrow.Author.Needs.{needs}
 use Rattle.program_input.proofs.read_input.Statement.{statement}
 use Rattle.program_input.proofs.read_input.Tie as tie
 
+-- where the three columns are read, from where it is known what they hold
+abbrev columns : tie.After-struct-known3 → tie.After-column-at3
+columns c = c .before .before .before .before
+
+-- where the input is known to have its length, from the columns
+abbrev sized : tie.After-column-at3 → tie.Else1
+sized c = c .before .before .before
+
+-- the first of the three numbers, from the third
+abbrev first : tie.After-struct-told3 → tie.After-natural
+first c = c .before .before .before
+
 evenly-requires : tie.Need-evenly-requires
 evenly-requires c κs = search needs
 
@@ -36,15 +48,15 @@ shared-slice-read-if2 c = search needs
 
 returns-2 : tie.Need-returns-2
 returns-2 c =
-    let at = c .before .before .before .before .before in
+    let at = columns (c .before) in
     let k = at .before .before .column-at in
     let b = at .before .column-at2 in
     let r = at .column-at3 in
-    let start = at .before .before .before .before in
-    let input = start .before .before .args .input .now in
-    let size = eq-eqb _ _ (at .before .before .before .if1 .left) in
+    let evenly = sized at .before in
+    let input = evenly .before .before .args .input .now in
+    let size = eq-eqb _ _ (sized at .if1 .left) in
     let all = k .result .fits && (b .result .fits && (r .result .fits && endsLine input 18)) in
-    simp (start .evenly .ensures)
+    simp (evenly .evenly .ensures)
     (input-bad input (k .result) (b .result) (r .result) (k .ensures) (b .ensures) (r .ensures) size
     (not-true all (c .if2 .taken)))
 
@@ -62,25 +74,25 @@ evenly-requires-2 c κs = search needs
 
 returns-3 : tie.Need-returns-3
 returns-3 c =
-    let told = c .before .before .before .before .before .before in
-    let at = told .before .before .before .before .before .before in
+    let third = c .before .before in
+    let told = first third .before in
+    let at = columns (told .before .before) in
     let k = at .before .before .column-at in
     let b = at .before .column-at2 in
     let r = at .column-at3 in
-    let input = at .before .before .before .before .before .before .args .input .now in
-    let size = eq-eqb _ _ (at .before .before .before .if1 .left) in
+    let input = sized at .before .before .before .args .input .now in
+    let size = eq-eqb _ _ (sized at .if1 .left) in
     let all = k .result .fits && (b .result .fits && (r .result .fits && endsLine input 18)) in
     let good =
     input-good input (k .result) (b .result) (r .result) (k .ensures) (b .ensures) (r .ensures) size
     (not-false all (told .before .if2 .left)) in
     let x = toZ-ofZ {w = w32} {z = k .result .number} (record { sfits = told .struct-told .given .1 .0 .1 }) in
     let y = toZ-ofZ {w = w32} {z = b .result .number}
-    (record { sfits = c .before .before .before .before .struct-told2 .given .1 .0 .1 }) in
-    let z = toZ-ofZ {w = w32} {z = r .result .number}
-    (record { sfits = c .before .before .struct-told3 .given .1 .0 .1 }) in
-    let first = c .before .before .before .before .before .natural .ensures in
-    let second = c .before .before .before .natural2 .ensures in
-    simp (c .evenly2 .ensures, first, second, c .before .natural3 .ensures, x, y, z) good
+    (record { sfits = third .before .before .struct-told2 .given .1 .0 .1 }) in
+    let z = toZ-ofZ {w = w32} {z = r .result .number} (record { sfits = third .struct-told3 .given .1 .0 .1 }) in
+    let one = first third .natural .ensures in
+    let two = third .before .natural2 .ensures in
+    simp (c .evenly2 .ensures, one, two, c .before .natural3 .ensures, x, y, z) good
 
 pub read-input-spec : {M : Type 1} → statement M
 read-input-spec =

@@ -3,6 +3,7 @@ use mathlib.Core.Path.{_≡_, sym, subst}
 use mathlib.Core.Bool.{Bool}
 use Prim.Native.Nat.{_+_, _≤_}
 use lib.ListN.{length}
+use Rattle.rules.specs.Tables.{table}
 use Rattle.printing.specs.Put.{putAt}
 use Rattle.listing.specs.Shown.{Shown}
 use Rattle.query_numbers.specs.Parts.{partLength, partNumbers}
@@ -15,7 +16,7 @@ put-root-requires c κs =
     let s = c .before .before .before in
     subst
     (λ (b : Bool). (s .args .at + partLength b ≤ length (s .args .out .now))
-    × Shown (s .args .f .now) (s .args .t .now) (s .args .p))
+    × Shown (table (s .args .n) (s .args .f .now)) (table (s .args .n) (s .args .t .now)) (s .args .p))
     (c .before .if1 .taken) (s .pre)
 
 put-pair-requires : tie.Need-put-pair-requires
@@ -23,7 +24,7 @@ put-pair-requires c κs =
     let s = c .before .before .before in
     subst
     (λ (b : Bool). (s .args .at + partLength b ≤ length (s .args .out .now))
-    × Shown (s .args .f .now) (s .args .t .now) (s .args .p))
+    × Shown (table (s .args .n) (s .args .f .now)) (table (s .args .n) (s .args .t .now)) (s .args .p))
     (c .before .if1 .left) (s .pre)
 
 same-length : tie.Need-same-length
@@ -35,7 +36,8 @@ returns c =
     let put = c .before .before .put-root in
     let if = c .before .before .before .before in
     let s = if .before .before .args in
-    subst (λ (b : Bool). put .last .0 ≡ putAt (s .at) (partNumbers b (s .f .now) (s .t .now) (s .p)) (s .out .now))
+    subst (λ (b : Bool). put .last .0 ≡ putAt (s .at)
+    (partNumbers b (table (s .n) (s .f .now)) (table (s .n) (s .t .now)) (s .p)) (s .out .now))
     (sym (if .if1 .taken)) (put .ensures)
 
 same-length-2 : tie.Need-same-length-2
@@ -47,7 +49,8 @@ returns-2 c =
     let put = c .before .before .put-pair in
     let if = c .before .before .before .before in
     let s = if .before .before .args in
-    subst (λ (b : Bool). put .last .0 ≡ putAt (s .at) (partNumbers b (s .f .now) (s .t .now) (s .p)) (s .out .now))
+    subst (λ (b : Bool). put .last .0 ≡ putAt (s .at)
+    (partNumbers b (table (s .n) (s .f .now)) (table (s .n) (s .t .now)) (s .p)) (s .out .now))
     (sym (if .if1 .left)) (put .ensures)
 
 pub put-part-spec : {M : Type 1} → statement M

@@ -8,6 +8,7 @@ use native.Mathlib.Omega.{arith}
 use lib.IntN.{ℤ}
 use lib.ListN.{length}
 use borrow.Author.Needs.{needs}
+use Rattle.rules.specs.Tables.{Table, table}
 use Rattle.rules.specs.declared.Pair.{Pair}
 use Rattle.rules.specs.Session.{noPair, placeCount}
 use Rattle.rules.specs.Query.{list}
@@ -20,19 +21,20 @@ use Rattle.query_numbers.proofs.put_parts.Statement.{statement}
 use Rattle.query_numbers.proofs.put_parts.Tie as tie
 
 abbrev Inv-loop : tie.InvT-loop
-Inv-loop roots wide out₀ at f t run i₀ out i =
-    (run .count ≤ placeCount) × Writing (partAt roots f t) wide at (list (run .query) f t) out₀ i out
+Inv-loop roots wide out₀ at n f t run i₀ out i =
+    (run .count ≤ placeCount)
+    × Writing (partAt roots (table n f) (table n t)) wide at (list (run .query) (table n f) (table n t)) out₀ i out
 
 abbrev μ-loop : tie.MeasureT-loop
-μ-loop roots wide out₀ at f t run i₀ out i = run .count - i
+μ-loop roots wide out₀ at n f t run i₀ out i = run .count - i
 
 loop-holds : tie.Need-loop-holds Inv-loop μ-loop
 loop-holds c =
     let s = c .before .args in
-    let f = s .f .now in
-    let t = s .t .now in
-    let l = list (s .t7 .query) f t in (
-      count-few f t (s .t7) (c .before .pre .1),
+    let f = table (s .n) (s .f .now) in
+    let t = table (s .n) (s .t .now) in
+    let l = list (s .t8 .query) f t in (
+      count-few f t (s .t8) (c .before .pre .1),
       writing-starts (partAt (s .roots) f t) (s .wide) (s .at) l (s .out .now),
     )
 
@@ -69,7 +71,8 @@ put-part-requires c κs =
     let more = c .before .before .loop-test .taken in
     let fits = room (s .args .wide) (l .i) placeCount (omega (arith, more, l .inv .0)) in (
       omega (arith, fits, l .inv .1 .kept, s .pre .0),
-      pair-at (s .args .f .now) (s .args .t .now) (s .args .t7) (s .pre .1) (l .i) more .shown,
+      pair-at (table (s .args .n) (s .args .f .now)) (table (s .args .n) (s .args .t .now)) (s .args .t8) (s .pre .1)
+          (l .i) more .shown,
     )
 
 add-i : tie.Need-add-i Inv-loop μ-loop
@@ -79,7 +82,7 @@ loop-less : tie.Need-loop-less Inv-loop μ-loop
 loop-less c = search needs
 
 -- each part is as long as the code was told
-wide-is : (roots : Bool) (f t : List ℤ) (wide : ℕ) → wide ≡ partLength roots → (n : ℕ) (p : Pair) →
+wide-is : (roots : Bool) (f t : Table) (wide : ℕ) → wide ≡ partLength roots → (n : ℕ) (p : Pair) →
     length (partAt roots f t n p) ≡ wide
 wide-is roots f t wide e n p = partAt-length roots f t n p ∙ sym e
 
@@ -89,9 +92,9 @@ loop-again c =
     let at = c .before .before .before .before .before in
     let l = at .before .loop in
     let s = at .before .before .before in
-    let f = s .args .f .now in
-    let t = s .args .t .now in
-    let run = s .args .t7 in
+    let f = table (s .args .n) (s .args .f .now) in
+    let t = table (s .args .n) (s .args .t .now) in
+    let run = s .args .t8 in
     let p = pair-at f t run (s .pre .1) (l .i) (at .loop-test .taken) in
     let o = s .args .at + s .args .wide * l .i in
     let put-is =
@@ -105,9 +108,9 @@ same-length c = c .before .loop .inv .1 .kept
 returns : tie.Need-returns Inv-loop μ-loop
 returns c =
     let s = c .before .before .before in
-    let f = s .args .f .now in
-    let t = s .args .t .now in
-    let run = s .args .t7 in
+    let f = table (s .args .n) (s .args .f .now) in
+    let t = table (s .args .n) (s .args .t .now) in
+    let run = s .args .t8 in
     let l = c .before .loop in
     let all = list (run .query) f t in
     let done : length all ≤ l .i = omega (arith, c .loop-test .left, counted f t run (s .pre .1)) in

@@ -4,14 +4,14 @@ use mathlib.Core.Logic.{⊎-elim}
 use mathlib.Core.Bool.{true, false}
 use Prim.Native.Nat.{_-_, _≤_}
 use native.Mathlib.Omega.{arith}
-use lib.ListN.{length, length-map}
 use borrow.Author.Tests.{eq-eqb}
 use Rattle.lists.specs.Bools.{clash}
-use Rattle.rules.specs.Session.{settled}
+use Rattle.rules.specs.Session.{lentTable, settled}
 use Rattle.rules.specs.declared.Step.{Step}
 use Rattle.rules.specs.Query.{wasRead}
 use Rattle.session_laws.specs.Calls.{call-record}
 use Rattle.rules.specs.Calls.{recordFits, newBlockCode, step, readCall}
+use Rattle.rules.proofs.Places.{places-long}
 use Rattle.checks.proofs.Looking.{Looking, look-starts, look-key, look-on, look-stops, look-ends}
 use Rattle.checks.specs.Codes.{depths-fit}
 use Rattle.meeting.specs.Stands.{Keys}
@@ -36,6 +36,10 @@ Inv-loop2 f t r₀ n end fits before keys i code answer m j₀ r j = Filling r�
 abbrev μ-loop2 : tie.MeasureT-loop2
 μ-loop2 f t r₀ n end fits before keys i code answer m j₀ r j = 64 - j
 
+-- the start of the call, from the check of its numbers
+abbrev start : tie.After-numbers-fit Inv-loop μ-loop Inv-loop2 μ-loop2 → tie.Start Inv-loop μ-loop Inv-loop2 μ-loop2
+start c = c .before .before .before .before .before
+
 cast-n : tie.Need-cast-n Inv-loop μ-loop Inv-loop2 μ-loop2
 cast-n c = search needs
 
@@ -50,11 +54,10 @@ first-place-requires c κs = search needs
 
 loop-holds : tie.Need-loop-holds Inv-loop μ-loop Inv-loop2 μ-loop2
 loop-holds c =
-    let s = c .before .before .before .before .before .before in
+    let s = start (c .before) in
     let n = c .before .numbers-fit in
     let i = c .first-place in
-    let long : length (s .args .s .pairs) ≡ 64 =
-    sym (length-map (s .args .s .pairs) _) ∙ s .good .1 .1 .0 .1 .1 .1 .1 .1 .1 .1 .1 .0 .1 .0 .1 in (
+    let long = places-long (s .args .s) _ (s .good .1 .1 .0) in (
       look-starts (s .args .s) (n .result) (i .result) long (n .ensures) (i .ensures),
       key-starts (s .args .s) (n .result) (i .result) (i .ensures),
     )
@@ -84,11 +87,12 @@ loop-less c = search needs
 
 loop-again : tie.Need-loop-again Inv-loop μ-loop Inv-loop2 μ-loop2
 loop-again c =
-    let s = c .before .before .before .before .before .before .before .before .before .before .before .args .s in
-    let v = c .before .before .before .before .loop in
+    let at = c .before .before .before in
+    let s = start (at .before .before .before) .args .s in
+    let v = at .before .loop in
     let l = v .inv .0 in
     let k = c .before .place-key in
-    let turn = c .before .before .before .loop-test .taken in (
+    let turn = at .loop-test .taken in (
       look-on s (v .i) (v .before) (v .fits) l turn (k .result) (k .ensures) (c .if1 .left),
       key-on s (v .i) (v .fits) (v .keys) (v .inv .1) turn (l .long) (k .result)
           (look-key s (v .i) (v .before) (v .fits) l turn (k .result) (k .ensures) (c .if1 .left)),
@@ -96,9 +100,11 @@ loop-again c =
 
 -- what was handed in, as seen from behind the loop
 abbrev given : tie.Left-loop Inv-loop μ-loop Inv-loop2 μ-loop2 → tie.Start Inv-loop μ-loop Inv-loop2 μ-loop2
-given c =
-    let at = c .before .before .before .before .before in
-    at .before .before .before
+given c = start (c .before .before .before)
+
+-- the end of the look at the pairs, from the checks' code
+abbrev looking : tie.After-call-code Inv-loop μ-loop Inv-loop2 μ-loop2 → tie.Left-loop Inv-loop μ-loop Inv-loop2 μ-loop2
+looking c = c .before .before .before
 
 looked : (c : tie.Left-loop Inv-loop μ-loop Inv-loop2 μ-loop2) → c .loop-test .fits ≡ recordFits (given c .args .s)
 looked c =
@@ -113,11 +119,12 @@ call-code-requires : tie.Need-call-code-requires Inv-loop μ-loop Inv-loop2 μ-l
 call-code-requires c κs h = depths-fit (given (c .before .before) .args .s) (sym (looked (c .before .before)) ∙ h)
 
 passed : (c : tie.After-call-code Inv-loop μ-loop Inv-loop2 μ-loop2)
-    → let a = given (c .before .before .before) .args in Checked (a .f .now) (a .t .now) (a .s) (c .call-code .result)
+    → let a = given (looking c) .args in Checked (lentTable (a .s) (a .f .now)) (lentTable (a .s) (a .t .now)) (a .s)
+    (c .call-code .result)
 passed c =
-    let a = given (c .before .before .before) .args in
-    checked (a .f .now) (a .t .now) (a .s) (c .before .before .before .loop-test .fits) (c .call-code .result)
-    (looked (c .before .before .before)) (c .call-code .ensures)
+    let a = given (looking c) .args in
+    checked (a .f .now) (a .t .now) (a .s) (looking c .loop-test .fits) (c .call-code .result) (looked (looking c))
+    (c .call-code .ensures)
 
 mul-last : tie.Need-mul-last Inv-loop μ-loop Inv-loop2 μ-loop2
 mul-last c = search needs
@@ -131,15 +138,21 @@ read-answer-requires c κs e = (passed (c .before) .known e, passed (c .before) 
 enum-told : tie.Need-enum-told Inv-loop μ-loop Inv-loop2 μ-loop2
 enum-told c = search needs
 
+-- the checks' code, from an answer that a block is to be read
+abbrev called : tie.After-enum-told Inv-loop μ-loop Inv-loop2 μ-loop2
+    → tie.After-call-code Inv-loop μ-loop Inv-loop2 μ-loop2
+called c = c .before .before .before .before
+
 -- a block is to be read: the checks passed, those of the new block too, and the session is not settled
 asked : (c : tie.After-enum-told Inv-loop μ-loop Inv-loop2 μ-loop2)
-    → let call = c .before .before .before .before in let a = given (call .before .before .before) .args in
-    (call .call-code .result ≡ 0) × (settled (a .f .now) (a .t .now) (a .s) ≡ false)
-    × (newBlockCode (a .f .now) (a .t .now) (a .s) ≡ 0)
+    → let call = called c in let a = given (looking call) .args in
+    (call .call-code .result ≡ 0) × (settled (lentTable (a .s) (a .f .now)) (lentTable (a .s) (a .t .now)) (a .s) ≡
+    false)
+    × (newBlockCode (lentTable (a .s) (a .f .now)) (lentTable (a .s) (a .t .now)) (a .s) ≡ 0)
 asked c =
-    let call = c .before .before .before .before in
-    let a = given (call .before .before .before) .args in
-    read-asked (call .call-code .result) (a .f .now) (a .t .now) (a .s)
+    let call = called c in
+    let a = given (looking call) .args in
+    read-asked (call .call-code .result) (lentTable (a .s) (a .f .now)) (lentTable (a .s) (a .t .now)) (a .s)
     (sym (c .before .before .read-answer .ensures) ∙ c .enum-told .given .1)
 
 -- all fits: the keys are those of the pairs held
@@ -155,24 +168,25 @@ keyed c t few =
 
 read-block-requires : tie.Need-read-block-requires Inv-loop μ-loop Inv-loop2 μ-loop2
 read-block-requires c κs =
-    let call = c .before .before .before .before .before in
-    let looking = call .before .before .before in
-    let a = given looking .args in
+    let call = called (c .before) in
+    let at = looking call in
+    let a = given at .args in
     let k = asked (c .before) in
     let none = sym (passed call .code-is) ∙ k .0 in
-    let fits = looked looking ∙ call-record (a .f .now) (a .t .now) (a .s) none in
+    let fits = looked at ∙ call-record (lentTable (a .s) (a .f .now)) (lentTable (a .s) (a .t .now)) (a .s) none in
     let accepted = passed call .known (k .0) in
     let record-fits = accepted .lent .fits in
-    (accepted, k .1, k .2, keyed looking fits (omega (arith, record-fits .room, record-fits .query .k .1)))
+    (accepted, k .1, k .2, keyed at fits (omega (arith, record-fits .room, record-fits .query .k .1)))
 
 cast-m : tie.Need-cast-m Inv-loop μ-loop Inv-loop2 μ-loop2
 cast-m c = search needs
 
 loop2-holds : tie.Need-loop2-holds Inv-loop μ-loop Inv-loop2 μ-loop2
 loop2-holds c =
-    let e = c .before .before .read-block .ensures in
-    let looking = c .before .before .before .before .before .before .before .before .before .before .before in
-    fill-starts _ _ _ (e .1) (looking .before .loop .inv .0 .long) (e .2)
+    let block = c .before .before in
+    let e = block .read-block .ensures in
+    let at = looking (called (block .before .before)) in
+    fill-starts _ _ _ (e .1) (at .before .loop .inv .0 .long) (e .2)
 
 place-requires : tie.Need-place-requires Inv-loop μ-loop Inv-loop2 μ-loop2
 place-requires c κs = search needs
@@ -196,21 +210,22 @@ loop2-again c =
 
 -- the answer is the rule's, and so is the record that goes with it
 ended : (c : tie.After-read-answer Inv-loop μ-loop Inv-loop2 μ-loop2)
-    → let a = given (c .before .before .before .before .before) .args in
-    step (c .read-answer .result) (afterRead (a .f .now) (a .t .now) (a .s) (c .read-answer .result)) ≡ readCall
-    (a .f .now) (a .t .now) (a .s)
+    → let a = given (looking (c .before .before)) .args in
+    step (c .read-answer .result) (afterRead (lentTable (a .s) (a .f .now)) (lentTable (a .s) (a .t .now)) (a .s)
+    (c .read-answer .result)) ≡ readCall
+    (lentTable (a .s) (a .f .now)) (lentTable (a .s) (a .t .now)) (a .s)
 ended c =
     let call = c .before .before in
-    let a = given (call .before .before .before) .args in
-    read-ends (a .f .now) (a .t .now) (a .s) (call .call-code .result) (c .read-answer .result) (passed call .code-is)
+    let a = given (looking call) .args in
+    read-ends (lentTable (a .s) (a .f .now)) (lentTable (a .s) (a .t .now)) (a .s) (call .call-code .result)
+    (c .read-answer .result) (passed call .code-is)
     (c .read-answer .ensures)
 
 returns : tie.Need-returns Inv-loop μ-loop Inv-loop2 μ-loop2
 returns c =
     let v = c .before .loop2 in
     let block = c .before .before .before .before in
-    let call = block .before .before .before .before .before .before in
-    let a = given (call .before .before .before) .args in
+    let a = given (looking (called (block .before .before))) .args in
     let told : wasRead (block .before .before .before .before .read-answer .result) ≡ true =
     ap wasRead (block .before .before .enum-told .given .1) in
     let is =
@@ -221,10 +236,10 @@ returns c =
 
 returns-2 : tie.Need-returns-2 Inv-loop μ-loop Inv-loop2 μ-loop2
 returns-2 c =
-    let at = c .before .before .before .before .before in
-    let a = given (at .before) .args in
+    let a = given (looking (c .before .before .before)) .args in
     let is = ap (λ (r : Step). r .answer) (ended (c .before)) in
-    simp (not-read (a .f .now) (a .t .now) (a .s) (c .before .read-answer .result) is (c .match .keys2)) at
+    simp (not-read (lentTable (a .s) (a .f .now)) (lentTable (a .s) (a .t .now)) (a .s)
+    (c .before .read-answer .result) is (c .match .keys2)) at
     (ended (c .before))
 
 pub read-spec : {M : Type 1} → statement M

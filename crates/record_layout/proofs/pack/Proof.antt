@@ -1,16 +1,17 @@
 -- `pack` meets its contract: after i turns the first i pairs are laid down. Assumes nothing.
-use mathlib.Core.Path.{_≡_, refl, sym, ap, _∙_}
+use mathlib.Core.Path.{_≡_, refl, ap, _∙_}
 use mathlib.Core.List.{List, _++_}
 use Prim.Native.Nat.{ℕ, _+_, _*_, _-_, _≤_, _<_}
 use native.Mathlib.Omega.{arith}
-use lib.ListN.{length, length-map, getD, take, drop}
+use lib.ListN.{length, getD, take, drop}
 use lib.Seq.{take-all}
 use borrow.Author.Needs.{needs}
 use Rattle.lists.specs.Lists.{each}
 use Rattle.rules.specs.declared.Pair.{Pair}
 use Rattle.rules.specs.Session.{noPair, placeCount}
+use Rattle.rules.proofs.Places.{places-long}
 use Rattle.record_layout.specs.Flat.{pairsAt, pairSize, pairAt, fieldWeightAt, flatSize, flatPair}
-use Rattle.record_layout.specs.Flat.{flatHead, flatWeights, flatTail, flatten}
+use Rattle.record_layout.specs.Flat.{flatHead, flatTail, flatten}
 use Rattle.record_layout.specs.RoundTrip.{flat-length}
 use Rattle.record_layout.proofs.Places.{onto, laid, none-laid, one-out}
 use Rattle.record_layout.proofs.pack.Statement.{statement}
@@ -27,6 +28,10 @@ Inv-loop out₀ s i₀ out i =
 abbrev μ-loop : tie.MeasureT-loop
 μ-loop out₀ s i₀ out i = placeCount - i
 
+-- where the head is put, from where the loop stands
+abbrev headed : tie.At-loop Inv-loop μ-loop → tie.After-put-head Inv-loop μ-loop
+headed c = c .before .before .before
+
 put-head-requires : tie.Need-put-head-requires Inv-loop μ-loop
 put-head-requires c κs = search needs
 
@@ -35,8 +40,7 @@ loop-holds c =
     let s = c .before .before .before .before .before in
     let head = c .before .before .put-head in
     let a = s .args .t1 .pairs in
-    let array = s .good .0 .1 .1 .1 .1 .1 .1 .1 .1 .0 in
-    let long : length a ≡ placeCount = sym (length-map a _) ∙ array .1 .0 .1 in
+    let long = places-long (s .args .t1) _ (s .good .0) in
     (omega arith, long, refl, omega (arith, head .kept .0, s .pre), none-laid (head .last .0) a)
 
 mul-p : tie.Need-mul-p Inv-loop μ-loop
@@ -67,9 +71,9 @@ unfolding flatPair
 loop-again c =
     let turn = c .before .before .before .before .before in
     let v = turn .before .loop in
-    let start = turn .before .before .before .before in
-    let s = start .before .before .before .args .t1 in
-    let l = start .put-head .last .0 in
+    let head = headed (turn .before) in
+    let s = head .before .before .before .args .t1 in
+    let l = head .put-head .last .0 in
     let p = getD (s .pairs) (v .i) noPair in
     let h : v .i < placeCount = turn .loop-test .taken in (
       omega (arith, h),
@@ -81,26 +85,26 @@ loop-again c =
           ∙ one-out l (s .pairs) (omega (arith, v .inv .3)) (v .i) (omega (arith, h, v .inv .1)),
     )
 
-put-weights-requires : tie.Need-put-weights-requires Inv-loop μ-loop
-put-weights-requires c κs = let v = c .before .before .before .loop in omega (arith, v .inv .2, v .inv .3)
+put-tail-requires : tie.Need-put-tail-requires Inv-loop μ-loop
+put-tail-requires c κs = let v = c .before .before .loop in omega (arith, v .inv .2, v .inv .3)
 
 same-length : tie.Need-same-length Inv-loop μ-loop
 same-length c = search needs
 
 returns : tie.Need-returns Inv-loop μ-loop
-unfolding flatten flatHead flatTail flatWeights
+unfolding flatten flatHead flatTail
 returns c =
-    let at = c .before .before .before .before .before in
+    let at = c .before .before .before .before in
     let v = at .before .loop in
-    let start = at .before .before .before .before in
-    let s = start .before .before .before .args .t1 in
-    let l = start .before .before .before .args .out .now in
-    let head = start .put-head in
+    let start = headed (at .before) .before .before .before in
+    let s = start .args .t1 in
+    let l = start .args .out .now in
+    let head = headed (at .before) .put-head in
     let last = head .last .0 in
     let pairs = each flatPair (s .pairs) in
     let e : v .i ≡ placeCount = omega (arith, v .inv .0, at .loop-test .left) in
     let long : length (flatHead s ++ pairs) ≡ fieldWeightAt = omega (arith, flat-length (s .pairs), v .inv .1) in
-    c .before .before .put-weights .ensures
+    c .before .before .put-tail .ensures
     ∙ ap (λ (r : List ℕ). take fieldWeightAt r ++ flatTail s ++ drop flatSize r)
     (v .inv .4
     ∙ ap (laid last (s .pairs)) e
@@ -108,7 +112,7 @@ returns c =
     (take-all placeCount (s .pairs) (omega (arith, v .inv .1)))
     ∙ ap (λ (r : List ℕ). take pairsAt r ++ pairs ++ drop fieldWeightAt r) (head .ensures)
     ∙ onto (flatHead s) pairs l pairsAt (pairSize * placeCount) refl)
-    ∙ onto (flatHead s ++ pairs) (flatTail s) l fieldWeightAt 2 long
+    ∙ onto (flatHead s ++ pairs) (flatTail s) l fieldWeightAt 3 long
 
 pub pack-spec : {M : Type 1} → statement M
 pack-spec =
@@ -126,6 +130,6 @@ pack-spec =
     add-i
     loop-less
     loop-again
-    put-weights-requires
+    put-tail-requires
     same-length
     returns)

@@ -1,7 +1,6 @@
 -- `run` meets its contract. Assumes nothing.
 use mathlib.Core.Path.{_≡_, ap, _∙_}
 use mathlib.Core.List.{List}
-use lib.IntN.{ℤ}
 use lib.ListN.{length}
 use borrow.Author.Needs.{needs}
 use Rattle.rules.specs.declared.Pair.{Pair}
@@ -9,31 +8,43 @@ use Rattle.rules.specs.declared.Query.{Query}
 use Rattle.rules.specs.declared.Session.{Session}
 use Rattle.rules.specs.declared.Step.{Step}
 use Rattle.rules.specs.Numbers.{said, refusal}
-use Rattle.rules.specs.Session.{places}
+use Rattle.rules.specs.Session.{lentTable, places}
 use Rattle.rules.specs.Calls.{openCall}
 use Rattle.rules.specs.Query.{settledSession, list}
 use Rattle.run_query.specs.declared.ReadOut.{ReadOut}
 use Rattle.run_query.specs.declared.TakenOut.{TakenOut}
 use Rattle.run_query.specs.Until.{readOn, settled-on, list-taken}
-use Rattle.run_query.specs.Outcomes.{refusedBy, readOut, takenOut, queryOutcome, opening-code}
+use Rattle.run_query.specs.Outcomes.{refusedBy, readOut, takenOut, queryOutcome, opening-code, read-begun}
+use Rattle.run_query.specs.Outcomes.{take-done}
 use Rattle.run_query.proofs.run.Statement.{statement}
 use Rattle.run_query.proofs.run.Tie as tie
+use Rattle.rules.specs.Tables.{Table, fieldTable, trimTable}
 
-module _ (q : Query) (f t : List ℤ)
-    (s : Step) (es : s ≡ openCall q f t) (r : ReadOut) (er : r ≡ readOut f t (s .session)) where
+module _ (q : Query) (f t : Table)
+    (s : Step) (es : s ≡ openCall q f t) (r : ReadOut)
+    (er : r ≡ readOut (lentTable (s .session) (f .numbers)) (lentTable (s .session) (t .numbers)) (s .session)) where
   read-is : r ≡ record { code = refusedBy f t (settledSession q f t); session = settledSession q f t }
   unfolding readOut
   read-is =
       er
+      ∙ ap
+      (λ (x : Step). readOut (lentTable (x .session) (f .numbers)) (lentTable (x .session) (t .numbers)) (x .session))
+      es
+      ∙ read-begun q f t
       ∙ ap (λ (x : Session). record { code = refusedBy f t x; session = x })
-      (ap (λ (x : Step). readOn f t (x .session)) es ∙ settled-on q f t)
+      (settled-on q f t)
 
-  taken-is : (x : TakenOut) → x ≡ takenOut f t (r .session) →
+  taken-is : (x : TakenOut)
+      → x ≡ takenOut (lentTable (r .session) (f .numbers)) (lentTable (r .session) (t .numbers)) (r .session) →
       x ≡ record { pairs = places (list q f t); count = length (list q f t) }
   unfolding takenOut
   taken-is x ex =
       ex
-      ∙ ap (λ (y : ReadOut). takenOut f t (y .session)) read-is
+      ∙ ap
+      (λ (y : ReadOut). takenOut (lentTable (y .session) (f .numbers)) (lentTable (y .session) (t .numbers))
+      (y .session))
+      read-is
+      ∙ take-done q f t
       ∙ ap (λ (l : List Pair). record { pairs = places l; count = length l }) (list-taken q f t)
 
 start-requires : tie.Need-start-requires
@@ -55,8 +66,8 @@ returns c =
     let s = at .before .before .before .args in
     let start = at .before .before .start in
     let take = c .before .before .take-on in
-    let f = s .f .now in
-    let t = s .t .now in
+    let f = fieldTable (s .kinds) (s .f .now) in
+    let t = trimTable (s .kinds) (s .t .now) in
     let read = read-is (s .q) f t (start .result) (start .ensures) (at .read-on .result) (at .read-on .ensures) in
     let taken =
     taken-is (s .q) f t (start .result) (start .ensures) (at .read-on .result) (at .read-on .ensures) (take .result)

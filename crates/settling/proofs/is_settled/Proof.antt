@@ -1,38 +1,58 @@
 -- `is_settled` meets its contract: of ranked pairs the last decides. Assumes nothing.
-use mathlib.Core.Path.{_≡_, refl, sym, _∙_}
+use mathlib.Core.Path.{_≡_, refl, _∙_}
 use mathlib.Core.Bool.{false, _&&_, _||_}
 use Prim.Native.Nat.{_<_, _≤_}
 use native.Mathlib.Omega.{arith}
-use lib.ListN.{length, length-map}
+use lib.ListN.{length}
 use borrow.Author.Tests.{eq-eqb, ne-eqb}
-use Rattle.rules.specs.Session.{aTableIsEmpty, bothReadOut, settledBy}
+use Rattle.rules.specs.Session.{lentTable, placeCount, aTableIsEmpty, bothReadOut, settledBy}
+use Rattle.rules.proofs.Places.{places-long}
+use Rattle.ceiling.specs.Bare.{secured-bare}
+use Rattle.ceiling.specs.BothRead.{RowsRead, accepted-rows}
 use Rattle.ceiling.specs.Last.{held-then-read, held-secured}
 use borrow.Author.Needs.{needs}
 use Rattle.settling.proofs.is_settled.Statement.{statement}
 use Rattle.settling.proofs.is_settled.Tie as tie
 
--- a record has 64 pair places: that is its array's type
-long : (c : tie.Start) → length (c .args .s .pairs) ≡ 64
-long c = sym (length-map (c .args .s .pairs) _) ∙ c .good .1 .1 .0 .1 .1 .1 .1 .1 .1 .1 .1 .0 .1 .0 .1
+-- the record handed in has all its pair places
+long : (c : tie.Start) → length (c .args .s .pairs) ≡ placeCount
+long c = places-long (c .args .s) _ (c .good .1 .1 .0)
+
+-- the start of the call, from the test whether the second table is read out
+abbrev start : tie.After-read-out2 → tie.Start
+start c = c .before .before .before .before .before
+
+-- where the tables alone do not settle it, from the count of the pairs held and out
+abbrev undecided : tie.After-struct-known3 → tie.Else2
+undecided c = c .before .before .before .before
 
 -- a pair is held where k are held or out, and not all are out
-some : (c : tie.Else4) → let at = c .before .before .before .before .before .before in
-    0 < at .before .before .before .before .before .args .s .held
+some : (c : tie.Else4) → 0 < start (undecided (c .before) .before) .args .s .held
 some c = omega (arith, c .if4 .left, c .before .before .before .if3 .left)
 
+-- the rows read are there, and were not refused
+rows : (s : tie.Start) → let a = s .args in
+    RowsRead (lentTable (a .s) (a .f .now)) (a .s .depth .field .0)
+    × RowsRead (lentTable (a .s) (a .t .now)) (a .s .depth .trim .0)
+rows s =
+    let a = s .args in
+    accepted-rows (lentTable (a .s) (a .f .now)) (lentTable (a .s) (a .t .now)) (a .s) (s .pre .0)
+
 is-empty-requires : tie.Need-is-empty-requires
-is-empty-requires c κs = search needs
+is-empty-requires c κs = rows c .0 .there
 
 is-empty-requires-2 : tie.Need-is-empty-requires-2
-is-empty-requires-2 c κs = search needs
+is-empty-requires-2 c κs = rows (c .before) .1 .there
 
 -- what was asked of both tables, by the rules' names
 empty : (c : tie.After-is-empty2) → let a = c .before .before .args in
-    aTableIsEmpty (a .f .now) (a .t .now) (a .s) ≡ c .before .is-empty .result || c .is-empty2 .result
+    aTableIsEmpty (lentTable (a .s) (a .f .now)) (lentTable (a .s) (a .t .now)) (a .s) ≡ c .before .is-empty .result
+    || c .is-empty2 .result
 empty c = simp (c .before .is-empty .ensures, c .is-empty2 .ensures) refl
 
-out : (c : tie.After-read-out2) → let a = c .before .before .before .before .before .args in
-    bothReadOut (a .f .now) (a .t .now) (a .s) ≡ c .before .read-out .result && c .read-out2 .result
+out : (c : tie.After-read-out2) → let a = start c .args in
+    bothReadOut (lentTable (a .s) (a .f .now)) (lentTable (a .s) (a .t .now)) (a .s) ≡ c .before .read-out .result &&
+    c .read-out2 .result
 out c = simp (c .before .read-out .ensures, c .read-out2 .ensures) refl
 
 returns : tie.Need-returns
@@ -40,10 +60,10 @@ unfolding settledBy
 returns c = simp (empty (c .before) ∙ c .if1 .taken) refl
 
 read-out-requires : tie.Need-read-out-requires
-read-out-requires c κs = search needs
+read-out-requires c κs = rows (c .before .before .before) .0
 
 read-out-requires-2 : tie.Need-read-out-requires-2
-read-out-requires-2 c κs = search needs
+read-out-requires-2 c κs = rows (c .before .before .before .before) .1
 
 returns-2 : tie.Need-returns-2
 unfolding settledBy
@@ -52,8 +72,9 @@ returns-2 c =
     simp (empty (at .before) ∙ at .if1 .left, out (c .before) ∙ c .if2 .taken) refl
 
 -- no table is empty, nor are both read out
-live : (c : tie.Else2) → let a = c .before .before .before .before .before .before .args in
-    (aTableIsEmpty (a .f .now) (a .t .now) (a .s) ≡ false) × (bothReadOut (a .f .now) (a .t .now) (a .s) ≡ false)
+live : (c : tie.Else2) → let a = start (c .before) .args in
+    (aTableIsEmpty (lentTable (a .s) (a .f .now)) (lentTable (a .s) (a .t .now)) (a .s) ≡ false) ×
+    (bothReadOut (lentTable (a .s) (a .f .now)) (lentTable (a .s) (a .t .now)) (a .s) ≡ false)
 live c =
     let at = c .before .before .before in
     (empty (at .before) ∙ at .if1 .left, out (c .before) ∙ c .if2 .left)
@@ -65,40 +86,43 @@ returns-3 c =
 
 add-if4 : tie.Need-add-if4
 add-if4 c =
-    let at = c .before .before .before .before .before .before in
-    let l = at .before .before .before .pre .0 .lent .fits in
+    let l = start (c .before .before .before .before) .pre .0 .lent .fits in
     record { fits = omega (arith, l .room, l .query .k .1) }
 
 returns-4 : tie.Need-returns-4
 unfolding settledBy
 returns-4 c =
-    let at = c .before .before .before .before .before in
+    let at = undecided (c .before) in
     let more = ne-eqb _ _ (c .before .before .before .if3 .left) in
     simp (live at .0, live at .1, more, ne-eqb _ _ (c .if4 .taken)) refl
 
 is-secured-requires : tie.Need-is-secured-requires
 is-secured-requires c κs =
-    let at = c .before .before .before .before .before .before in
-    let s = at .before .before .before .before .before in
-    held-then-read (s .args .f .now) (s .args .t .now) (s .args .s) (s .pre .0) (omega (arith, long s)) (some c)
+    let s = start (undecided (c .before) .before) in
+    held-then-read (lentTable (s .args .s) (s .args .f .now)) (lentTable (s .args .s) (s .args .t .now)) (s .args .s)
+    (s .pre .0) (omega (arith, long s)) (some c)
 
 returns-5 : tie.Need-returns-5
 unfolding settledBy
 returns-5 c =
-    let at = c .before .before .before .before .before .before in
-    let s = at .before .before .before .before .before .before in
+    let at = undecided (c .before .before) in
+    let s = start (at .before) in
     let l = s .pre .0 .lent .fits in
     let fit : s .args .s .held ≤ length (s .args .s .pairs) = omega (arith, long s, l .room, l .query .k .1) in
     let last = s .pre .1 (some (c .before)) in
+    let a = s .args in
+    let bare =
+    secured-bare (lentTable (a .s) (a .f .now)) (lentTable (a .s) (a .t .now)) (a .s) (a .last) in
     simp (
       live at .0,
       live at .1,
       ne-eqb _ _ (c .before .before .before .before .if3 .left),
       eq-eqb _ _ (c .before .if4 .left),
-      held-secured (s .args .f .now) (s .args .t .now) (s .args .s) l fit (some (c .before)),
+      held-secured (lentTable (s .args .s) (s .args .f .now)) (lentTable (s .args .s) (s .args .t .now)) (s .args .s)
+          l fit (some (c .before)),
       ← last,
     )
-    (c .is-secured .ensures)
+    (c .is-secured .ensures ∙ bare)
 
 pub is-settled-spec : {M : Type 1} → statement M
 is-settled-spec =

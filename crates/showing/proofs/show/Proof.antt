@@ -3,29 +3,47 @@ use mathlib.Core.Path.{_≡_, sym, ap, _∙_}
 use mathlib.Core.Bool.{Bool}
 use native.Mathlib.Omega.{arith}
 use borrow.Author.Tests.{eq-eqb, ne-eqb}
+use Prim.Native.Nat.{ℕ, _≤_, _<_}
+use Rattle.rules.specs.Tables.{Table, mostRows, HasRows}
+use Rattle.rules.specs.Widths.{has-rows}
+use Rattle.rules.specs.Session.{lentTable}
 use Rattle.rules.specs.Take.{shownRows}
 use Rattle.rules.specs.Calls.{lentCode, showCall, showPlace}
-use Rattle.session_laws.specs.Calls.{Lent, lent-out}
+use Rattle.session_laws.specs.Record.{CountsFit}
+use Rattle.session_laws.specs.Calls.{SameSize, Lent, lent-out}
 use Rattle.checks.specs.Codes.{lentOf, lent-is}
 use borrow.Author.Needs.{needs}
 use Rattle.showing.proofs.show.Statement.{statement}
 use Rattle.showing.proofs.show.Tie as tie
 
+-- the two tables
+abbrev fields : tie.Start → Table
+fields s = lentTable (s .args .s) (s .args .f .now)
+
+abbrev trims : tie.Start → Table
+trims s = lentTable (s .args .s) (s .args .t .now)
+
 -- what the checks answer is the rule's
-code-is : (c : tie.After-lent-code)
-    → c .lent-code .result
-    ≡ lentCode (c .before .before .args .f .now) (c .before .before .args .t .now) (c .before .before .args .s)
+code-is : (c : tie.After-lent-code) → let s = c .before .before in
+    c .lent-code .result ≡ lentCode (fields s) (trims s) (s .args .s)
 code-is c =
     let s = c .before .before .args in
     c .lent-code .ensures
     ∙ ap (λ (b : Bool). lentOf b (s .s .rows) (s .f .now) (s .t .now)) (c .before .fits2 .ensures)
     ∙ lent-is (s .f .now) (s .t .now) (s .s)
 
-passed : (c : tie.Else1) → let s = c .before .before .before .args in lentCode (s .f .now) (s .t .now) (s .s) ≡ 0
+-- where it is 0
+passed : (c : tie.Else1) → let s = c .before .before .before in lentCode (fields s) (trims s) (s .args .s) ≡ 0
 passed c = sym (code-is (c .before)) ∙ c .if1 .left
 
-known : (c : tie.Else1) → let s = c .before .before .before .args in Lent (s .f .now) (s .t .now) (s .s)
-known c = let s = c .before .before .before .args in lent-out (s .f .now) (s .t .now) (s .s) (passed c)
+known : (c : tie.Else1) → let s = c .before .before .before in Lent (fields s) (trims s) (s .args .s)
+known c = let s = c .before .before .before in lent-out (fields s) (trims s) (s .args .s) (passed c)
+
+-- a table's last rows may be cut out
+cut : (t : Table) (block rows depth : ℕ) → 1 ≤ block → 0 < depth → CountsFit block rows depth → SameSize rows t
+    → (0 < block) × (0 < depth) × (depth ≤ mostRows) × HasRows t depth
+cut t block rows depth b d fits size =
+    (b, d, omega (arith, fits .few, fits .within), has-rows t depth (omega (arith, fits .within, size .count)))
 
 fits-requires : tie.Need-fits-requires
 fits-requires c κs = search needs
@@ -44,16 +62,10 @@ returns c =
 
 last-rows-requires : tie.Need-last-rows-requires
 last-rows-requires c κs =
-    let k = known (c .before .before) in
-    omega (
-      arith,
-      k .fits .query .block .0,
-      k .fits .mark .field (c .if2 .taken),
-      k .fits .field .few,
-      k .fits .field .within,
-      k .field .size .whole,
-      k .field .count,
-    )
+    let at = c .before .before in
+    let k = known at in
+    cut (fields (at .before .before .before)) _ _ _ (k .fits .query .block .0) (k .fits .mark .field (c .if2 .taken))
+    (k .fits .field) (k .field)
 
 returns-2 : tie.Need-returns-2
 unfolding showCall showPlace shownRows
@@ -64,16 +76,10 @@ returns-2 c =
 
 last-rows-requires-2 : tie.Need-last-rows-requires-2
 last-rows-requires-2 c κs =
-    let k = known (c .before .before .before .before) in
-    omega (
-      arith,
-      k .fits .query .block .0,
-      k .fits .mark .trim (c .if3 .taken),
-      k .fits .trim .few,
-      k .fits .trim .within,
-      k .trim .size .whole,
-      k .trim .count,
-    )
+    let at = c .before .before .before .before in
+    let k = known at in
+    cut (trims (at .before .before .before)) _ _ _ (k .fits .query .block .0) (k .fits .mark .trim (c .if3 .taken))
+    (k .fits .trim) (k .trim)
 
 returns-3 : tie.Need-returns-3
 unfolding showCall showPlace shownRows

@@ -1,9 +1,15 @@
 -- `effect` meets its contract. Assumes nothing.
-use mathlib.Core.Path.{sym, _∙_}
-use Rattle.skipping.specs.Effect.{effect-skip, effect-quiet, effect-open}
+use mathlib.Core.Path.{_≡_, sym, _∙_}
+use mathlib.Core.Bool.{false}
+use Rattle.rules.specs.Tables.{table}
+use Rattle.skipping.specs.Effect.{skips, effect-skip, effect-quiet, effect-open}
 use borrow.Author.Needs.{needs}
 use Rattle.skipping.proofs.effect.Statement.{statement}
 use Rattle.skipping.proofs.effect.Tie as tie
+
+-- where their weights did not skip the blocks, from the look for a near pair
+abbrev unskipped : tie.After-any-near → tie.Else1
+unskipped c = c .before .before .before
 
 weighted-requires : tie.Need-weighted-requires
 weighted-requires c κs = search needs
@@ -16,49 +22,38 @@ add-if1 c = search needs
 
 returns : tie.Need-returns
 returns c =
-    effect-skip (c .before .before .before .args .full) (c .before .before .before .args .low)
-    (c .before .before .before .args .q) (c .before .before .before .args .x .now)
-    (c .before .before .before .args .y .now)
+    let s = c .before .before .before .args in
+    effect-skip (s .full) (s .low) (s .q) (table (s .n) (s .x .now)) (table (s .n) (s .y .now))
     (simp (c .before .before .weighted .ensures .0, c .before .weighted2 .ensures .0) at (c .if1 .taken))
 
 row-count-requires : tie.Need-row-count-requires
 row-count-requires c κs = search needs
 
+-- their weights do not skip the blocks
+kept : (c : tie.Else1) → let s = c .before .before .before .args in
+    skips (s .full) (s .low) (s .q) (table (s .n) (s .x .now)) (table (s .n) (s .y .now)) ≡ false
+kept c = simp (c .before .before .weighted .ensures .0, c .before .weighted2 .ensures .0) at (c .if1 .left)
+
 returns-2 : tie.Need-returns-2
 returns-2 c =
-    let s = c .before .before .before .before .before .args in
-    effect-open (s .full) (s .low) (s .q) (s .x .now) (s .y .now)
-    (simp (c .before .before .before .before .weighted .ensures .0, c .before .before .before .weighted2 .ensures .0) at
-    (c .before .before .if1 .left))
+    let at = c .before .before in
+    let s = at .before .before .before .args in
+    effect-open (s .full) (s .low) (s .q) (table (s .n) (s .x .now)) (table (s .n) (s .y .now)) (kept at)
 
 any-near-requires : tie.Need-any-near-requires
 any-near-requires c κs = search needs
 
 returns-3 : tie.Need-returns-3
 returns-3 c =
-    let at = c .before .before .before .before .before .before in
-    effect-open (at .before .args .full)
-    (at .before .args .low)
-    (at .before .args .q)
-    (at .before .args .x .now)
-    (at .before .args .y .now)
-    (simp (
-      at .weighted .ensures .0,
-      c .before .before .before .before .before .weighted2 .ensures .0,
-    ) at (c .before .before .before .before .if1 .left))
+    let at = unskipped (c .before) in
+    let s = at .before .before .before .args in
+    effect-open (s .full) (s .low) (s .q) (table (s .n) (s .x .now)) (table (s .n) (s .y .now)) (kept at)
 
 returns-4 : tie.Need-returns-4
 returns-4 c =
-    let at = c .before .before .before .before .before .before in
-    effect-quiet (at .before .args .full)
-    (at .before .args .low)
-    (at .before .args .q)
-    (at .before .args .x .now)
-    (at .before .args .y .now)
-    (simp (
-      at .weighted .ensures .0,
-      c .before .before .before .before .before .weighted2 .ensures .0,
-    ) at (c .before .before .before .before .if1 .left))
+    let at = unskipped (c .before) in
+    let s = at .before .before .before .args in
+    effect-quiet (s .full) (s .low) (s .q) (table (s .n) (s .x .now)) (table (s .n) (s .y .now)) (kept at)
     (sym (c .before .any-near .ensures) ∙ c .if3 .left)
 
 pub effect-spec : {M : Type 1} → statement M

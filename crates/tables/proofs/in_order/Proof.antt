@@ -1,10 +1,13 @@
 -- `in_order` meets its contract: the flag is the test of the two scores. Assumes nothing.
 use mathlib.Core.Path.{ap₂}
+use Prim.Native.Nat.{_-_}
+use native.Mathlib.Omega.{arith}
 use lib.Signed.{leZ}
 use mir.Syntax.{w32}
 use mir.Facts.{toZ-ofZ}
 use borrow.Author.Tests.{eq-eqb, ne-eqb}
-use Rattle.rules.specs.Tables.{rowInOrder}
+use Rattle.rules.specs.Tables.{table, rowInOrder}
+use Rattle.rules.specs.Widths.{rows-row}
 use borrow.Author.Needs.{needs, sfits-of}
 use Rattle.tables.proofs.in_order.Statement.{statement}
 use Rattle.tables.proofs.in_order.Tie as tie
@@ -20,7 +23,10 @@ number-requires : tie.Need-number-requires
 number-requires c κs = search needs
 
 number-requires-2 : tie.Need-number-requires-2
-number-requires-2 c κs = search needs
+number-requires-2 c κs =
+    let s = c .before .before in
+    let t = table (s .args .n) (s .args .t .now) in
+    (rows-row t (s .args .i - 1) (s .args .i) (omega arith) (omega arith), search needs)
 
 returns-2 : tie.Need-returns-2
 unfolding rowInOrder

@@ -1,10 +1,10 @@
 use borrow.Author.Needs.{needs}
-use Rattle.rules.specs.Tables.{inRange, within}
+use Rattle.rules.specs.Tables.{within}
 use Rattle.tables.proofs.in_range.Statement.{statement}
 use Rattle.tables.proofs.in_range.Tie as tie
 
 returns : tie.Need-returns
-unfolding inRange within
+unfolding within
 returns c = search needs
 
 pub in-range-spec : {M : Type 1} → statement M

@@ -1,89 +1,59 @@
--- `rows_code` meets its contract: no row before the turn's is refused, and the first that is decides. Assumes nothing.
-use mathlib.Core.Path.{_≡_, refl, sym, _∙_}
-use mathlib.Core.List.{List}
-use Prim.Native.Nat.{ℕ, _+_, _-_, _≤_}
-use native.Mathlib.Omega.{arith}
-use native.Mathlib.Decide.{le-ind}
-use native.Mathlib.Numerals.{add-one}
-use lib.IntN.{ℤ}
-use borrow.Author.Tests.{eq-eqb, ne-eqb, eqb-true, eqb-false, not-true, not-false}
+-- `rows_code` meets its contract, whichever code is chosen. Assumes nothing.
+use mathlib.Core.Path.{_≡_, refl, subst}
+use Prim.Native.Nat.{ℕ, _+_, _≤_}
+use Rattle.rules.specs.Tables.{table, HasRows, mostRows}
 use borrow.Author.Needs.{needs}
-use Rattle.rules.specs.Calls.{rowCode, rowsCode}
 use Rattle.tables.proofs.rows_code.Statement.{statement}
 use Rattle.tables.proofs.rows_code.Tie as tie
 
--- the first refused row decides where none before it is refused
-here : (t : List ℤ) (a i : ℕ) → rowsCode t a i ≡ 0 → rowsCode t a (i + 1) ≡ rowCode t (a + i)
-unfolding rowsCode
-here t a i h = rw (add-one, eq-eqb (rowsCode t a i) 0 h)
+-- what the code for n asks, from row a + 1 on
+abbrev Has : tie.Start → ℕ → ℕ → Type 0
+Has s n a = (a + s .args .m ≤ mostRows) × HasRows (table n (s .args .t .now)) (a + s .args .m)
 
--- and goes on to decide
-stays : (t : List ℤ) (a i n : ℕ) → i ≤ n → (rowsCode t a i ≡ 0 → ⊥) → rowsCode t a n ≡ rowsCode t a i
-unfolding rowsCode
-stays t a i n h k =
-    le-ind (λ (m : ℕ). rowsCode t a m ≡ rowsCode t a i) refl
-    (λ m l ih. rw (ne-eqb (rowsCode t a m) 0 (λ z. k (sym ih ∙ z))) ih) n h
+has : (s : tie.Start) (n a : ℕ) → s .args .n ≡ n → s .args .a ≡ a → Has s n a
+has s n a e d = subst (Has s n) d (subst (λ (k : ℕ). Has s k (s .args .a)) e (s .pre))
 
-abbrev Inv-loop : tie.InvT-loop
-Inv-loop t a n i₀ i = (i ≤ n) × (rowsCode t a i ≡ 0)
+rows-code-at-requires : tie.Need-rows-code-at-requires
+rows-code-at-requires c κs = has (c .before .before) 2 0 (c .before .if1 .taken) (c .if2 .taken)
 
-abbrev μ-loop : tie.MeasureT-loop
-μ-loop t a n i₀ i = n - i
+returns : tie.Need-returns
+returns c = rw (c .before .before .if1 .taken, c .before .if2 .taken) (c .rows-code-at .ensures)
 
-loop-holds : tie.Need-loop-holds Inv-loop μ-loop
-unfolding rowsCode
-loop-holds c = (search needs, refl)
+rows-code-at-requires-2 : tie.Need-rows-code-at-requires-2
+rows-code-at-requires-2 c κs = has (c .before .before) 2 _ (c .before .if1 .taken) refl
 
-add-next : tie.Need-add-next Inv-loop μ-loop
-add-next c = search needs
+returns-2 : tie.Need-returns-2
+returns-2 c = rw (c .before .before .if1 .taken) (c .rows-code-at2 .ensures)
 
-row-passes-requires : tie.Need-row-passes-requires Inv-loop μ-loop
-row-passes-requires c κs = search needs
+rows-code-at-requires-3 : tie.Need-rows-code-at-requires-3
+rows-code-at-requires-3 c κs = has (c .before .before .before) 3 0 (c .before .if3 .taken) (c .if4 .taken)
 
-row-code-requires : tie.Need-row-code-requires Inv-loop μ-loop
-row-code-requires c κs = search needs
+returns-3 : tie.Need-returns-3
+returns-3 c = rw (c .before .before .if3 .taken, c .before .if4 .taken) (c .rows-code-at3 .ensures)
 
-returns : tie.Need-returns Inv-loop μ-loop
-returns c =
-    let l = c .before .before .before .before .loop in
-    let s = c .before .before .before .before .before .args in
-    let passes = c .before .before .row-passes in
-    let refused = eqb-false (rowCode (s .t .now) (s .a + l .i)) 0
-    (sym (passes .ensures) ∙ not-true (passes .result) (c .before .if1 .taken)) in
-    let e = here (s .t .now) (s .a) (l .i) (l .inv .1) in
-    c .row-code .ensures
-    ∙ sym (stays (s .t .now) (s .a) (l .i + 1) (s .n) (omega arith) (λ z. refused (sym e ∙ z)) ∙ e)
+rows-code-at-requires-4 : tie.Need-rows-code-at-requires-4
+rows-code-at-requires-4 c κs = has (c .before .before .before) 3 _ (c .before .if3 .taken) refl
 
-add-i : tie.Need-add-i Inv-loop μ-loop
-add-i c = search needs
+returns-4 : tie.Need-returns-4
+returns-4 c = rw (c .before .before .if3 .taken) (c .rows-code-at4 .ensures)
 
-loop-less : tie.Need-loop-less Inv-loop μ-loop
-loop-less c = search needs
+rows-code-at-requires-5 : tie.Need-rows-code-at-requires-5
+rows-code-at-requires-5 c κs = search needs
 
-loop-again : tie.Need-loop-again Inv-loop μ-loop
-loop-again c =
-    let l = c .before .before .before .loop in
-    let s = c .before .before .before .before .args in
-    let passes = c .before .row-passes in
-    let passed = eqb-true (rowCode (s .t .now) (s .a + l .i)) 0
-    (sym (passes .ensures) ∙ not-false (passes .result) (c .if1 .left)) in
-    (search needs, here (s .t .now) (s .a) (l .i) (l .inv .1) ∙ passed)
-
-returns-2 : tie.Need-returns-2 Inv-loop μ-loop
-returns-2 c = let e : c .before .loop .i ≡ c .before .before .args .n = omega arith in cc
+returns-5 : tie.Need-returns-5
+returns-5 c = search needs
 
 pub rows-code-spec : {M : Type 1} → statement M
 rows-code-spec =
     tie.close
     (tie.spec
-    Inv-loop
-    μ-loop
-    loop-holds
-    add-next
-    row-passes-requires
-    row-code-requires
+    rows-code-at-requires
     returns
-    add-i
-    loop-less
-    loop-again
-    returns-2)
+    rows-code-at-requires-2
+    returns-2
+    rows-code-at-requires-3
+    returns-3
+    rows-code-at-requires-4
+    returns-4
+    rows-code-at-requires-5
+    returns-5)

@@ -4,12 +4,18 @@ use borrow.Author.Needs.{needs}
 use Rattle.tables.proofs.size_fits.Statement.{statement}
 use Rattle.tables.proofs.size_fits.Tie as tie
 
-row-count-requires : tie.Need-row-count-requires
-row-count-requires c κs = search needs
+width-requires : tie.Need-width-requires
+width-requires c κs = search needs
+
+rem-result : tie.Need-rem-result
+rem-result c = search needs
+
+rows-lent-requires : tie.Need-rows-lent-requires
+rows-lent-requires c κs = search needs
 
 returns : tie.Need-returns
 unfolding sizeFits
-returns c = simp (c .row-count .ensures)
+returns c = simp (c .before .width .ensures, c .rows-lent .ensures)
 
 pub size-fits-spec : {M : Type 1} → statement M
-size-fits-spec = tie.close (tie.spec row-count-requires returns)
+size-fits-spec = tie.close (tie.spec width-requires rem-result rows-lent-requires returns)

@@ -1,20 +1,30 @@
 -- `is_finished` meets its contract: the tests are the rule's. Assumes nothing.
+use Rattle.rules.specs.Session.{lentTable}
 use Rattle.rules.specs.Take.{finished}
+use Rattle.ceiling.specs.BothRead.{RowsRead, accepted-rows}
 use borrow.Author.Needs.{needs}
 use Rattle.take_answers.proofs.is_finished.Statement.{statement}
 use Rattle.take_answers.proofs.is_finished.Tie as tie
 
+-- the rows read are there, and were not refused
+rows : (s : tie.Start) → let a = s .args in
+    RowsRead (lentTable (a .s) (a .f .now)) (a .s .depth .field .0)
+    × RowsRead (lentTable (a .s) (a .t .now)) (a .s .depth .trim .0)
+rows s =
+    let a = s .args in
+    accepted-rows (lentTable (a .s) (a .f .now)) (lentTable (a .s) (a .t .now)) (a .s) (s .pre)
+
 is-empty-requires : tie.Need-is-empty-requires
-is-empty-requires c κs = search needs
+is-empty-requires c κs = rows c .0 .there
 
 is-empty-requires-2 : tie.Need-is-empty-requires-2
-is-empty-requires-2 c κs = search needs
+is-empty-requires-2 c κs = rows (c .before) .1 .there
 
 read-out-requires : tie.Need-read-out-requires
-read-out-requires c κs = search needs
+read-out-requires c κs = rows (c .before .before) .0
 
 read-out-requires-2 : tie.Need-read-out-requires-2
-read-out-requires-2 c κs = search needs
+read-out-requires-2 c κs = rows (c .before .before .before) .1
 
 returns : tie.Need-returns
 unfolding finished

@@ -8,8 +8,8 @@ pub table-spec : {M : Type 1} → statement M
 table-spec =
     tie.close
     (tie.spec
-    (λ seed w t₀ s₀ i₀ t s i. i ≤ 12)
-    (λ seed w t₀ s₀ i₀ t s i. 12 - i)
+    (λ seed card w t₀ s₀ i₀ t s i. i ≤ 12)
+    (λ seed card w t₀ s₀ i₀ t s i. 12 - i)
     (search needs)
     (search needs)
     (search needs)

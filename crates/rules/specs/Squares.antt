@@ -1,0 +1,54 @@
+-- Laws of squares, whatever is squared and however many places there are. Assumes nothing.
+use mathlib.Core.Path.{_≡_, refl, ap₂}
+use mathlib.Core.List.{List, [], _∷_}
+use Prim.Native.Nat.{ℕ, zero, suc, _+_, _*_, _≤_, _<_}
+use native.Mathlib.Nat.{suc-mul}
+use native.Mathlib.Omega.{arith}
+use lib.ListN.{length, getD, take}
+use lib.Seq.{take-all}
+use Rattle.rules.specs.Tables.{squares}
+
+-- what two lists differ by at place i, from 0 on, squared; d stands past an end
+unfoldable pub squareAt : {A : Type 0} → (A → A → ℕ) → A → List A → List A → ℕ → ℕ
+squareAt f d k l i = f (getD k i d) (getD l i d) * f (getD k i d) (getD l i d)
+
+module _ {A : Type 0} (f : A → A → ℕ) where
+  -- a list differs from itself by nothing
+  pub squares-same : ((x : A) → f x x ≡ 0) → (l : List A) → squares f l l ≡ 0
+  unfolding squares
+  squares-same h [] = refl
+  squares-same h (x ∷ l) = rw (h x, squares-same h l)
+
+  -- one place more
+  pub squares-more : (d : A) (k l : List A) (i : ℕ) → i < length k → i < length l
+      → squares f (take (suc i) k) (take (suc i) l) ≡ squares f (take i k) (take i l) + squareAt f d k l i
+  unfolding squares squareAt
+  squares-more d [] l i h j = absurd (omega arith)
+  squares-more d (x ∷ k) [] i h j = absurd (omega arith)
+  squares-more d (x ∷ k) (y ∷ l) zero h j = omega arith
+  squares-more d (x ∷ k) (y ∷ l) (suc i) h j =
+      let e = squares-more d k l i (omega arith) (omega arith) in
+      omega arith
+
+  -- the first places differ by no more than all
+  pub squares-first : (k l : List A) (i : ℕ) → squares f (take i k) (take i l) ≤ squares f k l
+  unfolding squares
+  squares-first k l zero = omega arith
+  squares-first [] l (suc i) = omega arith
+  squares-first (x ∷ k) [] (suc i) = omega arith
+  squares-first (x ∷ k) (y ∷ l) (suc i) = let e = squares-first k l i in omega arith
+
+  -- so many squares, none above m
+  pub squares-most : (d : A) (m : ℕ) (k l : List A) → ((i : ℕ) → i < length k → squareAt f d k l i ≤ m)
+      → squares f k l ≤ length k * m
+  unfolding squares squareAt
+  squares-most d m [] l h = omega arith
+  squares-most d m (x ∷ k) [] h = omega arith
+  squares-most d m (x ∷ k) (y ∷ l) h =
+      let first = h 0 (omega arith) in
+      let rest = squares-most d m k l (λ i j. h (suc i) (omega arith)) in
+      omega (arith, suc-mul (length k) m)
+
+  pub squares-all : (k l : List A) (i : ℕ) → length k ≤ i → length l ≤ i
+      → squares f (take i k) (take i l) ≡ squares f k l
+  squares-all k l i h j = ap₂ (squares f) (take-all i k h) (take-all i l j)
