@@ -4,71 +4,78 @@ use rules::Pair;
 use rules::Query;
 ghost use mathlib.Core.Path.{_≡_};
 ghost use mathlib.Core.Bool.{true, false};
-ghost use Prim.Native.Nat.{_+_, _≤_, _<_, _%_};
+ghost use Prim.Native.Nat.{_+_, _≤_, _<_, min};
 ghost use lib.ListN.{length};
-ghost use Rattle.rules.specs.Tables.{table, mostRows, rowInRange, row, withdrawn, terms, pairAt, HasRow, rowCount};
+ghost use Rattle.rules.specs.Tables.{table, mostRows, rowInRange, row, withdrawn, terms, pairAt, HasRow, HasRows};
+ghost use Rattle.rules.specs.Calls.{isCard};
 ghost use Rattle.session_laws.specs.Record.{QueryFits};
 ghost use Rattle.keys.specs.Held.{Narrow};
 ghost use Rattle.block.specs.Block.{at, Rows, Below, Joined};
 ghost use Rattle.block.specs.Live.{Live};
 ghost use Rattle.block.specs.Small.{SmallPairs};
-ghost use Rattle.block.specs.Near.{placed, rowNear, anyNear, NoneNear, NextNear};
+ghost use Rattle.block.specs.Near.{NoneNear, NoPair, NextNear};
 
-fn near_at(n: u32, q: Query, x: &[i32], i: usize, y: &[i32], j: usize) -> bool
+pub fn lesser(a: usize, b: usize) -> usize
+    ensures { λ r. ⌜ r ≡ min a b ⌝ }
+{
+    if a <= b { a } else { b }
+}
+
+fn beside_at(n: u32, q: Query, x: &[i32], i: usize, y: &[i32], j: usize) -> bool
     requires { ⌜ HasRow (table n (now x)) i × HasRow (table n (now y)) j ⌝ }
-    ensures { λ r. ⌜ r ≡ placed q .near (row (table n (now (x .entry))) i) (row (table n (now (y .entry))) j) ⌝ }
+    requires { ⌜ SmallPairs (q .radius) (table n (now x)) (table n (now y)) ⌝ }
+    ensures { λ r. ⌜ (r ≡ false
+        → terms q .near (row (table n (now (x .entry))) i) (row (table n (now (y .entry))) j) ≡ false) ⌝ }
 {
     let first = tables::shade(n, x, i);
     let second = tables::shade(n, y, j);
-    distance::qualifies(q.radius, first, second)
+    distance::beside(q.radius, first, second)
 }
 
-// Whether row i + 1 of x and row j + 1 of y lie within the radius, withdrawn or not. The code is chosen by n, so that
-// the compiler knows how many numbers a row has; it makes the choice outside the loops.
-fn near(n: u32, q: Query, x: &[i32], i: usize, y: &[i32], j: usize) -> bool
-    requires { ⌜ HasRow (table n (now x)) i × HasRow (table n (now y)) j ⌝ }
-    ensures { λ r. ⌜ r ≡ placed q .near (row (table n (now (x .entry))) i) (row (table n (now (y .entry))) j) ⌝ }
+// Whether row i + 1 of x lies beside any of y's rows k + 1 to e: where it does not, it lies near none of them. It looks
+// at all of them: no branch stands in the loop.
+fn some_beside(n: u32, q: Query, x: &[i32], i: usize, y: &[i32], k: usize, e: usize) -> bool
+    requires { ⌜ HasRow (table n (now x)) i × (k ≤ e) × HasRows (table n (now y)) e ⌝ }
+    requires { ⌜ SmallPairs (q .radius) (table n (now x)) (table n (now y)) ⌝ }
+    ensures { λ r. ⌜ (r ≡ false
+        → NoneNear (terms q) (table n (now (x .entry))) i (table n (now (y .entry))) k e) ⌝ }
 {
-    if n == 2 {
-        return near_at(2, q, x, i, y, j);
-    }
-    if n == 3 {
-        return near_at(3, q, x, i, y, j);
-    }
-    near_at(n, q, x, i, y, j)
-}
-
-// Whether row i + 1 of x lies near any row of y. It looks at all of them: no branch stands in the loop.
-fn row_near(n: u32, q: Query, x: &[i32], i: usize, y: &[i32]) -> bool
-    requires { ⌜ HasRow (table n (now x)) i ⌝ }
-    ensures { λ r. ⌜ r ≡ rowNear (placed q) (table n (now (x .entry))) (table n (now (y .entry))) i
-        (rowCount (table n (now (y .entry)))) ⌝ }
-{
-    let m = tables::row_count(n, y);
     let mut seen = false;
-    let mut j: usize = 0;
-    while j < m {
-        let here = near(n, q, x, i, y, j);
+    let mut j: usize = k;
+    while j < e {
+        let here = beside_at(n, q, x, i, y, j);
         seen = seen | here;
         j += 1;
     }
     seen
 }
 
-// Whether any row of x lies near any row of y.
-pub fn any_near(n: u32, q: Query, x: &[i32], y: &[i32]) -> bool
-    ensures { λ r. ⌜ r ≡ anyNear (placed q) (table n (now (x .entry))) (table n (now (y .entry)))
-        (rowCount (table n (now (x .entry)))) ⌝ }
+fn any_beside_at(n: u32, q: Query, x: &[i32], y: &[i32]) -> bool
+    requires { ⌜ SmallPairs (q .radius) (table n (now x)) (table n (now y)) ⌝ }
+    ensures { λ r. ⌜ (r ≡ false → NoPair (terms q) (table n (now (x .entry))) (table n (now (y .entry)))) ⌝ }
 {
-    let m = tables::row_count(n, x);
+    let l = tables::rows_lent(n, x);
+    let m = tables::rows_lent(n, y);
     let mut seen = false;
     let mut i: usize = 0;
-    while i < m {
-        let here = row_near(n, q, x, i, y);
+    while i < l {
+        let here = some_beside(n, q, x, i, y, 0, m);
         seen = seen | here;
         i += 1;
     }
     seen
+}
+
+// Whether any row of x lies beside any row of y: where none does, no pair of theirs qualifies. The code is chosen by n,
+// so that the compiler knows how many numbers a row has.
+pub fn any_beside(n: u32, q: Query, x: &[i32], y: &[i32]) -> bool
+    requires { ⌜ SmallPairs (q .radius) (table n (now x)) (table n (now y)) ⌝ }
+    ensures { λ r. ⌜ (r ≡ false → NoPair (terms q) (table n (now (x .entry))) (table n (now (y .entry)))) ⌝ }
+{
+    if n == 2 {
+        return any_beside_at(2, q, x, y);
+    }
+    any_beside_at(3, q, x, y)
 }
 
 // The pair of row i + 1 of x and row j + 1 of y, each score by its table's weight; a and c rows stand before x and y in
@@ -126,32 +133,24 @@ fn near_by(n: u32, q: Query, x: &[i32], i: usize, y: &[i32], j: usize) -> bool
     if n == 2 {
         return near_by_at(2, q, x, i, y, j);
     }
-    if n == 3 {
-        return near_by_at(3, q, x, i, y, j);
-    }
-    near_by_at(n, q, x, i, y, j)
+    near_by_at(3, q, x, i, y, j)
 }
 
-// Whether none of the eight rows of y from row k + 1 on lies near row i + 1 of x, live rows all; no, too, where k is
-// not a multiple of 8 or fewer are left. So it looks at no row twice.
-fn eight_far(n: u32, q: Query, x: &[i32], i: usize, y: &[i32], m: usize, k: usize) -> bool
-    requires { ⌜ HasRow (table n (now x)) i × (withdrawn (row (table n (now x)) i) ≡ false)
-        × Live (table n (now y)) m × (k ≤ m) ⌝ }
+// Whether none of y's rows k + 1 to e lies near row i + 1 of x; no, too, where k is not a multiple of 16, so that it
+// looks at no row twice, and where the radius is so large that few such rows would pass. The code is chosen by n.
+fn all_far(n: u32, q: Query, x: &[i32], i: usize, y: &[i32], k: usize, e: usize) -> bool
+    requires { ⌜ HasRow (table n (now x)) i × (k ≤ e) × HasRows (table n (now y)) e ⌝ }
     requires { ⌜ SmallPairs (q .radius) (table n (now x)) (table n (now y)) ⌝ }
-    ensures { λ r. ⌜ (r ≡ true → (k + 8 ≤ m)
-        × NoneNear (terms q) (table n (now (x .entry))) i (table n (now (y .entry))) k (k + 8)) ⌝ }
+    ensures { λ r. ⌜ (r ≡ true
+        → NoneNear (terms q) (table n (now (x .entry))) i (table n (now (y .entry))) k e) ⌝ }
 {
-    if !((k % 8 == 0) & (k + 8 <= m)) {
+    if (k % 16 != 0) | (1500 < q.radius) {
         return false;
     }
-    let mut seen = false;
-    let mut b: usize = 0;
-    while b < 8 {
-        let here = near_by(n, q, x, i, y, k + b);
-        seen = seen | here;
-        b += 1;
+    if n == 2 {
+        return !some_beside(2, q, x, i, y, k, e);
     }
-    !seen
+    !some_beside(3, q, x, i, y, k, e)
 }
 
 // The first of y's m live rows from row j + 1 on that lies near row i + 1 of x, a live row too, counted from 0; m where
@@ -164,8 +163,9 @@ fn next_near(n: u32, q: Query, x: &[i32], i: usize, y: &[i32], m: usize, j: usiz
 {
     let mut k = j;
     while k < m {
-        if eight_far(n, q, x, i, y, m, k) {
-            k += 8;
+        let e = lesser(k + 16, m);
+        if all_far(n, q, x, i, y, k, e) {
+            k = e;
         } else {
             if near_by(n, q, x, i, y, k) {
                 return k;
@@ -191,7 +191,7 @@ pub fn join(
     held: usize,
 ) -> usize
     requires { ⌜ (held ≤ room) × (room ≤ 64) × (length (now keys) ≡ 64) ⌝ }
-    requires { ⌜ QueryFits q × (n ≤ 3) × Rows a (table n (now x)) × Rows c (table n (now y)) ⌝ }
+    requires { ⌜ QueryFits q × (isCard n ≡ true) × Rows a (table n (now x)) × Rows c (table n (now y)) ⌝ }
     ensures { λ r. ⌜ Joined (terms q) room (at a (table n (now (x .entry)))) (at c (table n (now (y .entry)))) held
         (now (keys .entry)) r (now (keys .exit)) ⌝ }
 {

@@ -20,7 +20,7 @@ use Rattle.rules.specs.Session.{noPair, places, heldPairs, settled}
 use Rattle.rules.specs.Read.{fieldNext, oldDepth, newDepth}
 use Rattle.rules.specs.Calls.{isZeros, rowsCode, newBlockCodeBy, newBlockCode}
 use Rattle.lists.specs.Bools.{and-left, and-right}
-use Rattle.session_laws.specs.Record.{RecordFits, card-small}
+use Rattle.session_laws.specs.Record.{RecordFits}
 use Rattle.session_laws.specs.Calls.{Lent}
 use Rattle.session_laws.specs.Read.{unsettled-out, next-unread}
 use Rattle.choosing.specs.Ready.{Ready}
@@ -83,7 +83,7 @@ module _ (f t : Table) (s : Session) (l : Lent f t s) (n : length (s .pairs) ≡
       let more : s .out ≡ s .query .k → ⊥ = unsettled-out f t s h .wanted in
       record {
         query = fits .query;
-        card = card-small (s .rows .card) (fits .card);
+        card = fits .card;
         room = fits .room;
         wanted = omega (arith, fits .room);
         count = held-count s fits n;

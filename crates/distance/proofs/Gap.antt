@@ -128,7 +128,7 @@ gap-of-passed n x y f g e =
 abbrev pub held : ℤ → ℤ
 held z = toZ w32 (ofZ w32 z)
 
-held-is : (z : ℤ) → mag z < 16384 → held z ≡ z
+pub held-is : (z : ℤ) → mag z < 16384 → held z ≡ z
 held-is z h = toZ-ofZ {w = w32} {z = z} (record { sfits = omega arith })
 
 pub held-small : (z : ℤ) → mag z < 16384 → mag (held z) < 16384

@@ -1,19 +1,19 @@
 -- Squares of gaps: they fit, and how a loop over coordinates adds them up. Assumes nothing.
-use mathlib.Core.Path.{_≡_, sym, ap}
-use mathlib.Core.Bool.{true, false}
+use mathlib.Core.Path.{_≡_, ap}
+use mathlib.Core.Bool.{false}
 use mathlib.Core.List.{List}
-use Prim.Native.Nat.{ℕ, _+_, _*_, _≤_, _<_, _^_}
-use native.Mathlib.Nat.{mul-le-mul}
+use Prim.Native.Nat.{ℕ, suc, _+_, _*_, _≤_, _<_, _^_}
+use native.Mathlib.Nat.{mul-le-mul, suc-mul}
 use native.Mathlib.Omega.{arith}
 use native.Mathlib.Numerals.{add-one}
 use lib.Dec.{leb}
 use lib.IntN.{ℤ, pos}
-use lib.ListN.{length, take}
+use lib.ListN.{length, getD, take}
 use mir.Syntax.{w32, w64}
 use mir.Val.{Fits}
-use borrow.Author.Tests.{le-leb, lt-leb}
+use borrow.Author.Tests.{lt-leb}
 use Rattle.rules.specs.Tables.{gap, squaredDistance, qualifies}
-use Rattle.rules.specs.Squares.{squareAt, squares-more, squares-first, squares-all}
+use Rattle.rules.specs.Squares.{squareAt, squares-more, squares-place, squares-all}
 
 square-le : {m n : ℕ} → m ≤ n → m * m ≤ n * n
 square-le h = mul-le-mul h h
@@ -42,14 +42,18 @@ module _ (x y : List ℤ) (same : length x ≡ length y) (k : ℕ) where
   pub whole : length x ≤ k → seen ≡ squaredDistance x y
   whole h = squares-all gap x y k h (omega arith)
 
-  -- too far in some coordinates is too far
-  pub too-far : (radius : ℕ) → radius * radius < seen → false ≡ qualifies radius x y
-  unfolding qualifies
-  too-far radius h = sym (lt-leb (squaredDistance x y) (radius * radius) (omega (arith, squares-first gap x y k)))
-
-  pub near-enough : (radius : ℕ) → length x ≤ k → seen ≤ radius * radius → true ≡ qualifies radius x y
-  unfolding qualifies
-  near-enough radius h l = sym (le-leb (squaredDistance x y) (radius * radius) (omega (arith, whole h)))
+  -- too far in one coordinate is too far
+  pub too-far : (radius : ℕ) → k < length x → radius < gap (getD x k (pos 0)) (getD y k (pos 0))
+      → qualifies radius x y ≡ false
+  unfolding qualifies squareAt
+  too-far radius h l =
+      let g = gap (getD x k (pos 0)) (getD y k (pos 0)) in
+      let more : suc radius * suc radius ≤ g * g = square-le l in
+      let own : radius ≤ radius = omega arith in
+      let next : radius ≤ suc radius = omega arith in
+      let less : radius * radius ≤ radius * suc radius = mul-le-mul own next in
+      let place = squares-place gap (pos 0) x y k h (omega arith) in
+      lt-leb (squaredDistance x y) (radius * radius) (omega (arith, suc-mul radius (suc radius)))
 
   pub sum-in : (radius : ℕ) → length x ≤ k → leb seen (radius * radius) ≡ qualifies radius x y
   unfolding qualifies

@@ -1,7 +1,9 @@
-// The distance of two shades, lists of their coordinates of one length, for all 32-bit numbers and all radii: no sum
-// wraps, whatever a table holds. At the end the same test for small shades, as legal rows have them, at 32 bits.
+// The distance of two shades, lists of their coordinates of one length, for all 32-bit numbers: no sum wraps, whatever a
+// table holds. At the end whether two small shades, as legal rows have them, lie within a radius, at 32 bits.
 ghost use mathlib.Core.Path.{_≡_};
+ghost use mathlib.Core.Bool.{false};
 ghost use Prim.Native.Nat.{_+_, _*_, _<_, _≤_, _^_, _-_, min};
+ghost use lib.Dec.{leb};
 ghost use lib.IntN.{pos};
 ghost use lib.ListN.{length};
 ghost use lib.Signed.{mag};
@@ -54,25 +56,6 @@ pub fn squared_distance(x: &[i32], y: &[i32]) -> u64
     sum
 }
 
-// Whether two shades lie within the radius: what one coordinate leaves of the radius' square is for the others.
-pub fn qualifies(radius: u32, x: &[i32], y: &[i32]) -> bool
-    requires { ⌜ length (now x) ≡ length (now y) ⌝ }
-    ensures { λ r. ⌜ r ≡ qualifies radius (now (x .entry)) (now (y .entry)) ⌝ }
-{
-    let r = radius as u64;
-    let mut left = r * r;
-    let mut k: usize = 0;
-    while k < x.len() {
-        let square = square_at(x, y, k);
-        if left < square {
-            return false;
-        }
-        left = left - square;
-        k += 1;
-    }
-    true
-}
-
 // How far apart two small numbers lie.
 fn apart_small(x: i32, y: i32) -> u32
     requires { ⌜ (mag x < 16384) × (mag y < 16384) ⌝ }
@@ -107,4 +90,30 @@ pub fn near_small(radius: u32, x: &[i32], y: &[i32]) -> bool
         k += 1;
     }
     sum <= radius * radius
+}
+
+// Whether two small numbers lie no farther apart than the radius.
+fn no_farther(radius: u32, x: i32, y: i32) -> bool
+    requires { ⌜ (mag x < 16384) × (mag y < 16384) × (radius ≤ 40000) ⌝ }
+    ensures { λ r. ⌜ r ≡ leb (gap x y) radius ⌝ }
+{
+    let r = radius as i32;
+    (x - r <= y) & (y <= x + r)
+}
+
+// Whether two small shades lie beside each other, no farther apart than the radius in any coordinate: all that lie
+// within the radius do. No number is multiplied and no branch stands in the loop, so many are tested at once.
+pub fn beside(radius: u32, x: &[i32], y: &[i32]) -> bool
+    requires { ⌜ Small (now x) × Small (now y) ⌝ }
+    requires { ⌜ (length (now x) ≡ length (now y)) × (radius ≤ 40000) ⌝ }
+    ensures { λ r. ⌜ (r ≡ false → qualifies radius (now (x .entry)) (now (y .entry)) ≡ false) ⌝ }
+{
+    let mut all = true;
+    let mut k: usize = 0;
+    while k < x.len() {
+        let here = no_farther(radius, x[k], y[k]);
+        all = all & here;
+        k += 1;
+    }
+    all
 }

@@ -36,6 +36,10 @@ and-right a b e = and-out a b e .1
 pub and-in : (a b : Bool) → a ≡ true → b ≡ true → a && b ≡ true
 and-in a b h k = rw (h, k)
 
+pub and-none-out : (a b : Bool) → a && b ≡ false → (a ≡ false) ⊎ (b ≡ false)
+and-none-out true b h = inr h
+and-none-out false b h = inl refl
+
 pub and-true : (a : Bool) → a && true ≡ a
 and-true true = refl
 and-true false = refl

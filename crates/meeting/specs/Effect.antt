@@ -13,7 +13,7 @@ use Rattle.rules.specs.declared.Session.{Session}
 use Rattle.rules.specs.Tables.{terms, Block, qualifying, ahead}
 use Rattle.rules.specs.Session.{heldPairs}
 use Rattle.rules.specs.Read.{skipped, bestHeld, holding, meetBy, meet}
-use Rattle.block.specs.Near.{none-placed}
+use Rattle.rules.specs.Qualifying.{none-qualifying}
 use Rattle.skipping.specs.Effect.{Effect, skips}
 use Rattle.choosing.specs.Ready.{Ready}
 
@@ -95,7 +95,7 @@ module _ (s : Session) (r : Ready s) where
             let q = f .quiet refl in
             sym
             (ap met (sym test ∙ q .0)
-            ∙ ap (λ (l : List Pair). holding s (bestHeld s l)) (none-placed (s .query) x y (q .1))
+            ∙ ap (λ (l : List Pair). holding s (bestHeld s l)) (none-qualifying (terms (s .query)) x y (q .1))
             ∙ ap (holding s) same-held
             ∙ holding-same)
         go (suc (suc w)) f h = absurd (h (omega (arith, f .most)))

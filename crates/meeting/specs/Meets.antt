@@ -6,6 +6,7 @@ use Prim.Native.Nat.{ℕ, zero, suc, _+_, _*_, _-_, _≤_, _<_, min}
 use native.Mathlib.Nat.{mul-le-mul-right, suc-mul}
 use native.Mathlib.Numerals.{add-one}
 use native.Mathlib.Omega.{arith}
+use lib.IntN.{ℤ}
 use lib.ListN.{length, take, length-take}
 use Rattle.lists.specs.Lists.{sort}
 use Rattle.lists.specs.Words.{Ordered}
@@ -13,7 +14,7 @@ use Rattle.lists.specs.Sorts.{sort-ordered, take-ordered}
 use Rattle.rules.specs.declared.Pair.{Pair}
 use Rattle.rules.specs.declared.Session.{Session}
 use Rattle.rules.specs.Tables.{Table, withdrawn, terms, Block, qualifying, ahead, width, HasRows}
-use Rattle.rules.specs.Tables.{part}
+use Rattle.rules.specs.Tables.{table, part}
 use Rattle.rules.specs.Widths.{part-length, part-count}
 use Rattle.rules.specs.Ranking.{ahead-strict}
 use Rattle.rules.specs.Session.{places, heldPairs}
@@ -70,7 +71,7 @@ blocks-ready field s new t depth (suc n) r = meet-ready _ _ _ (blocks-ready fiel
 -- ---- Parts of a table as blocks
 
 -- whole rows that passed 6 and 7, within a table's 65,535
-pub part-rows : (t : Table) (x : Span) → SpanFits x t → Rows (x .from) (part t (x .from) (x .to - x .from))
+part-rows : (t : Table) (x : Span) → SpanFits x t → Rows (x .from) (part t (x .from) (x .to - x .from))
 part-rows t x fits =
     let a = x .from in
     let n = x .to - a in
@@ -91,6 +92,11 @@ part-rows t x fits =
           ∙ withdrawn-below t (x .to) (fits .fit) (a + i) (a + j) (omega (arith, h)) (omega (arith, l))
           (ap withdrawn (sym (row-part t a n i (omega (arith, h, l)))) ∙ g);
     }
+
+-- the same of a slice that is this part
+pub lent-rows : (t : Table) (x : Span) (l : List ℤ) → l ≡ part t (x .from) (x .to - x .from) .numbers → SpanFits x t
+    → Rows (x .from) (table (t .coordinates) l)
+lent-rows t x l e fits = subst (λ m. Rows (x .from) (table (t .coordinates) m)) (sym e) (part-rows t x fits)
 
 -- ---- The rows of a read whose checks have passed
 

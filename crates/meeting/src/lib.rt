@@ -5,13 +5,13 @@ use rules::Query;
 use rules::Session;
 use rules::TrimRows;
 ghost use mathlib.Core.Path.{_≡_};
-ghost use mathlib.Core.Bool.{false, cond};
+ghost use mathlib.Core.Bool.{true, false, cond};
 ghost use Prim.Native.Nat.{_+_, _*_, _-_, _≤_, _<_, _^_, min};
 ghost use lib.ListN.{length};
 ghost use Rattle.rules.specs.Tables.{table, mostRows, terms, HasRows};
 ghost use Rattle.rules.specs.Session.{lentTable, settled};
 ghost use Rattle.rules.specs.Read.{meetBlocks, readTable, readBlock};
-ghost use Rattle.rules.specs.Calls.{newBlockCode};
+ghost use Rattle.rules.specs.Calls.{isCard, newBlockCode};
 ghost use Rattle.session_laws.specs.Record.{QueryFits};
 ghost use Rattle.session_laws.specs.Calls.{Accepted};
 ghost use Rattle.block.specs.Block.{Joined};
@@ -20,12 +20,6 @@ ghost use Rattle.choosing.specs.Ready.{Ready};
 ghost use Rattle.choosing.specs.Due.{Due};
 ghost use Rattle.meeting.specs.Stands.{Keys, Stands, Meets, withKeys};
 ghost use Rattle.meeting.specs.Side.{FirstFit, SpanFits, Passed, spanBlock, downTo};
-
-fn lesser(a: usize, b: usize) -> usize
-    ensures { λ r. ⌜ r ≡ min a b ⌝ }
-{
-    if a <= b { a } else { b }
-}
 
 // Some rows of a table: those after row `from`, down to row `to`.
 pub struct Span {
@@ -53,7 +47,7 @@ fn join_parts(
     held: usize,
 ) -> usize
     requires { ⌜ (held ≤ room) × (room ≤ 64) × (length (now keys) ≡ 64) ⌝ }
-    requires { ⌜ QueryFits q × (n ≤ 3) × SpanFits x (table n (now f)) × SpanFits y (table n (now t)) ⌝ }
+    requires { ⌜ QueryFits q × (isCard n ≡ true) × SpanFits x (table n (now f)) × SpanFits y (table n (now t)) ⌝ }
     ensures { λ r. ⌜ Joined (terms q) room (spanBlock (table n (now (f .entry))) x)
         (spanBlock (table n (now (t .entry))) y) held (now (keys .entry)) r (now (keys .exit)) ⌝ }
 {
@@ -73,7 +67,7 @@ fn effect_parts(
     t: &[i32],
     y: Span,
 ) -> u64
-    requires { ⌜ SpanFits x (table n (now f)) × SpanFits y (table n (now t)) ⌝ }
+    requires { ⌜ QueryFits q × (isCard n ≡ true) × SpanFits x (table n (now f)) × SpanFits y (table n (now t)) ⌝ }
     ensures { λ r. ⌜ Effect full low q (spanBlock (table n (now (f .entry))) x .rows)
         (spanBlock (table n (now (t .entry))) y .rows) r ⌝ }
 {
@@ -101,7 +95,7 @@ fn meet_parts(
     m: Met,
 ) -> Met
     requires { ⌜ (m .held ≤ room) × (room ≤ 64) × (m .joined < 2 ^ 63) × (length (now keys) ≡ 64) ⌝ }
-    requires { ⌜ QueryFits q × (n ≤ 3) × SpanFits x (table n (now f)) × SpanFits y (table n (now t)) ⌝ }
+    requires { ⌜ QueryFits q × (isCard n ≡ true) × SpanFits x (table n (now f)) × SpanFits y (table n (now t)) ⌝ }
     ensures { λ r. ⌜ Meets q room (spanBlock (table n (now (f .entry))) x) (spanBlock (table n (now (t .entry))) y) m
         (now (keys .entry)) r (now (keys .exit)) ⌝ }
 {
@@ -154,7 +148,7 @@ fn meet_blocks(
     let mut c: usize = 0;
     let mut i: usize = 0;
     while i < n {
-        let g = lesser(c + block, depth);
+        let g = block::lesser(c + block, depth);
         let old = Span { from: c, to: g };
         let x = either(field, new, old);
         let y = either(field, old, new);

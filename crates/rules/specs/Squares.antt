@@ -38,6 +38,17 @@ module _ {A : Type 0} (f : A → A → ℕ) where
   squares-first (x ∷ k) [] (suc i) = omega arith
   squares-first (x ∷ k) (y ∷ l) (suc i) = let e = squares-first k l i in omega arith
 
+  -- one place alone, too
+  pub squares-place : (d : A) (k l : List A) (i : ℕ) → i < length k → i < length l
+      → squareAt f d k l i ≤ squares f k l
+  unfolding squares squareAt
+  squares-place d [] l i h j = absurd (omega arith)
+  squares-place d (x ∷ k) [] i h j = absurd (omega arith)
+  squares-place d (x ∷ k) (y ∷ l) zero h j = omega arith
+  squares-place d (x ∷ k) (y ∷ l) (suc i) h j =
+      let e = squares-place d k l i (omega arith) (omega arith) in
+      omega arith
+
   -- so many squares, none above m
   pub squares-most : (d : A) (m : ℕ) (k l : List A) → ((i : ℕ) → i < length k → squareAt f d k l i ≤ m)
       → squares f k l ≤ length k * m

@@ -2,7 +2,7 @@
 use mathlib.Core.Path.{_≡_, refl}
 use mathlib.Core.Bool.{Bool, true, false, cond, _&&_, _||_}
 use mathlib.Core.List.{[], _∷_}
-use mathlib.Core.Logic.{_⊎_, inl, inr}
+use mathlib.Core.Logic.{_⊎_, inl, inr, ⊎-elim}
 use Prim.Native.Nat.{ℕ, _+_, _*_, _%_, _≤_, _<_}
 use native.Mathlib.Omega.{arith}
 use lib.Dec.{eqb, leb, ltb}
@@ -198,12 +198,15 @@ module _ (s : Session) where
 
 -- ---- 5: the card
 
+pub card-out : (n : ℕ) → isCard n ≡ true → (n ≡ 2) ⊎ (n ≡ 3)
+card-out n h = ⊎-elim (λ e. inl (eqb-true n 2 e)) (λ e. inr (eqb-true n 3 e)) (or-out (eqb n 2) (eqb n 3) h)
+
 pub card-small : (n : ℕ) → isCard n ≡ true → n ≤ 3
-card-small n h = go (or-out (eqb n 2) (eqb n 3) h)
-  where
-    go : (eqb n 2 ≡ true) ⊎ (eqb n 3 ≡ true) → n ≤ 3
-    go (inl e) = omega (arith, eqb-true n 2 e)
-    go (inr e) = omega (arith, eqb-true n 3 e)
+card-small n h = ⊎-elim (λ e. omega (arith, e)) (λ e. omega (arith, e)) (card-out n h)
+
+-- what is not the old card is the new one
+pub card-other : (n : ℕ) → isCard n ≡ true → (n ≡ 2 → ⊥) → n ≡ 3
+card-other n h e = ⊎-elim (λ k. absurd (e k)) (λ k. k) (card-out n h)
 
 -- ---- 5: the record
 

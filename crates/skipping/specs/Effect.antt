@@ -6,9 +6,9 @@ use Prim.Native.Nat.{ℕ, _+_, _≤_}
 use native.Mathlib.Omega.{arith}
 use lib.Dec.{ltb}
 use Rattle.rules.specs.declared.Query.{Query}
-use Rattle.rules.specs.Tables.{Table, terms, rowCount}
+use Rattle.rules.specs.Tables.{Table, terms}
 use Rattle.rules.specs.Session.{firstScore}
-use Rattle.block.specs.Near.{placed, anyNear}
+use Rattle.block.specs.Near.{NoPair}
 
 -- what the first rows of two blocks add to a sum
 abbrev pub firstScores : Query → Table → Table → ℕ
@@ -19,7 +19,7 @@ skips full low q x y = full && ltb (firstScores q x y) low
 
 pub record Effect (full : Bool) (low : ℕ) (q : Query) (x y : Table) (r : ℕ) : Type 0 where
   pub skip : r ≡ 0 → skips full low q x y ≡ true
-  pub quiet : r ≡ 1 → (skips full low q x y ≡ false) × (anyNear (placed q) x y (rowCount x) ≡ false)
+  pub quiet : r ≡ 1 → (skips full low q x y ≡ false) × NoPair (terms q) x y
   pub joined : r ≡ 2 → skips full low q x y ≡ false
   pub most : r ≤ 2
 
@@ -33,8 +33,7 @@ module _ (full : Bool) (low : ℕ) (q : Query) (x y : Table) where
         most = omega arith;
       }
 
-  pub effect-quiet : skips full low q x y ≡ false → anyNear (placed q) x y (rowCount x) ≡ false
-      → Effect full low q x y 1
+  pub effect-quiet : skips full low q x y ≡ false → NoPair (terms q) x y → Effect full low q x y 1
   effect-quiet h k =
       record {
         skip = λ e. absurd (omega (arith, e));

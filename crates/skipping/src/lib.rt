@@ -1,12 +1,14 @@
 // What a block pair comes to, before its pairs are looked at one by one. Shades have n coordinates.
 use rules::Query;
 ghost use Rattle.rules.specs.Tables.{table, HasRow};
+ghost use Rattle.block.specs.Small.{SmallPairs};
 ghost use Rattle.skipping.specs.Effect.{Effect};
 
 // What a block pair comes to: 0, it is skipped; 1, it is joined, and no pair of it qualifies; 2, it is joined, pair by
 // pair. Only small blocks are tried for 1. `full` says that k pairs are held or out, `low` is the lowest held sum.
 pub fn effect(n: u32, full: bool, low: u32, q: Query, x: &[i32], y: &[i32]) -> u64
     requires { ⌜ HasRow (table n (now x)) 0 × HasRow (table n (now y)) 0 ⌝ }
+    requires { ⌜ SmallPairs (q .radius) (table n (now x)) (table n (now y)) ⌝ }
     ensures { λ r. ⌜ Effect full low q (table n (now (x .entry))) (table n (now (y .entry))) r ⌝ }
 {
     let first = tables::weighted(q.weights.field.0, n, x, 0);
@@ -17,7 +19,7 @@ pub fn effect(n: u32, full: bool, low: u32, q: Query, x: &[i32], y: &[i32]) -> u
     if 32 < tables::row_count(n, x) {
         return 2;
     }
-    if block::any_near(n, q, x, y) {
+    if block::any_beside(n, q, x, y) {
         return 2;
     }
     1

@@ -3,8 +3,8 @@ use mathlib.Core.Path.{_≡_, subst}
 use mathlib.Core.Bool.{false}
 use Prim.Native.Nat.{ℕ}
 use Rattle.rules.specs.Tables.{table, HasRow, row, withdrawn}
+use Rattle.session_laws.specs.Record.{card-other}
 use Rattle.block.specs.Small.{SmallPairs}
-use borrow.Author.Needs.{needs}
 use Rattle.block.proofs.near_by.Statement.{statement}
 use Rattle.block.proofs.near_by.Tie as tie
 
@@ -22,25 +22,17 @@ near-by-at-requires c κs = let s = c .before in subst (Asks s) (c .if1 .taken) 
 returns : tie.Need-returns
 returns c = rw (c .before .if1 .taken) (c .near-by-at .ensures)
 
+-- what is not the old card is the new one
+three : (c : tie.Else1) → c .before .args .n ≡ 3
+three c = card-other (c .before .args .n) (c .before .pre .1 .1 .card) (c .if1 .left)
+
 near-by-at-requires-2 : tie.Need-near-by-at-requires-2
-near-by-at-requires-2 c κs = let s = c .before .before in subst (Asks s) (c .if2 .taken) (s .pre)
+near-by-at-requires-2 c κs = let s = c .before in subst (Asks s) (three c) (s .pre)
 
 returns-2 : tie.Need-returns-2
-returns-2 c = rw (c .before .if2 .taken) (c .near-by-at2 .ensures)
-
-near-by-at-requires-3 : tie.Need-near-by-at-requires-3
-near-by-at-requires-3 c κs = search needs
-
-returns-3 : tie.Need-returns-3
-returns-3 c = search needs
+returns-2 c = rw (three (c .before)) (c .near-by-at2 .ensures)
 
 pub near-by-spec : {M : Type 1} → statement M
 near-by-spec =
     tie.close
-    (tie.spec
-    near-by-at-requires
-    returns
-    near-by-at-requires-2
-    returns-2
-    near-by-at-requires-3
-    returns-3)
+    (tie.spec near-by-at-requires returns near-by-at-requires-2 returns-2)

@@ -4,6 +4,7 @@ use native.Mathlib.Omega.{arith}
 use borrow.Author.Needs.{needs}
 use Rattle.rules.specs.Tables.{table, row, qualifies, terms}
 use Rattle.rules.specs.Widths.{row-below}
+use Rattle.session_laws.specs.Record.{card-small}
 use Rattle.session_laws.specs.ReadOut.{rows-qualify-in}
 use Rattle.block.proofs.near_by_at.Statement.{statement}
 use Rattle.block.proofs.near_by_at.Tie as tie
@@ -38,7 +39,7 @@ near-small-requires c κs =
         rw (c .before .shade .ensures .0) (k .first (s .args .i) (row-below x (s .args .i) (s .pre .0 .0))),
         rw (c .shade2 .ensures .0) (k .second (s .args .j) (row-below y (s .args .j) (s .pre .0 .1))),
       ),
-      (search needs, omega (arith, k .few, c .before .shade .ensures .1), k .within),
+      (search needs, omega (arith, card-small (s .args .n) (k .card), c .before .shade .ensures .1), k .within),
     )
 
 returns : tie.Need-returns

@@ -2,8 +2,9 @@
 use mathlib.Core.Path.{_≡_}
 use Prim.Native.Nat.{_+_, _-_, _≤_}
 use native.Mathlib.Omega.{arith}
+use borrow.Author.Needs.{needs}
 use Rattle.rules.specs.Tables.{table, terms}
-use Rattle.rules.specs.Widths.{has-row}
+use Rattle.rules.specs.Widths.{has-row, has-rows, count-most}
 use Rattle.block.specs.Near.{NoneNear, none-more, none-on}
 use Rattle.block.proofs.next_near.Statement.{statement}
 use Rattle.block.proofs.next_near.Tie as tie
@@ -17,38 +18,55 @@ abbrev μ-loop : tie.MeasureT-loop
 
 -- where the turn began, from the test of its one row
 abbrev turn : tie.After-near-by Inv-loop μ-loop → tie.In-loop Inv-loop μ-loop
-turn c = c .before .before .before
+turn c = c .before .before .before .before
 
 loop-holds : tie.Need-loop-holds Inv-loop μ-loop
 loop-holds c = (omega arith, omega (arith, c .pre .0 .3), λ b h k. absurd (omega (arith, h, k)))
 
-eight-far-requires : tie.Need-eight-far-requires Inv-loop μ-loop
-eight-far-requires c κs =
-    let p = c .before .before .pre in
-    ((p .0 .0, p .0 .1, p .0 .2, c .before .loop .inv .1), p .1)
+add-e : tie.Need-add-lesser Inv-loop μ-loop
+add-e c =
+    let s = c .before .before in
+    omega (arith, s .pre .0 .2 .upto, count-most (table (s .args .n) (s .args .y .now)))
 
-add-k : tie.Need-add-k Inv-loop μ-loop
-add-k c = let far = c .before .eight-far .ensures (c .if1 .taken) in omega (arith, far .0)
+lesser-requires : tie.Need-lesser-requires Inv-loop μ-loop
+lesser-requires c κs = search needs
+
+all-far-requires : tie.Need-all-far-requires Inv-loop μ-loop
+all-far-requires c κs =
+    let p = c .before .before .before in
+    let live = p .pre .0 .2 in
+    let y = table (p .args .n) (p .args .y .now) in (
+      (
+        p .pre .0 .0,
+        omega (arith, c .lesser .ensures, c .before .loop-test .taken),
+        has-rows y _ (omega (arith, c .lesser .ensures, live .upto)),
+      ),
+      p .pre .1,
+    )
 
 loop-less : tie.Need-loop-less Inv-loop μ-loop
-loop-less c = let far = c .before .eight-far .ensures (c .if1 .taken) in omega (arith, far .0)
+loop-less c = omega (arith, c .before .before .lesser .ensures, c .before .before .before .loop-test .taken)
 
 loop-again : tie.Need-loop-again Inv-loop μ-loop
 loop-again c =
-    let v = c .before .before .before .loop in
-    let s = c .before .before .before .before .args in
+    let at = c .before .before .before in
+    let v = at .before .loop in
+    let s = at .before .before .args in
     let x = table (s .n) (s .x .now) in
     let y = table (s .n) (s .y .now) in
-    let far = c .before .eight-far .ensures (c .if1 .taken) in (
-      omega (arith, v .inv .0),
-      far .0,
-      none-on (terms (s .q)) x (s .i) y (s .j) (v .k) (v .inv .2) (v .k + 8) (far .1),
+    let e = c .before .before .lesser .result in
+    let far = c .before .all-far .ensures (c .if1 .taken) in
+    let least = c .before .before .lesser .ensures in (
+      omega (arith, v .inv .0, least, at .loop-test .taken),
+      omega (arith, least),
+      none-on (terms (s .q)) x (s .i) y (s .j) (v .k) (v .inv .2) e far,
     )
 
 near-by-requires : tie.Need-near-by-requires Inv-loop μ-loop
 near-by-requires c κs =
-    let s = c .before .before .before .before in
-    let turn = c .before .before .loop-test .taken in
+    let at = c .before .before .before in
+    let s = at .before .before in
+    let turn = at .loop-test .taken in
     let l = s .pre .0 .2 in
     let y = table (s .args .n) (s .args .y .now) in
     ((s .pre .0 .0, has-row y _ (omega (arith, turn, l .upto))), ((s .pre .0 .1, l .live _ turn), s .pre .1))
@@ -64,8 +82,8 @@ returns c =
       found = λ _. rw (← c .before .near-by .ensures) (c .if2 .taken);
     }
 
-add-k-2 : tie.Need-add-k-2 Inv-loop μ-loop
-add-k-2 c = omega arith
+add-k : tie.Need-add-k Inv-loop μ-loop
+add-k c = omega arith
 
 loop-less-2 : tie.Need-loop-less-2 Inv-loop μ-loop
 loop-less-2 c = omega arith
@@ -102,13 +120,14 @@ next-near-spec =
     Inv-loop
     μ-loop
     loop-holds
-    eight-far-requires
-    add-k
+    add-e
+    lesser-requires
+    all-far-requires
     loop-less
     loop-again
     near-by-requires
     returns
-    add-k-2
+    add-k
     loop-less-2
     loop-again-2
     returns-2)

@@ -5,6 +5,8 @@ use lib.IntN.{ℤ}
 use native.Mathlib.Omega.{arith}
 use Rattle.rules.specs.Tables.{table}
 use Rattle.rules.specs.Widths.{has-row}
+use Rattle.block.specs.Small.{rows-small}
+use Rattle.meeting.specs.Meets.{lent-rows}
 use Rattle.skipping.specs.Effect.{Effect}
 use borrow.Author.Needs.{needs}
 use Rattle.meeting.proofs.effect_parts.Statement.{statement}
@@ -19,10 +21,17 @@ rows-requires-2 c κs = search needs
 effect-requires : tie.Need-effect-requires
 effect-requires c κs =
     let s = c .before .before in
-    let n = s .args .n in (
-      has-row (table n (c .before .rows .result .now)) 0
-          (omega (arith, c .before .rows .ensures .0 .1, s .pre .0 .some)),
-      has-row (table n (c .rows2 .result .now)) 0 (omega (arith, c .rows2 .ensures .0 .1, s .pre .1 .some)),
+    let a = s .args in
+    let n = a .n in
+    let fields = table n (c .before .rows .result .now) in
+    let trims = table n (c .rows2 .result .now) in
+    let first = lent-rows (table n (a .f .now)) (a .x) _ (c .before .rows .ensures .0 .0) (s .pre .2) in
+    let second = lent-rows (table n (a .t .now)) (a .y) _ (c .rows2 .ensures .0 .0) (s .pre .3) in (
+      (
+        has-row fields 0 (omega (arith, c .before .rows .ensures .0 .1, s .pre .2 .some)),
+        has-row trims 0 (omega (arith, c .rows2 .ensures .0 .1, s .pre .3 .some)),
+      ),
+      rows-small (a .q) (a .x .from) (a .y .from) fields trims (s .pre .1) (s .pre .0) first second,
     )
 
 returns : tie.Need-returns

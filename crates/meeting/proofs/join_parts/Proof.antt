@@ -1,8 +1,7 @@
 -- `join_parts` meets its contract: the parts are the blocks. Assumes nothing.
-use mathlib.Core.Path.{sym, subst}
+use mathlib.Core.Path.{sym}
 use Rattle.rules.specs.Tables.{table}
-use Rattle.block.specs.Block.{Rows}
-use Rattle.meeting.specs.Meets.{part-rows}
+use Rattle.meeting.specs.Meets.{lent-rows}
 use borrow.Author.Needs.{needs}
 use Rattle.meeting.proofs.join_parts.Statement.{statement}
 use Rattle.meeting.proofs.join_parts.Tie as tie
@@ -18,14 +17,14 @@ join-requires c κs =
     let s = c .before .before .before in
     let a = s .args in
     let fits = s .pre .1 in
-    let fields = subst (λ l. Rows (a .x .from) (table (a .n) l)) (sym (c .before .before .rows .ensures .0 .0)) in
-    let trims = subst (λ l. Rows (a .y .from) (table (a .n) l)) (sym (c .before .rows2 .ensures .0 .0)) in (
+    let fields = c .before .before .rows .ensures .0 .0 in
+    let trims = c .before .rows2 .ensures .0 .0 in (
       s .pre .0,
       (
         fits .0,
         fits .1,
-        fields (part-rows (table (a .n) (a .f .now)) (a .x) (fits .2)),
-        trims (part-rows (table (a .n) (a .t .now)) (a .y) (fits .3)),
+        lent-rows (table (a .n) (a .f .now)) (a .x) _ fields (fits .2),
+        lent-rows (table (a .n) (a .t .now)) (a .y) _ trims (fits .3),
       ),
     )
 

@@ -1,5 +1,5 @@
 -- `effect` meets its contract. Assumes nothing.
-use mathlib.Core.Path.{_≡_, sym, _∙_}
+use mathlib.Core.Path.{_≡_}
 use mathlib.Core.Bool.{false}
 use Rattle.rules.specs.Tables.{table}
 use Rattle.skipping.specs.Effect.{skips, effect-skip, effect-quiet, effect-open}
@@ -8,7 +8,7 @@ use Rattle.skipping.proofs.effect.Statement.{statement}
 use Rattle.skipping.proofs.effect.Tie as tie
 
 -- where their weights did not skip the blocks, from the look for a near pair
-abbrev unskipped : tie.After-any-near → tie.Else1
+abbrev unskipped : tie.After-any-beside → tie.Else1
 unskipped c = c .before .before .before
 
 weighted-requires : tie.Need-weighted-requires
@@ -40,8 +40,8 @@ returns-2 c =
     let s = at .before .before .before .args in
     effect-open (s .full) (s .low) (s .q) (table (s .n) (s .x .now)) (table (s .n) (s .y .now)) (kept at)
 
-any-near-requires : tie.Need-any-near-requires
-any-near-requires c κs = search needs
+any-beside-requires : tie.Need-any-beside-requires
+any-beside-requires c κs = search needs
 
 returns-3 : tie.Need-returns-3
 returns-3 c =
@@ -54,7 +54,7 @@ returns-4 c =
     let at = unskipped (c .before) in
     let s = at .before .before .before .args in
     effect-quiet (s .full) (s .low) (s .q) (table (s .n) (s .x .now)) (table (s .n) (s .y .now)) (kept at)
-    (sym (c .before .any-near .ensures) ∙ c .if3 .left)
+    (c .before .any-beside .ensures (c .if3 .left))
 
 pub effect-spec : {M : Type 1} → statement M
 effect-spec =
@@ -66,6 +66,6 @@ effect-spec =
     returns
     row-count-requires
     returns-2
-    any-near-requires
+    any-beside-requires
     returns-3
     returns-4)

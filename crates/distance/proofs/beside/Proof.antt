@@ -1,0 +1,95 @@
+-- `beside` meets its contract: where a coordinate lies farther apart than the radius, the shades do. Assumes nothing.
+use mathlib.Core.Path.{_≡_, refl, sym, _∙_}
+use mathlib.Core.Bool.{false}
+use mathlib.Core.Logic.{⊎-elim}
+use Prim.Native.Nat.{_-_, _≤_, _<_}
+use lib.Dec.{leb}
+use borrow.Author.Tests.{leb-false}
+use Rattle.lists.specs.Bools.{clash, and-none-out}
+use lib.IntN.{pos}
+use lib.ListN.{length, getD}
+use Rattle.rules.specs.Tables.{gap, qualifies}
+use Rattle.distance.proofs.Gap as G
+use Rattle.distance.proofs.Square as S
+use borrow.Author.Needs.{needs}
+use Rattle.distance.proofs.beside.Statement.{statement}
+use Rattle.distance.proofs.beside.Tie as tie
+
+abbrev Inv-loop : tie.InvT-loop
+Inv-loop radius x y all₀ k₀ all k = (k ≤ length x) × (all ≡ false → qualifies radius x y ≡ false)
+
+abbrev μ-loop : tie.MeasureT-loop
+μ-loop radius x y all₀ k₀ all k = length x - k
+
+loop-holds : tie.Need-loop-holds Inv-loop μ-loop
+loop-holds c = (search needs, λ e. clash refl e)
+
+mul-no-farther : tie.Need-mul-no-farther Inv-loop μ-loop
+mul-no-farther c = search needs
+
+shared-slice-copy-out-no-farther : tie.Need-shared-slice-copy-out-no-farther Inv-loop μ-loop
+shared-slice-copy-out-no-farther c = search needs
+
+mul-no-farther-2 : tie.Need-mul-no-farther-2 Inv-loop μ-loop
+mul-no-farther-2 c = search needs
+
+shared-slice-copy-out-no-farther-2 : tie.Need-shared-slice-copy-out-no-farther-2 Inv-loop μ-loop
+shared-slice-copy-out-no-farther-2 c = search needs
+
+no-farther-requires : tie.Need-no-farther-requires Inv-loop μ-loop
+no-farther-requires c κs =
+    let s = c .before .before .before .before in
+    let k = c .before .before .before .loop .k in (
+      G.held-small (getD (s .args .x .now) k (pos 0)) (s .pre .0 .0 k),
+      G.held-small (getD (s .args .y .now) k (pos 0)) (s .pre .0 .1 k),
+      s .pre .1 .1,
+    )
+
+add-k : tie.Need-add-k Inv-loop μ-loop
+add-k c = search needs
+
+loop-less : tie.Need-loop-less Inv-loop μ-loop
+loop-less c = search needs
+
+-- a coordinate farther apart than the radius
+far : (c : tie.After-no-farther Inv-loop μ-loop) → c .no-farther .result ≡ false
+    → let s = c .before .before .before .before .before .args in
+    qualifies (s .radius) (s .x .now) (s .y .now) ≡ false
+far c e =
+    let at = c .before .before .before in
+    let s = at .before .before in
+    let k = at .before .loop .k in
+    let x = getD (s .args .x .now) k (pos 0) in
+    let y = getD (s .args .y .now) k (pos 0) in
+    let test : leb (gap (G.held x) (G.held y)) (s .args .radius) ≡ false = sym (c .no-farther .ensures) ∙ e in
+    let more : s .args .radius < gap x y =
+    leb-false (gap x y) (s .args .radius)
+    (simp (G.held-is x (s .pre .0 .0 k), G.held-is y (s .pre .0 .1 k)) at test) in
+    S.too-far (s .args .x .now) (s .args .y .now) (s .pre .1 .0) k (s .args .radius) (at .loop-test .taken) more
+
+loop-again : tie.Need-loop-again Inv-loop μ-loop
+loop-again c =
+    let v = c .before .before .before .before .loop in (
+      search needs,
+      λ e. ⊎-elim (v .inv .1) (far c) (and-none-out (v .all) (c .no-farther .result) e),
+    )
+
+returns : tie.Need-returns Inv-loop μ-loop
+returns c = c .before .loop .inv .1
+
+pub beside-spec : {M : Type 1} → statement M
+beside-spec =
+    tie.close
+    (tie.spec
+    Inv-loop
+    μ-loop
+    loop-holds
+    mul-no-farther
+    shared-slice-copy-out-no-farther
+    mul-no-farther-2
+    shared-slice-copy-out-no-farther-2
+    no-farther-requires
+    add-k
+    loop-less
+    loop-again
+    returns)
