@@ -113,7 +113,7 @@ pub worked-new : wholeQuery newFields newTrims input
     ("     2     1     5"
     ∷ "     1   160   101   201       5       0"
     ∷ "     2   130   102   202       5       0"
-    ∷ "     2     2           4"
+    ∷ "     2     2           2"
     ∷ [])
 unfolding run
 worked-new = refl

@@ -161,8 +161,11 @@ apart a scores = oldTable (each (λ score. pos 1 ∷ score ∷ a ∷ pos 0 ∷ [
 abbrev tens : Table
 tens = apart (pos 0) (pos 20 ∷ pos 10 ∷ pos 0 ∷ [])
 
+abbrev sixesAt : ℤ → Table
+sixesAt a = apart a (pos 20 ∷ pos 14 ∷ pos 0 ∷ [])
+
 abbrev sixes : Table
-sixes = apart (pos 9) (pos 20 ∷ pos 14 ∷ pos 0 ∷ [])
+sixes = sixesAt (pos 9)
 
 abbrev readTwice : Session
 readTwice =
@@ -179,7 +182,7 @@ pub ceiling-weighted : ceiling tens sixes readTwice ≡ 50
 unfolding run
 ceiling-weighted = refl
 
--- 10 and twice 14 is not below a held sum of 30, though 10 and 14 is
+-- at one place, 10 and twice 14 is not below a held sum of 30, though 10 and 14 is
 abbrev oneHeld : Session
 oneHeld =
     let s = readTwice in
@@ -194,7 +197,7 @@ oneHeld =
       joined = s .joined;
     }
 
-pub skipping-weighted : skipped oneHeld (rowsBetween tens 1 2) (rowsBetween sixes 1 2) ≡ false
+pub skipping-weighted : skipped oneHeld (rowsBetween tens 1 2) (rowsBetween (sixesAt (pos 0)) 1 2) ≡ false
 unfolding run
 skipping-weighted = refl
 
