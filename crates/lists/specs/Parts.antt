@@ -13,6 +13,11 @@ use Rattle.lists.specs.Lists.{consIf, keep, every, range, each}
 use Rattle.lists.specs.Bools.{clash, and-out}
 use Rattle.lists.specs.Words.{Distinct}
 
+-- a list that has no element
+pub no-member : {A : Type 0} (l : List A) → ((x : A) → List·Memᴰ x l → ⊥) → l ≡ []
+no-member [] h = refl
+no-member (x ∷ l) h = absurd (h x (List·Memᴰ·head refl))
+
 -- ++
 
 module _ {A : Type 0} where

@@ -1,6 +1,8 @@
 pub mod Tables
 pub mod Widths
 pub mod Squares
+pub mod Whole
+pub mod Rectangles
 pub mod Session
 pub mod Read
 pub mod Take

@@ -88,11 +88,20 @@ module _ (s : Session) (x y : Block) where
   unfolding skippedBy
   skipped-is = (there, back)
     where
+      n : ℕ
+      n = s .out + s .held
+
+      k : ℕ
+      k = s .query .k
+
+      least : ℕ
+      least = lowest (heldPairs s)
+
       full : Bool
-      full = eqb (s .out + s .held) (s .query .k)
+      full = eqb n k
 
       low : Bool
-      low = ltb firstScores (lowest (heldPairs s))
+      low = ltb firstScores least
 
       far : Bool
       far = terms (s .query) .far (x .rows) (y .rows)
@@ -100,15 +109,12 @@ module _ (s : Session) (x y : Block) where
       there : (full && low) || far ≡ true → SkippedForScores ⊎ (far ≡ true)
       there e =
           ⊎-elim
-          (λ a.
-          let both = and-out full low a in
-          inl (eqb-true (s .out + s .held) (s .query .k) (both .0), ltb-true firstScores (lowest (heldPairs s)) (both .1)))
+          (λ a. let both = and-out full low a in inl (eqb-true n k (both .0), ltb-true firstScores least (both .1)))
           inr (or-out (full && low) far e)
 
       back : SkippedForScores ⊎ (far ≡ true) → (full && low) || far ≡ true
       back (inl h) =
-          or-in-left (full && low) far
-          (and-in full low (eq-eqb (s .out + s .held) (s .query .k) (h .0)) (lt-ltb firstScores (lowest (heldPairs s)) (h .1)))
+          or-in-left (full && low) far (and-in full low (eq-eqb n k (h .0)) (lt-ltb firstScores least (h .1)))
       back (inr h) = or-in-right (full && low) far h
 
   -- where the first scores add to just the lowest held sum, shades alone decide

@@ -153,8 +153,8 @@ squaredDistance = squares gap
 unfoldable pub qualifies : ℕ → List ℤ → List ℤ → Bool
 qualifies radius x y = leb (squaredDistance x y) (radius * radius)
 
--- "from each block's rows, withdrawn ones too, the lowest and highest a and b": of coordinate k, from 0 on, of the first
--- m + 1 rows of a block
+-- "from each block's rows, withdrawn ones too, the lowest and highest a and b": of coordinate k, from 0 on, of the
+-- first m + 1 rows of a block
 unfoldable pub side : Table → ℕ → ℕ → Side
 side t k zero = record { low = num t 0 (k + 2); high = num t 0 (k + 2) }
 side t k (suc m) =
