@@ -60,6 +60,14 @@ pub held-holding : (s : Session) (l : List Pair) → heldPairs (holding s l) ≡
 unfolding holding places
 held-holding s l = take-append-seam l (replicate (64 - length l) noPair)
 
+-- no pair met, none more held
+pub none-held : (s : Session) → length (heldPairs s) ≡ s .held → ranked ahead (heldPairs s) ≡ true
+    → s .out + s .held ≤ s .query .k → (l : List Pair) → l ≡ [] → bestHeld s l ≡ heldPairs s
+unfolding bestHeld
+none-held s stored in-rank room l none =
+    ap (λ l. take (s .query .k - s .out) (sort ahead (heldPairs s ++ l))) none
+    ∙ none-same pair-rank (s .query .k - s .out) (heldPairs s) in-rank (omega arith)
+
 module _ (s : Session) (x y : Block) where
   abbrev met : List Pair
   met = qualifying (terms (s .query)) x y
@@ -92,33 +100,25 @@ module _ (s : Session) (x y : Block) where
 
   -- of any record whose held pairs are ranked, as many as it says, and with those out at most k
   module _ (stored : length (heldPairs s) ≡ s .held) (in-rank : ranked ahead (heldPairs s) ≡ true)
-      (room : s .out + s .held ≤ s .query .k) where
-    -- no pair met, none more held
-    pub none-held : (l : List Pair) → l ≡ [] → bestHeld s l ≡ heldPairs s
+      (room : s .out + s .held ≤ s .query .k) (low : (p : Pair) → List·Memᴰ p met → p .sum ≤ firstScores s x y) where
+    -- "Skipping never changes them": neither for scores nor for shade
+    skipped-same : skipped s x y ≡ true → bestHeld s met ≡ heldPairs s
     unfolding bestHeld
-    none-held l none =
-        ap (λ l. take (s .query .k - s .out) (sort ahead (heldPairs s ++ l))) none
-        ∙ none-same pair-rank (s .query .k - s .out) (heldPairs s) in-rank (omega arith)
+    skipped-same e =
+        ⊎-elim
+        (λ a.
+        skip-same pair-rank (s .query .k - s .out) (heldPairs s) met in-rank (omega (arith, a .0))
+        (λ p q m n. omega (arith, a .1, lowest-least p (heldPairs s) m, low q n)))
+        (λ far. none-held s stored in-rank room met (far-qualifying (s .query) x y far)) (skipped-is s x y .0 e)
 
-    module _ (low : (p : Pair) → List·Memᴰ p met → p .sum ≤ firstScores s x y) where
-      -- "Skipping never changes them": neither for scores nor for shade
-      skipped-same : skipped s x y ≡ true → bestHeld s met ≡ heldPairs s
-      unfolding bestHeld
-      skipped-same e =
-          ⊎-elim
-          (λ a.
-          skip-same pair-rank (s .query .k - s .out) (heldPairs s) met in-rank (omega (arith, a .0))
-          (λ p q m n. omega (arith, a .1, lowest-least p (heldPairs s) m, low q n)))
-          (λ far. none-held met (far-qualifying (s .query) x y far)) (skipped-is s x y .0 e)
-
-      -- a block pair met holds the best of those held and its own, skipped or not
-      pub meet-held : heldPairs (meet s x y) ≡ bestHeld s met
-      unfolding meetBy
-      meet-held = go (skipped s x y) refl
-        where
-          go : (b : Bool) → skipped s x y ≡ b → heldPairs (cond b s (holding s (bestHeld s met))) ≡ bestHeld s met
-          go true e = sym (skipped-same e)
-          go false e = held-holding s (bestHeld s met)
+    -- a block pair met holds the best of those held and its own, skipped or not
+    pub meet-held : heldPairs (meet s x y) ≡ bestHeld s met
+    unfolding meetBy
+    meet-held = go (skipped s x y) refl
+      where
+        go : (b : Bool) → skipped s x y ≡ b → heldPairs (cond b s (holding s (bestHeld s met))) ≡ bestHeld s met
+        go true e = sym (skipped-same e)
+        go false e = held-holding s (bestHeld s met)
 
   -- the block pair's pairs M, none of them in R, join R
   meet-holds : (R R′ M : Pair → Type 0) (out : List Pair) → Keeping R out s → ((p : Pair) → List·Memᴰ p met ↔ M p)
