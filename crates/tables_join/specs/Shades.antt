@@ -1,6 +1,6 @@
--- The shade rule alters joined counts and nothing else: every accepted read, of a forged record too, leaves the record
--- that the rules without it leave, but for a joined count that is no higher. Assumes nothing.
-use mathlib.Core.Path.{_≡_, refl, sym, ap, ap₂, subst, _∙_}
+-- Pairs, depths and their limit are not altered by the shade rule: every accepted read, of a forged record too, holds
+-- the pairs that it would hold without it, at the same depths, and its joined count is no higher. Assumes nothing.
+use mathlib.Core.Path.{_≡_, refl, sym, ap, subst, _∙_}
 use mathlib.Core.Bool.{Bool, true, false, cond, _&&_, _||_}
 use mathlib.Core.List.{List, _++_}
 use Prim.Native.Nat.{ℕ, zero, suc, _+_, _-_, _≤_}
@@ -20,13 +20,13 @@ use Rattle.rules.specs.Read.{readTable, readBlockBy, readBlock}
 use Rattle.rules.specs.Calls.{callCode, newBlockCode}
 use Rattle.session_laws.specs.Calls.{Accepted, call-out, NewRowsFit, new-block-out}
 use Rattle.tables_join.specs.Held.{held-holding, none-held}
-use Rattle.tables_join.specs.Unskipped.{Unskipping, read-unskipping}
+use Rattle.tables_join.specs.Unskipped.{read-unskipping}
 
 -- a query's terms without the shade rule
 abbrev pub byScores : Query → Terms
 byScores q = record { field = terms q .field; trim = terms q .trim; near = terms q .near; far = λ x y. false }
 
--- the same record, but for the joined count, which is no higher
+-- the same counts, depths and held pairs, and a joined count that is no higher
 pub record Fewer (r u : Session) : Type 0 where
   pub query : r .query ≡ u .query
   pub rows : r .rows ≡ u .rows
