@@ -184,15 +184,18 @@ gap-covered s o u v h k c d =
     let b = r .3 in
     omega (arith, r .4, gap-le s o (r .0) (r .1) (omega arith, omega arith) (omega arith, omega arith))
 
-pub gap-turned : (s o : Side) → Ordered s → Ordered o → sideGap s o ≤ sideGap o s
-gap-turned s o h k =
+turned-most : (s o : Side) → Ordered s → Ordered o → sideGap s o ≤ sideGap o s
+turned-most s o h k =
     let r = gap-reached o s k h in
     omega (arith, r .4, gap-sym (r .0) (r .1), gap-le s o (r .1) (r .0) (r .3) (r .2))
+
+pub gap-turned : (s o : Side) → Ordered s → Ordered o → sideGap s o ≡ sideGap o s
+gap-turned s o h k = omega (arith, turned-most s o h k, turned-most o s k h)
 
 -- ---- The rectangle of a block's rows
 
 -- stands past the last side
-abbrev noSide : Side
+abbrev pub noSide : Side
 noSide = record { low = pos 0; high = pos 0 }
 
 -- side k of a rectangle
@@ -354,8 +357,7 @@ turned-le x y =
     (omega arith) (omega arith)
     (λ n a b.
     square-le sideGap turned noSide noSide (rectangle x) (rectangle y) (rectangle x) (rectangle y) n
-    (gap-turned (sideOf x n) (sideOf y n)
-    (rectangle-ordered x n (omega (arith, rectangle-length x)))
+    (turned-most (sideOf x n) (sideOf y n) (rectangle-ordered x n (omega (arith, rectangle-length x)))
     (rectangle-ordered y n (omega (arith, rectangle-length y))))))
 
 pub far-turned : (radius : ℕ) (x y : Table) → farApart radius x y ≡ farApart radius y x
