@@ -44,8 +44,10 @@ pub fn put_sides(n: u32, t: &[i32], out: &mut [i32; 6])
     let mut k: usize = 0;
     while k < n as usize {
         let s = side(n, t, m, k);
-        out[2 * k] = s.low;
-        out[2 * k + 1] = s.high;
+        let low = s.low;
+        let high = s.high;
+        out[2 * k] = low;
+        out[2 * k + 1] = high;
         k += 1;
     }
 }
@@ -99,8 +101,8 @@ fn row_far(n: u32, radius: u32, sides: &[i32; 6], t: &[i32]) -> bool
 // block does not: most blocks of rows in no order of shade end there.
 pub fn far(n: u32, radius: u32, sides: &[i32; 6], t: &[i32]) -> bool
     requires { ⌜ (2 ≤ n) × (n ≤ 3) × HasRow (table n (now t)) 0 ⌝ }
-    ensures { λ r. ⌜ (x : Table) → rectangle x ≡ sidesIn n (now (sides .entry))
-        → r ≡ farApart radius x (table n (now (t .entry))) ⌝ }
+    ensures { λ r. ⌜ ((x : Table) → rectangle x ≡ sidesIn n (now (sides .entry))
+        → r ≡ farApart radius x (table n (now (t .entry)))) ⌝ }
 {
     if !row_far(n, radius, sides, t) {
         return false;

@@ -1,0 +1,41 @@
+-- The ends of a side as the code has them: which of two 32-bit numbers a test chooses. Assumes nothing.
+use mathlib.Core.Path.{_≡_, ap, ap₂, _∙_}
+use mathlib.Core.Bool.{true, false, cond}
+use Prim.Native.Nat.{ℕ, zero, suc, _+_, _-_, _≤_}
+use native.Mathlib.Omega.{arith}
+use lib.IntN.{ℤ}
+use lib.Signed.{leZ}
+use mir.Syntax.{w32}
+use mir.Val.{SFits, toZ, ofZ}
+use mir.Facts.{toZ-ofZ}
+use Rattle.rules.specs.declared.Side.{Side}
+use Rattle.rules.specs.Tables.{Table, num, side}
+
+-- a 32-bit number, as the code has it
+abbrev pub held : ℤ → ℤ
+held z = toZ w32 (ofZ w32 z)
+
+module _ (x y a b : ℤ) (f : SFits w32 x) (g : SFits w32 y) where
+  pub chosen : SFits w32 a → leZ (held x) (held y) ≡ true → held a ≡ cond (leZ x y) a b
+  chosen h e =
+      let t : leZ x y ≡ true = simp (toZ-ofZ f, toZ-ofZ g) at e in
+      rw (t, toZ-ofZ h)
+
+  pub other : SFits w32 b → leZ (held x) (held y) ≡ false → held b ≡ cond (leZ x y) a b
+  other h e =
+      let t : leZ x y ≡ false = simp (toZ-ofZ f, toZ-ofZ g) at e in
+      rw (t, toZ-ofZ h)
+
+-- a side made to hold x too
+abbrev pub wider : Side → ℤ → Side
+wider s x = record { low = cond (leZ (s .low) x) (s .low) x; high = cond (leZ x (s .high)) (s .high) x }
+
+-- one row more
+pub side-more : (t : Table) (k i : ℕ) (s : Side) (x : ℤ) → 1 ≤ i → s ≡ side t k (i - 1) → x ≡ num t i (k + 2)
+    → wider s x ≡ side t k (i + 1 - 1)
+unfolding side
+side-more t k zero s x h e f = absurd (omega arith)
+side-more t k (suc i) s x h e f =
+    let less : suc i - 1 ≡ i = omega arith in
+    let same : suc i ≡ suc i + 1 - 1 = omega arith in
+    ap₂ wider (e ∙ ap (side t k) less) f ∙ ap (side t k) same
