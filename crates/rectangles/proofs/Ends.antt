@@ -1,10 +1,10 @@
 -- The ends of a side as the code has them: which of two 32-bit numbers a test chooses. Assumes nothing.
 use mathlib.Core.Path.{_≡_, ap, ap₂, _∙_}
 use mathlib.Core.Bool.{true, false, cond}
-use Prim.Native.Nat.{ℕ, zero, suc, _+_, _-_, _≤_}
+use Prim.Native.Nat.{ℕ, zero, suc, _+_, _-_, _≤_, _<_, _^_}
 use native.Mathlib.Omega.{arith}
 use lib.IntN.{ℤ}
-use lib.Signed.{leZ}
+use lib.Signed.{leZ, mag}
 use mir.Syntax.{w32}
 use mir.Val.{SFits, toZ, ofZ}
 use mir.Facts.{toZ-ofZ}
@@ -14,6 +14,9 @@ use Rattle.rules.specs.Tables.{Table, num, side}
 -- a 32-bit number, as the code has it
 abbrev pub held : ℤ → ℤ
 held z = toZ w32 (ofZ w32 z)
+
+pub passed : (z : ℤ) → mag z < 2 ^ 31 → held z ≡ z
+passed z h = toZ-ofZ {w = w32} {z = z} (record { sfits = h })
 
 module _ (x y a b : ℤ) (f : SFits w32 x) (g : SFits w32 y) where
   pub chosen : SFits w32 a → leZ (held x) (held y) ≡ true → held a ≡ cond (leZ x y) a b

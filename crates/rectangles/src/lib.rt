@@ -76,10 +76,11 @@ fn rows_far(n: u32, radius: u32, sides: &[i32; 6], t: &[i32], m: usize) -> bool
     while k < n as usize {
         let o = side(n, t, m, k);
         let g = side_gap(sides[2 * k], sides[2 * k + 1], o);
-        if left < g * g {
+        let square = g * g;
+        if left < square {
             return true;
         }
-        left = left - g * g;
+        left = left - square;
         k += 1;
     }
     false

@@ -1,14 +1,10 @@
 -- `side` meets its contract: the side of the rows seen. Assumes nothing.
 use mathlib.Core.Path.{_≡_, ap, _∙_}
-use Prim.Native.Nat.{_-_, _≤_, _<_, _^_}
+use Prim.Native.Nat.{_-_, _≤_}
 use native.Mathlib.Omega.{arith}
-use lib.IntN.{ℤ}
-use lib.Signed.{mag}
-use mir.Syntax.{w32}
-use mir.Facts.{toZ-ofZ}
 use Rattle.rules.specs.Tables.{table, side}
 use Rattle.rules.specs.Widths.{rows-row}
-use borrow.Author.Needs.{needs, sfits-of}
+use borrow.Author.Needs.{needs}
 use Rattle.rectangles.proofs.Ends as E
 use Rattle.rectangles.proofs.side.Statement.{statement}
 use Rattle.rectangles.proofs.side.Tie as tie
@@ -19,10 +15,6 @@ Inv-loop n t m k x s₀ i₀ s i = (1 ≤ i) × (i ≤ m) × (s ≡ side (table 
 abbrev μ-loop : tie.MeasureT-loop
 μ-loop n t m k x s₀ i₀ s i = m - i
 
--- a number that was handed over is itself
-passed : (x : ℤ) → mag x < 2 ^ 31 → E.held x ≡ x
-passed x h = toZ-ofZ {w = w32} {z = x} (sfits-of h)
-
 coordinate-requires : tie.Need-coordinate-requires Inv-loop μ-loop
 coordinate-requires c κs =
     (rows-row (table (c .args .n) (c .args .t .now)) 0 (c .args .m) (omega arith) (c .pre .1), c .pre .2)
@@ -30,7 +22,7 @@ coordinate-requires c κs =
 loop-holds : tie.Need-loop-holds Inv-loop μ-loop
 unfolding side
 loop-holds c =
-    let x = passed (c .coordinate .result) (c .coordinate .ok) ∙ c .coordinate .ensures in
+    let x = E.passed (c .coordinate .result) (c .coordinate .ok) ∙ c .coordinate .ensures in
     (search needs, search needs, λ i. record { low = x i; high = x i })
 
 coordinate-requires-2 : tie.Need-coordinate-requires-2 Inv-loop μ-loop
@@ -56,7 +48,7 @@ loop-again c =
     (search needs, search needs,
     c .widened .ensures
     ∙ E.side-more (table (s .args .n) (s .args .t .now)) (s .args .k) (l .loop .i) (l .loop .s) (E.held (x .result))
-    (l .loop .inv .0) (l .loop .inv .2) (passed (x .result) (x .ok) ∙ x .ensures))
+    (l .loop .inv .0) (l .loop .inv .2) (E.passed (x .result) (x .ok) ∙ x .ensures))
 
 returns : tie.Need-returns Inv-loop μ-loop
 returns c =
