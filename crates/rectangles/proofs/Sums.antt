@@ -12,13 +12,14 @@ use lib.IntN.{ℤ}
 use lib.ListN.{getD, take}
 use mir.Syntax.{w64}
 use mir.Val.{Fits}
-use borrow.Author.Tests.{lt-ltb, le-ltb}
+use borrow.Author.Tests.{lt-ltb, le-ltb, ltb-false}
 use Rattle.rules.specs.declared.Side.{Side}
-use Rattle.rules.specs.Tables.{Table, squares, side, sideGap}
+use Rattle.rules.specs.Tables.{Table, rowCount, firstRows, squares, side, rectangle, sideGap, farApart}
+use Rattle.rules.specs.Widths.{has-rows}
 use Rattle.rules.specs.Squares.{squareAt, squares-more, squares-first, squares-all}
-use Rattle.rules.specs.Rectangles.{noSide}
+use Rattle.rules.specs.Rectangles.{noSide, far-first}
 use Rattle.rectangles.specs.Sides.{sideIn, sidesIn, firstSides}
-use Rattle.rectangles.specs.SideLaws.{in-length, in-at, first-length, first-at}
+use Rattle.rectangles.specs.SideLaws.{in-length, in-at, first-length, first-at, first-rectangle, all-first}
 
 pub square-fits : (n : ℕ) → n < 2 ^ 32 → Fits w64 (n * n)
 square-fits n h =
@@ -60,3 +61,21 @@ module _ (l : List ℤ) (t : Table) (m : ℕ) where
       let whole = squares-all sideGap x y k (omega (arith, in-length (t .coordinates) l))
       (omega (arith, first-length t m)) in
       sym (le-ltb (radius * radius) all (omega arith))
+
+-- of a table whose rectangle stands in the numbers
+module _ (radius : ℕ) (u : Table) (l : List ℤ) (t : Table) (stands : rectangle u ≡ sidesIn (t .coordinates) l) where
+  pub by-all : ltb (radius * radius) (all l t (rowCount t)) ≡ farApart radius u t
+  unfolding farApart
+  by-all =
+      ap₂ (λ x y. ltb (radius * radius) (squares sideGap x y)) (sym stands) (sym (all-first t))
+
+  -- where the first rows are not too far, the block is not
+  pub by-first : (m : ℕ) → 0 < m → m ≤ rowCount t → ltb (radius * radius) (all l t m) ≡ false
+      → false ≡ farApart radius u t
+  unfolding farApart
+  by-first m some h e =
+      let same : squares sideGap (rectangle u) (rectangle (firstRows m t)) ≡ all l t m =
+      ap₂ (squares sideGap) stands (first-rectangle t m some (has-rows t m h)) in
+      let near : all l t m ≤ radius * radius = ltb-false (radius * radius) (all l t m) e in
+      let less = far-first u t m some h in
+      sym (le-ltb (radius * radius) (squares sideGap (rectangle u) (rectangle t)) (omega arith))
