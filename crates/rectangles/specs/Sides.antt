@@ -3,7 +3,7 @@
 use mathlib.Core.List.{List, map}
 use Prim.Native.Nat.{ℕ, _+_, _*_, _-_}
 use lib.IntN.{ℤ, pos}
-use lib.ListN.{getD}
+use lib.ListN.{getD, set}
 use Rattle.lists.specs.Lists.{range}
 use Rattle.rules.specs.declared.Side.{Side}
 use Rattle.rules.specs.Tables.{Table, side}
@@ -12,7 +12,11 @@ use Rattle.rules.specs.Tables.{Table, side}
 abbrev pub sideIn : List ℤ → ℕ → Side
 sideIn l k = record { low = getD l (2 * k) (pos 0); high = getD l (2 * k + 1) (pos 0) }
 
--- the first n of them
+-- the numbers with side k written
+abbrev pub withSide : ℕ → Side → List ℤ → List ℤ
+withSide k s l = set (set l (2 * k) (s .low)) (2 * k + 1) (s .high)
+
+-- the first n sides
 unfoldable pub sidesIn : ℕ → List ℤ → List Side
 sidesIn n l = map (λ k. sideIn l k) (range 0 n)
 

@@ -5,9 +5,10 @@ ghost use mathlib.Core.Path.{_≡_};
 ghost use mathlib.Core.Bool.{cond};
 ghost use Prim.Native.Nat.{_+_, _*_, _-_, _≤_, _<_, _^_};
 ghost use lib.Dec.{ltb};
+ghost use lib.ListN.{length};
 ghost use lib.Signed.{leZ};
 ghost use Rattle.rules.specs.Tables.{Table, table, HasRow, HasRows, squares, side, rectangle, sideGap, farApart};
-ghost use Rattle.rectangles.specs.Sides.{sidesIn, firstSides};
+ghost use Rattle.rectangles.specs.Sides.{withSide, sidesIn, firstSides};
 
 // A side made to hold x too.
 fn widened(s: Side, x: i32) -> Side
@@ -35,6 +36,17 @@ fn side(n: u32, t: &[i32], m: usize, k: usize) -> Side
     s
 }
 
+// Side k, from 0 on, is written into lent numbers.
+fn put_side(out: &mut [i32], k: usize, s: Side)
+    requires { ⌜ 2 * k + 1 < length (now out) ⌝ }
+    ensures { λ _. ⌜ now (out .exit) ≡ withSide k s (now (out .entry)) ⌝ }
+{
+    let low = s.low;
+    let high = s.high;
+    out[2 * k] = low;
+    out[2 * k + 1] = high;
+}
+
 // The rectangle of a block is written into lent numbers.
 pub fn put_sides(n: u32, t: &[i32], out: &mut [i32; 6])
     requires { ⌜ (n ≤ 3) × HasRow (table n (now t)) 0 ⌝ }
@@ -43,11 +55,7 @@ pub fn put_sides(n: u32, t: &[i32], out: &mut [i32; 6])
     let m = tables::row_count(n, t);
     let mut k: usize = 0;
     while k < n as usize {
-        let s = side(n, t, m, k);
-        let low = s.low;
-        let high = s.high;
-        out[2 * k] = low;
-        out[2 * k + 1] = high;
+        put_side(out, k, side(n, t, m, k));
         k += 1;
     }
 }
