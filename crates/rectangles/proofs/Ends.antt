@@ -1,4 +1,5 @@
--- The ends of a side as the code has them: which of two 32-bit numbers a test chooses. Assumes nothing.
+-- The ends of a side as the code has them: which of two 32-bit numbers a test chooses, and one row more. Assumes
+-- nothing.
 use mathlib.Core.Path.{_≡_, ap, ap₂, _∙_}
 use mathlib.Core.Bool.{true, false, cond}
 use Prim.Native.Nat.{ℕ, zero, suc, _+_, _-_, _≤_, _<_, _^_}
@@ -10,6 +11,7 @@ use mir.Val.{SFits, toZ, ofZ}
 use mir.Facts.{toZ-ofZ}
 use Rattle.rules.specs.declared.Side.{Side}
 use Rattle.rules.specs.Tables.{Table, num, side}
+use Rattle.rectangles.specs.Sides.{widened}
 
 -- a 32-bit number, as the code has it
 abbrev pub held : ℤ → ℤ
@@ -29,16 +31,12 @@ module _ (x y a b : ℤ) (f : SFits w32 x) (g : SFits w32 y) where
       let t : leZ x y ≡ false = simp (toZ-ofZ f, toZ-ofZ g) at e in
       rw (t, toZ-ofZ h)
 
--- a side made to hold x too
-abbrev pub wider : Side → ℤ → Side
-wider s x = record { low = cond (leZ (s .low) x) (s .low) x; high = cond (leZ x (s .high)) (s .high) x }
-
 -- one row more
 pub side-more : (t : Table) (k i : ℕ) (s : Side) (x : ℤ) → 1 ≤ i → s ≡ side t k (i - 1) → x ≡ num t i (k + 2)
-    → wider s x ≡ side t k (i + 1 - 1)
+    → widened s x ≡ side t k (i + 1 - 1)
 unfolding side
 side-more t k zero s x h e f = absurd (omega arith)
 side-more t k (suc i) s x h e f =
     let less : suc i - 1 ≡ i = omega arith in
     let same : suc i ≡ suc i + 1 - 1 = omega arith in
-    ap₂ wider (e ∙ ap (side t k) less) f ∙ ap (side t k) same
+    ap₂ widened (e ∙ ap (side t k) less) f ∙ ap (side t k) same

@@ -14,7 +14,7 @@ use mir.Facts.{toZ-ofZ}
 use borrow.Author.Tests.{ltb-true, ltb-false}
 use Rattle.rules.specs.declared.Side.{Side}
 use Rattle.rules.specs.Tables.{gap, sideGap}
-use Rattle.rules.specs.Whole.{plus, minus, AtMost, Below, apart, apart-le, lt-is, not-lt-is}
+use Rattle.rules.specs.Whole.{plus, minus, Below, apart, apart-le, lt-is, not-lt-is}
 
 -- ---- Differences
 

@@ -1,12 +1,17 @@
--- The sides of a rectangle as they stand in lent numbers, and the rectangle of a block's first rows. Definitions only.
--- Assumes nothing.
+-- Sides as they stand in lent numbers, and the rectangle of a block's first rows. Definitions only. Assumes nothing.
+use mathlib.Core.Bool.{cond}
 use mathlib.Core.List.{List, map}
 use Prim.Native.Nat.{ℕ, _+_, _*_, _-_}
 use lib.IntN.{ℤ, pos}
 use lib.ListN.{getD, set}
+use lib.Signed.{leZ}
 use Rattle.lists.specs.Lists.{range}
 use Rattle.rules.specs.declared.Side.{Side}
 use Rattle.rules.specs.Tables.{Table, side}
+
+-- a side made to hold x too
+abbrev pub widened : Side → ℤ → Side
+widened s x = record { low = cond (leZ (s .low) x) (s .low) x; high = cond (leZ x (s .high)) (s .high) x }
 
 -- side k, from 0 on: its low end and its high end, after each other
 abbrev pub sideIn : List ℤ → ℕ → Side

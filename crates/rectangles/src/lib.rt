@@ -2,19 +2,15 @@
 // apart than the radius. Shades have n coordinates.
 use rules::Side;
 ghost use mathlib.Core.Path.{_≡_};
-ghost use mathlib.Core.Bool.{cond};
 ghost use Prim.Native.Nat.{_+_, _*_, _-_, _≤_, _<_, _^_};
 ghost use lib.Dec.{ltb};
 ghost use lib.ListN.{length};
-ghost use lib.Signed.{leZ};
 ghost use Rattle.rules.specs.Tables.{Table, table, HasRow, HasRows, squares, side, rectangle, sideGap, farApart};
-ghost use Rattle.rectangles.specs.Sides.{withSide, sidesIn, firstSides};
+ghost use Rattle.rectangles.specs.Sides.{widened, withSide, sidesIn, firstSides};
 
 // A side made to hold x too.
 fn widened(s: Side, x: i32) -> Side
-    ensures { λ r. ⌜ r ≡ record {
-        low = cond (leZ (s .low) x) (s .low) x;
-        high = cond (leZ x (s .high)) (s .high) x } ⌝ }
+    ensures { λ r. ⌜ r ≡ widened s x ⌝ }
 {
     let low = if s.low <= x { s.low } else { x };
     let high = if x <= s.high { s.high } else { x };

@@ -42,10 +42,8 @@ returns-2 : tie.Need-returns-2
 returns-2 c x stands =
     let s = c .before .before .before .before in
     let r = c .before .before .before .row-far in
-    sym (not-false (r .result) (c .before .before .if1 .left))
-    ∙ r .ensures
-    ∙ ap (test s) (sym (c .if2 .taken) ∙ c .before .row-count .ensures)
-    ∙ whole s x stands
+    let one : 1 ≡ rowCount (table (s .args .n) (s .args .t .now)) = omega (arith, c .before .row-count .ensures) in
+    sym (not-false (r .result) (c .before .before .if1 .left)) ∙ r .ensures ∙ ap (test s) one ∙ whole s x stands
 
 rows-far-requires : tie.Need-rows-far-requires
 rows-far-requires c κs =

@@ -27,9 +27,10 @@ loop-holds c =
 
 coordinate-requires-2 : tie.Need-coordinate-requires-2 Inv-loop μ-loop
 coordinate-requires-2 c κs =
-    let s = c .before .before .before in
-    (rows-row (table (s .args .n) (s .args .t .now)) (c .before .loop .i) (s .args .m) (omega arith) (s .pre .1),
-    s .pre .2)
+    let s = c .before .before .before in (
+      rows-row (table (s .args .n) (s .args .t .now)) (c .before .loop .i) (s .args .m) (omega arith) (s .pre .1),
+      s .pre .2,
+    )
 
 widened-requires : tie.Need-widened-requires Inv-loop μ-loop
 widened-requires c κs = search needs
@@ -44,11 +45,12 @@ loop-again : tie.Need-loop-again Inv-loop μ-loop
 loop-again c =
     let l = c .before .before .before in
     let s = l .before .before in
+    let t = table (s .args .n) (s .args .t .now) in
     let x = c .before .coordinate2 in
-    (search needs, search needs,
-    c .widened .ensures
-    ∙ E.side-more (table (s .args .n) (s .args .t .now)) (s .args .k) (l .loop .i) (l .loop .s) (E.held (x .result))
-    (l .loop .inv .0) (l .loop .inv .2) (E.passed (x .result) (x .ok) ∙ x .ensures))
+    let more =
+    E.side-more t (s .args .k) (l .loop .i) (l .loop .s) (E.held (x .result)) (l .loop .inv .0) (l .loop .inv .2)
+    (E.passed (x .result) (x .ok) ∙ x .ensures) in
+    (search needs, search needs, c .widened .ensures ∙ more)
 
 returns : tie.Need-returns Inv-loop μ-loop
 returns c =

@@ -3,7 +3,7 @@ use mathlib.Core.Path.{ap, _∙_}
 use mathlib.Core.Logic.{inl, inr, ⊎-elim}
 use native.Mathlib.Omega.{arith}
 use mir.Syntax.{w32, w64}
-use mir.Val.{Fits, SFits, toZ}
+use mir.Val.{SFits, toZ}
 use Rattle.rules.specs.declared.Side.{Side}
 use Rattle.rules.specs.Tables.{sideGap}
 use Rattle.rectangles.proofs.Gaps as G
@@ -49,9 +49,11 @@ is c =
     let side : Side = record { low = s .args .low; high = s .args .high } in
     G.chosen-is side (s .args .o) (s .fits .low) (s .fits .high) (low-fits t) (high-fits t) (toZ w64 (c .if2 .gap))
     (⊎-elim (λ w. inl (w .0 .taken, ap (toZ w64) (w .1)))
-    (λ w. inr (w .0 .left,
-    ⊎-elim (λ v. inl (v .0 .taken, ap (toZ w64) (w .1 ∙ v .1))) (λ v. inr (v .0 .left, ap (toZ w64) (w .1 ∙ v .1)))
-    (c .before .if1 .came)))
+    (λ w. inr (
+      w .0 .left,
+      ⊎-elim (λ v. inl (v .0 .taken, ap (toZ w64) (w .1 ∙ v .1))) (λ v. inr (v .0 .left, ap (toZ w64) (w .1 ∙ v .1)))
+          (c .before .if1 .came),
+    ))
     (c .if2 .came))
 
 cast-result : tie.Need-cast-result

@@ -23,29 +23,33 @@ low : (c : tie.Joined1) → let s = start (c .before) .args in
     toZ w32 (c .if1 .low) ≡ cond (leZ (s .s .low) (s .x)) (s .s .low) (s .x)
 low c =
     let s = start (c .before) in
+    let l = s .args .s .low in
+    let x = s .args .x in
     let f = low-fits (c .before) in
-    ⊎-elim
-    (λ w. ap (toZ w32) (w .2) ∙ E.chosen (s .args .s .low) (s .args .x) (s .args .s .low) (s .args .x) f (s .fits .x) f (w .0 .taken))
-    (λ w. ap (toZ w32) (w .1) ∙ E.other (s .args .s .low) (s .args .x) (s .args .s .low) (s .args .x) f (s .fits .x) (s .fits .x) (w .0 .left))
+    ⊎-elim (λ w. ap (toZ w32) (w .2) ∙ E.chosen l x l x f (s .fits .x) f (w .0 .taken))
+    (λ w. ap (toZ w32) (w .1) ∙ E.other l x l x f (s .fits .x) (s .fits .x) (w .0 .left))
     (c .if1 .came)
 
 returns : tie.Need-returns
 returns c =
     let j = c .before .before .before .before in
     let s = start (j .before) in
+    let h = s .args .s .high in
+    let x = s .args .x in
     let f = high-fits (j .before) in
     let l = low j in
-    let h = E.chosen (s .args .x) (s .args .s .high) (s .args .s .high) (s .args .x) (s .fits .x) f f (c .before .if2 .taken) in
-    λ i. record { low = l i; high = h i }
+    let u = E.chosen x h h x (s .fits .x) f f (c .before .if2 .taken) in
+    λ i. record { low = l i; high = u i }
 
 returns-2 : tie.Need-returns-2
 returns-2 c =
     let j = c .before .before .before in
     let s = start (j .before) in
-    let f = high-fits (j .before) in
+    let h = s .args .s .high in
+    let x = s .args .x in
     let l = low j in
-    let h = E.other (s .args .x) (s .args .s .high) (s .args .s .high) (s .args .x) (s .fits .x) f (s .fits .x) (c .if2 .left) in
-    λ i. record { low = l i; high = h i }
+    let u = E.other x h h x (s .fits .x) (high-fits (j .before)) (s .fits .x) (c .if2 .left) in
+    λ i. record { low = l i; high = u i }
 
 pub widened-spec : {M : Type 1} → statement M
 widened-spec = tie.close (tie.spec returns returns-2)
