@@ -15,9 +15,9 @@ use borrow.Author.Tests.{lt-ltb, ltb-true, lt-leb}
 use Rattle.lists.specs.Parts.{length-map-range, map-range-at}
 use Rattle.rules.specs.declared.Query.{Query}
 use Rattle.rules.specs.declared.Side.{Side}
-use Rattle.rules.specs.Tables.{Table, num, rowCount, shadeAt, row, firstRows, gap, squares, squaredDistance}
-use Rattle.rules.specs.Tables.{qualifies, side, rectangle, sideGap, farApart, rowsQualify, terms}
-use Rattle.rules.specs.Tables.{Block, qualifying}
+use Rattle.rules.specs.Tables.{Table, num, rowCount, HasRows, shadeAt, row, firstRows, gap, squares}
+use Rattle.rules.specs.Tables.{squaredDistance, qualifies, side, rectangle, sideGap, farApart, rowsQualify}
+use Rattle.rules.specs.Tables.{terms, Block, qualifying}
 use Rattle.rules.specs.Widths.{has-row, has-rows, shade-length, shade-num, first-count, first-num}
 use Rattle.rules.specs.Qualifying.{places-far, none-qualifying}
 use Rattle.rules.specs.Squares.{square-le, squares-le, squares-turned}
@@ -230,17 +230,20 @@ module _ (t : Table) where
         let a = side-holds t k (rowCount t - 1) 0 (omega arith) in
         subst Ordered (sym rectangle-at) (omega arith)
 
+-- a side of the first rows' rectangle
+pub first-side : (t : Table) (k : ℕ) → k < t .coordinates → (m : ℕ) → 0 < m → HasRows t m
+    → sideOf (firstRows m t) k ≡ side t k (m - 1)
+first-side t k c m some h =
+    rectangle-at (firstRows m t) k c
+    ∙ ap (λ n. side (firstRows m t) k (n - 1)) (first-count t m h)
+    ∙ side-same (firstRows m t) t k (m - 1) (λ i l. first-num t m i (k + 2) (omega arith) (omega arith))
+
 -- fewer rows make no larger one
 pub rectangle-covers : (t : Table) (k : ℕ) → k < t .coordinates → (m : ℕ) → 0 < m → m ≤ rowCount t
     → Covers (sideOf t k) (sideOf (firstRows m t) k)
 rectangle-covers t k c m some h =
-    subst₂ Covers (sym (rectangle-at t k c)) (sym first) (side-grows t k (m - 1) (rowCount t - 1) (omega arith))
-  where
-    first : sideOf (firstRows m t) k ≡ side t k (m - 1)
-    first =
-        rectangle-at (firstRows m t) k c
-        ∙ ap (λ n. side (firstRows m t) k (n - 1)) (first-count t m (has-rows t m h))
-        ∙ side-same (firstRows m t) t k (m - 1) (λ i l. first-num t m i (k + 2) (omega arith) (omega arith))
+    subst₂ Covers (sym (rectangle-at t k c)) (sym (first-side t k c m some (has-rows t m h)))
+    (side-grows t k (m - 1) (rowCount t - 1) (omega arith))
 
 -- ---- Two rectangles
 
