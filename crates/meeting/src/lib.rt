@@ -62,6 +62,8 @@ fn effect_parts(
     full: bool,
     low: u32,
     q: Query,
+    field: bool,
+    sides: &[i32; 6],
     f: &[i32],
     x: Span,
     t: &[i32],
@@ -73,7 +75,7 @@ fn effect_parts(
 {
     let fields = tables::rows(n, f, x.from, x.to);
     let trims = tables::rows(n, t, y.from, y.to);
-    skipping::effect(n, full, low, q, fields, trims)
+    skipping::effect(n, full, low, q, field, sides, fields, trims)
 }
 
 // How many pairs are held and how many block pairs are joined.
@@ -87,6 +89,8 @@ fn meet_parts(
     n: u32,
     q: Query,
     room: usize,
+    field: bool,
+    sides: &[i32; 6],
     f: &[i32],
     x: Span,
     t: &[i32],
@@ -102,7 +106,7 @@ fn meet_parts(
     let full = m.held == room;
     let last = (m.held + 63) % 64;
     let p = keys::pair(keys[last]);
-    let w = effect_parts(n, full, p.sum, q, f, x, t, y);
+    let w = effect_parts(n, full, p.sum, q, field, sides, f, x, t, y);
     if w == 2 {
         let held = join_parts(n, q, room, f, x, t, y, keys, m.held);
         return Met {
@@ -126,6 +130,7 @@ fn meet_blocks(
     new: Span,
     depth: usize,
     n: usize,
+    sides: &[i32; 6],
     keys: &mut [u64; 64],
 ) -> Met
     requires { ⌜ Ready s × (s .joined + n < 2 ^ 63) × Keys s (now keys) ⌝ }
@@ -152,11 +157,26 @@ fn meet_blocks(
         let old = Span { from: c, to: g };
         let x = either(field, new, old);
         let y = either(field, old, new);
-        m = meet_parts(s.rows.card, s.query, room, f, x, t, y, keys, m);
+        m = meet_parts(s.rows.card, s.query, room, field, sides, f, x, t, y, keys, m);
         c = c + block;
         i += 1;
     }
     m
+}
+
+// The rectangle of the new block, of the field table where the flag says so, is written into lent numbers.
+fn put_sides(n: u32, field: bool, f: &[i32], t: &[i32], new: Span, sides: &mut [i32; 6])
+    requires { ⌜ (isCard n ≡ true) × SpanFits new (cond field (table n (now f)) (table n (now t))) ⌝ }
+    ensures { λ _. ⌜ sidesIn n (now (sides .exit))
+        ≡ rectangle (spanBlock (cond field (table n (now (f .entry))) (table n (now (t .entry)))) new .rows) ⌝ }
+{
+    if field {
+        let rows = tables::rows(n, f, new.from, new.to);
+        rectangles::put_sides(n, rows, sides);
+    } else {
+        let rows = tables::rows(n, t, new.from, new.to);
+        rectangles::put_sides(n, rows, sides);
+    }
 }
 
 // The depths with one table's read down to row e.
@@ -198,7 +218,9 @@ fn read_on(field: bool, f: &[i32], t: &[i32], s: Session, keys: &mut [u64; 64]) 
         from: d as usize,
         to: e as usize,
     };
-    let m = meet_blocks(field, s, f, t, new, depth as usize, n as usize, keys);
+    let mut sides = [0i32; 6];
+    put_sides(s.rows.card, field, f, t, new, &mut sides);
+    let m = meet_blocks(field, s, f, t, new, depth as usize, n as usize, &sides, keys);
     let to = down_to(field, e, s.depth);
     let last = choosing::pick(field, 1, 2);
     After {
