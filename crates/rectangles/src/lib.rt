@@ -2,6 +2,7 @@
 // apart than the radius. Shades have n coordinates.
 use rules::Side;
 ghost use mathlib.Core.Path.{_≡_};
+ghost use mathlib.Core.Bool.{true, false};
 ghost use Prim.Native.Nat.{_+_, _*_, _-_, _≤_, _<_, _^_};
 ghost use lib.Dec.{ltb};
 ghost use lib.ListN.{length};
@@ -90,31 +91,43 @@ fn rows_far(n: u32, radius: u32, sides: &[i32; 6], t: &[i32], m: usize) -> bool
     false
 }
 
-// The first row alone. The code is chosen by n, so that the compiler knows how many numbers a row has.
-fn row_far(n: u32, radius: u32, sides: &[i32; 6], t: &[i32]) -> bool
-    requires { ⌜ (2 ≤ n) × (n ≤ 3) × HasRow (table n (now t)) 0 ⌝ }
+// The same of one row or a few. The code is chosen by n, so that the compiler knows how many numbers a row has.
+fn front_far(n: u32, radius: u32, sides: &[i32; 6], t: &[i32], m: usize) -> bool
+    requires { ⌜ (2 ≤ n) × (n ≤ 3) × (1 ≤ m) × HasRows (table n (now t)) m ⌝ }
     ensures { λ r. ⌜ r ≡ ltb (radius * radius)
-        (squares sideGap (sidesIn n (now (sides .entry))) (firstSides (table n (now (t .entry))) 1)) ⌝ }
+        (squares sideGap (sidesIn n (now (sides .entry))) (firstSides (table n (now (t .entry))) m)) ⌝ }
 {
     if n == 2 {
-        return rows_far(2, radius, sides, t, 1);
+        return rows_far(2, radius, sides, t, m);
     }
-    rows_far(3, radius, sides, t, 1)
+    rows_far(3, radius, sides, t, m)
 }
 
-// Whether a block's rectangle lies farther than the radius from the one in `sides`. Where the first row does not, the
-// block does not: most blocks of rows in no order of shade end there.
+// Whether the first three of m rows, where there are so many, lie near enough: then all of them together do.
+fn front_near(n: u32, radius: u32, sides: &[i32; 6], t: &[i32], m: usize) -> bool
+    requires { ⌜ (2 ≤ n) × (n ≤ 3) × HasRows (table n (now t)) m ⌝ }
+    ensures { λ r. ⌜ (r ≡ true → (3 ≤ m) × (ltb (radius * radius)
+        (squares sideGap (sidesIn n (now (sides .entry))) (firstSides (table n (now (t .entry))) 3)) ≡ false)) ⌝ }
+{
+    if m < 3 {
+        return false;
+    }
+    !front_far(n, radius, sides, t, 3)
+}
+
+// Whether a block's rectangle lies farther than the radius from the one in `sides`. Its first three rows are tried first:
+// most blocks of rows in no order of shade end there.
 pub fn far(n: u32, radius: u32, sides: &[i32; 6], t: &[i32]) -> bool
     requires { ⌜ (2 ≤ n) × (n ≤ 3) × HasRow (table n (now t)) 0 ⌝ }
     ensures { λ r. ⌜ ((x : Table) → rectangle x ≡ sidesIn n (now (sides .entry))
         → r ≡ farApart radius x (table n (now (t .entry)))) ⌝ }
 {
-    if !row_far(n, radius, sides, t) {
-        return false;
-    }
     let m = tables::row_count(n, t);
     if m == 1 {
-        return true;
+        return front_far(n, radius, sides, t, 1);
+    }
+    if front_near(n, radius, sides, t, m) {
+        return false;
     }
     rows_far(n, radius, sides, t, m)
 }

@@ -1,11 +1,10 @@
--- `far` meets its contract: by the first row, and else by all rows. Assumes nothing.
-use mathlib.Core.Path.{_≡_, sym, ap, _∙_}
+-- `far` meets its contract: by the first three rows, and else by all. Assumes nothing.
+use mathlib.Core.Path.{_≡_, ap, _∙_}
 use mathlib.Core.Bool.{Bool}
 use Prim.Native.Nat.{ℕ, _*_, _<_}
 use native.Mathlib.Omega.{arith}
 use lib.Dec.{ltb}
-use borrow.Author.Tests.{not-true, not-false}
-use Rattle.rules.specs.Tables.{Table, table, rowCount, rectangle, farApart}
+use Rattle.rules.specs.Tables.{Table, table, rowCount, HasRows, rectangle, farApart}
 use Rattle.rectangles.specs.Sides.{sidesIn}
 use Rattle.rules.specs.Widths.{row-below, has-rows}
 use Rattle.rectangles.proofs.Sums as S
@@ -26,39 +25,64 @@ whole : (s : tie.Start) (x : Table) → rectangle x ≡ sidesIn (s .args .n) (s 
     → let t = table (s .args .n) (s .args .t .now) in test s (rowCount t) ≡ farApart (s .args .radius) x t
 whole s x = S.by-all (s .args .radius) x (s .args .sides .now) (table (s .args .n) (s .args .t .now))
 
-row-far-requires : tie.Need-row-far-requires
-row-far-requires c κs = search needs
-
-returns : tie.Need-returns
-returns c x stands =
-    let s = c .before .before in
-    S.by-first (s .args .radius) x (s .args .sides .now) (table (s .args .n) (s .args .t .now)) stands 1 (omega arith)
-    (some s) (sym (c .before .row-far .ensures) ∙ not-true (c .before .row-far .result) (c .if1 .taken))
-
 row-count-requires : tie.Need-row-count-requires
 row-count-requires c κs = search needs
 
+-- all rows are there
+there : (c : tie.After-row-count)
+    → HasRows (table (c .before .args .n) (c .before .args .t .now)) (c .row-count .result)
+there c =
+    has-rows (table (c .before .args .n) (c .before .args .t .now)) (c .row-count .result)
+    (omega (arith, c .row-count .ensures))
+
+front-far-requires : tie.Need-front-far-requires
+front-far-requires c κs =
+    let s = c .before .before in
+    let t = table (s .args .n) (s .args .t .now) in
+    let h = some s in
+    (s .pre .0, s .pre .1, omega arith, has-rows t 1 (omega arith))
+
+returns : tie.Need-returns
+returns c x stands =
+    let s = c .before .before .before in
+    let one : 1 ≡ rowCount (table (s .args .n) (s .args .t .now)) =
+    omega (arith, c .before .before .row-count .ensures, c .before .if1 .taken) in
+    c .front-far .ensures ∙ ap (test s) one ∙ whole s x stands
+
+front-near-requires : tie.Need-front-near-requires
+front-near-requires c κs =
+    let s = c .before .before in
+    (s .pre .0, s .pre .1, there (c .before))
+
 returns-2 : tie.Need-returns-2
 returns-2 c x stands =
-    let s = c .before .before .before .before in
-    let r = c .before .before .before .row-far in
-    let one : 1 ≡ rowCount (table (s .args .n) (s .args .t .now)) = omega (arith, c .before .row-count .ensures) in
-    sym (not-false (r .result) (c .before .before .if1 .left)) ∙ r .ensures ∙ ap (test s) one ∙ whole s x stands
+    let at = c .before .before .before in
+    let s = at .before in
+    let near = c .before .front-near .ensures (c .if2 .taken) in
+    S.by-first (s .args .radius) x (s .args .sides .now) (table (s .args .n) (s .args .t .now)) stands 3 (omega arith)
+    (omega (arith, at .row-count .ensures, near .0)) (near .1)
 
 rows-far-requires : tie.Need-rows-far-requires
 rows-far-requires c κs =
-    let s = c .before .before .before .before in
-    let t = table (s .args .n) (s .args .t .now) in
-    let m = c .before .row-count in
+    let at = c .before .before .before in
+    let s = at .before in
     let h = some s in
-    (search needs, omega (arith, m .ensures), has-rows t (m .result) (omega (arith, m .ensures)))
+    (s .pre .1, omega (arith, at .row-count .ensures), there at)
 
 returns-3 : tie.Need-returns-3
 returns-3 c x stands =
-    let s = c .before .before .before .before .before in
-    c .rows-far .ensures ∙ ap (test s) (c .before .before .row-count .ensures) ∙ whole s x stands
+    let at = c .before .before .before .before in
+    let s = at .before in
+    c .rows-far .ensures ∙ ap (test s) (at .row-count .ensures) ∙ whole s x stands
 
 pub far-spec : {M : Type 1} → statement M
 far-spec =
     tie.close
-    (tie.spec row-far-requires returns row-count-requires returns-2 rows-far-requires returns-3)
+    (tie.spec
+    row-count-requires
+    front-far-requires
+    returns
+    front-near-requires
+    returns-2
+    rows-far-requires
+    returns-3)
