@@ -125,6 +125,11 @@ pub each-by-its-number : refusals ≡ 1 ∷ 2 ∷ 3 ∷ 4 ∷ 5 ∷ 6 ∷ 7 ∷ 
 unfolding run
 each-by-its-number = refl
 
+-- 6 before 7: a second row whose a is too large and whose score is higher than the first's
+pub limit-before-order : rowsCode (oldTable (set (set (fields .numbers) 6 (pos 12701)) 5 (pos 91))) 0 2 ≡ 6
+unfolding run
+limit-before-order = refl
+
 -- ---- Weights: 1 to 9 each, asked after the radius
 
 abbrev weightCodes : List ℕ
