@@ -96,6 +96,17 @@ def qualifies(x, y, radius):
     return not withdrawn(x) and not withdrawn(y) and distance(x, y) <= radius * radius
 
 
+def sides(rows):
+    """The lowest and highest of each coordinate of a block's rows, withdrawn ones too."""
+    return [(min(xs), max(xs)) for xs in zip(*(row[2:] for row in rows))]
+
+
+def far_apart(x, y, radius):
+    """Whether the rectangles of two blocks lie farther apart than the radius."""
+    gaps = [max(0, low - top, bottom - high) for (low, high), (bottom, top) in zip(sides(x), sides(y))]
+    return sum(gap * gap for gap in gaps) > radius * radius
+
+
 def read_out(t, depth):
     """All rows are read, or a withdrawn one is: scores fall, so that the last row read tells."""
     return depth == len(t) or (depth > 0 and withdrawn(t[depth - 1]))
@@ -183,6 +194,9 @@ def query(field, trim, raw, numbers):
         for old in read["t" if side == "f" else "f"]:
             x, y = (new, old) if side == "f" else (old, new)
             if len(held) == k and total(f[x[0]], t[y[0]]) < held[-1][0]:
+                continue
+            if far_apart(f[slice(*x)], t[slice(*y)], radius):
+                assert not any(qualifies(p, q, radius) for p in f[slice(*x)] for q in t[slice(*y)])
                 continue
             joined += 1
             for i in range(*x):
