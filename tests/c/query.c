@@ -192,7 +192,7 @@ int main(void) {
     expect("empty", ask(2, 1, 5, F, 0, out, FURZELADLE_QUERY_SIZE), 0);
 
     static const char listing[] = "     2     1     5\n     1   140   101   202       5       0\n"
-                                  "     2   110   102   203       5       0\n     4     4          10\n";
+                                  "     2   110   102   203       5       0\n     4     4           2\n";
     uint8_t text[FURZELADLE_LISTING_SIZE];
     const uint32_t q[3] = {2, 1, 5};
     memset(text, 'x', sizeof text);

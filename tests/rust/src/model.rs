@@ -204,7 +204,7 @@ fn qualifies(radius: u32, x: &[i32], y: &[i32]) -> bool {
 
 /// Whether the rectangles of two blocks lie farther apart than the radius: each block's rows have a lowest and a highest
 /// of every coordinate, withdrawn rows too.
-fn far_apart(radius: u32, x: &[i32], y: &[i32], wide: usize) -> bool {
+pub fn far_apart(radius: u32, x: &[i32], y: &[i32], wide: usize) -> bool {
     let ends = |rows: &[i32], at: usize| {
         let along: Vec<i32> = rows.chunks(wide).map(|row| row[at]).collect();
         (*along.iter().min().unwrap(), *along.iter().max().unwrap())
