@@ -187,23 +187,17 @@ fn reading(of_field: bool, own: u32, other: u32) -> Counts {
     }
 }
 
-// Whether a block begins after row c.
-fn begins(block: u32, c: u32) -> bool {
-    if block == 0 {
-        return false;
-    }
-    c % block == 0
-}
-
 // Whether rows a + 1 to e of one table join the block after row c of the other, read to d: not if k pairs of what was
-// met before have a higher sum than the blocks' first rows.
+// met before have a higher sum than the blocks' first rows, and not if the blocks lie too far apart.
 fn joins(q: Query, m: &Sums, of_field: bool, a: u32, e: u32, c: u32, d: u32) -> bool {
     let first = reading(of_field, wrapping_add_u32(a, 1), wrapping_add_u32(c, 1));
     let above = wrapping_add_u32(plain::sum_at(m, first.field.0, first.trim.0), 1);
     let before = plain::reaching(m, reading(of_field, a, d), above);
     let old = plain::reaching(m, reading(of_field, a, c), above);
     let new = plain::reaching(m, reading(of_field, e, c), above);
-    begins(q.block, c) & (wrapping_add_u32(before, plain::apart(new, old)) < q.k)
+    let room = wrapping_add_u32(before, plain::apart(new, old)) < q.k;
+    let near = !plain::far_at(m, first.field.0, first.trim.0);
+    plain::begins(q.block, c) & (room & near)
 }
 
 // How many block pairs are joined where rows a + 1 to e of one table meet the other, read to d.

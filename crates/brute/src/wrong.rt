@@ -53,7 +53,7 @@ fn tables() -> Lent {
 fn sums(card: u32) -> Sums {
     let f = table(card, 9, 8, 1);
     let t = table(card, 7, 5, 2);
-    plain::sums(openings::query(3, 2, 5), card, &f, &t)
+    plain::sums(openings::query(3, 2, 5), card, &f, &t, due::counts(3, 3))
 }
 
 fn case(m: &Sums) -> Case {
