@@ -47,17 +47,10 @@ pub struct Case {
     pub limit: u32,
 }
 
-pub fn counts(field: u32, trim: u32) -> Counts {
-    Counts {
-        field: FieldRows(field),
-        trim: TrimRows(trim),
-    }
-}
-
 // The record of an opening on a card.
 pub fn opened(query: Query, card: u32, rows: Counts) -> Session {
     let z = plain::pair(0, 0, 0);
-    let depth = counts(0, 0);
+    let depth = plain::counts(0, 0);
     let tables = TwoTables {
         field: FieldRows(rows.field.0),
         trim: TrimRows(rows.trim.0),
@@ -133,7 +126,7 @@ fn lesser(c: Case, m: &Sums, d: Counts, least: u32) -> u32 {
 fn least_sure(c: Case, m: &Sums) -> u32 {
     let mut least = 12;
     for x in 0u32..169 {
-        least = lesser(c, m, counts(x / 13, x % 13), least);
+        least = lesser(c, m, plain::counts(x / 13, x % 13), least);
     }
     least
 }
@@ -181,9 +174,9 @@ fn field_next(c: Case, m: &Sums, d: Counts) -> bool {
 // So many rows of the table that is read, and of the other.
 fn reading(of_field: bool, own: u32, other: u32) -> Counts {
     if of_field {
-        counts(own, other)
+        plain::counts(own, other)
     } else {
-        counts(other, own)
+        plain::counts(other, own)
     }
 }
 

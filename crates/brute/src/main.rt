@@ -19,10 +19,10 @@ fn case(seed: u64, tally: &mut [u64; 48]) {
     let card = judge::when(seed < 4000, 2, 3);
     let field = made::table(seed, card);
     let trim = made::table(std::num::wrapping_add_u64(seed, 1000000), card);
-    let rows = due::counts(dice::below(seed, 10, 13), dice::below(seed, 11, 13));
+    let rows = plain::counts(dice::below(seed, 10, 13), dice::below(seed, 11, 13));
     let query = made::query(seed, card);
     let sums = plain::sums(query, card, &field, &trim, rows);
-    let live = due::counts(
+    let live = plain::counts(
         plain::live(card, &field, rows.field.0),
         plain::live(card, &trim, rows.trim.0),
     );

@@ -1,8 +1,10 @@
 // The double loop: it reads rows, adds scores and squares distances by code of its own, for every field row with every
 // trim row, and ranks the pairs. Rows are numbered from 1.
 use rules::Counts;
+use rules::FieldRows;
 use rules::Pair;
 use rules::Query;
+use rules::TrimRows;
 use std::num::wrapping_add_u32;
 use std::num::wrapping_add_u64;
 use std::num::wrapping_sub_u32;
@@ -13,6 +15,13 @@ pub type Table = [i32; 65];
 // What the double loop says of each pair: four times its sum; two more if blocks begin with its rows that lie too far
 // apart; and one more if it qualifies. Row 0 stands for none.
 pub type Sums = [u32; 169];
+
+pub fn counts(field: u32, trim: u32) -> Counts {
+    Counts {
+        field: FieldRows(field),
+        trim: TrimRows(trim),
+    }
+}
 
 pub fn higher(x: u32, y: u32) -> u32 {
     if x < y { y } else { x }
@@ -130,7 +139,7 @@ fn widened(e: Ends, x: u32) -> Ends {
 }
 
 // Of number c of the rows from `first` to `last`, withdrawn ones too.
-fn ends(card: u32, t: &Table, first: u32, last: u32, c: u32) -> Ends {
+fn ends_of(card: u32, t: &Table, first: u32, last: u32, c: u32) -> Ends {
     let x = number(card, t, first, c);
     let mut e = Ends { low: x, high: x };
     for i in 1u32..13 {
@@ -159,8 +168,8 @@ struct Blocks {
 
 // What lies between two blocks in number c, squared.
 fn gap_squared(card: u32, f: &Table, t: &Table, b: Blocks, c: u32) -> u64 {
-    let x = ends(card, f, b.first.field.0, b.last.field.0, c);
-    let y = ends(card, t, b.first.trim.0, b.last.trim.0, c);
+    let x = ends_of(card, f, b.first.field.0, b.last.field.0, c);
+    let y = ends_of(card, t, b.first.trim.0, b.last.trim.0, c);
     square(between(x, y))
 }
 
@@ -191,12 +200,17 @@ fn begin(block: u32, first: Counts) -> bool {
     field & trim
 }
 
-// The blocks that begin with these two rows: so many rows, or what the tables have left.
-fn blocks(block: u32, first: Counts, rows: Counts) -> Blocks {
-    let more = wrapping_sub_u32(block, 1);
-    let mut last = first;
-    last.field.0 = lower(wrapping_add_u32(first.field.0, more), rows.field.0);
-    last.trim.0 = lower(wrapping_add_u32(first.trim.0, more), rows.trim.0);
+// The last row of a block that begins with a row: so many on, or the table's last.
+fn last_of(block: u32, first: u32, rows: u32) -> u32 {
+    lower(wrapping_add_u32(first, wrapping_sub_u32(block, 1)), rows)
+}
+
+// The blocks that begin with these two rows.
+fn blocks_from(block: u32, first: Counts, rows: Counts) -> Blocks {
+    let last = counts(
+        last_of(block, first.field.0, rows.field.0),
+        last_of(block, first.trim.0, rows.trim.0),
+    );
     Blocks { first, last }
 }
 
@@ -205,7 +219,13 @@ fn begin_far(query: Query, card: u32, f: &Table, t: &Table, first: Counts, rows:
     if !begin(query.block, first) {
         return false;
     }
-    far(query.radius, card, f, t, blocks(query.block, first, rows))
+    far(
+        query.radius,
+        card,
+        f,
+        t,
+        blocks_from(query.block, first, rows),
+    )
 }
 
 // What is told of a pair beside its sum.
@@ -236,10 +256,7 @@ fn put(m: &mut Sums, query: Query, card: u32, f: &Table, t: &Table, first: Count
 pub fn sums(query: Query, card: u32, f: &Table, t: &Table, rows: Counts) -> Sums {
     let mut m = [0u32; 169];
     for x in 0u32..169 {
-        let mut first = rows;
-        first.field.0 = x / 13;
-        first.trim.0 = x % 13;
-        put(&mut m, query, card, f, t, first, rows);
+        put(&mut m, query, card, f, t, counts(x / 13, x % 13), rows);
     }
     m
 }
