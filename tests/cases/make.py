@@ -581,6 +581,13 @@ def drifting(kind, rows, step, offset):
     return table(kind, [(1 + i, 9000 - 10 * i, step * i + offset - 6000, 6000 - step * i) for i in range(rows)])
 
 
+def drifted(dice, kind, rows, spread):
+    """The same with shades spread around the way, and L going down where the card has it."""
+    light = [(9900 - 30 * i + dice.below(spread),) if on_new_card(kind) else () for i in range(rows)]
+    shades = [(70 * i - 12000 + dice.below(spread), 9000 - 60 * i + dice.below(spread)) + light[i] for i in range(rows)]
+    return table(kind, [(1 + i, 9999 - 20 * i - dice.below(20)) + shade for i, shade in enumerate(shades)])
+
+
 def far_cases():
     """Listings whose last number tells which block pairs were skipped for shade. In most of them the list is not full."""
     # blocks of 2: a field block from -10 to 10 both ways, and trim blocks off each of its corners, nearer end to nearer end
@@ -631,15 +638,9 @@ def far_cases():
     yield from far_card_cases()
 
 
-def drifted(dice, kind, rows, spread):
-    """The same with shades spread around the way, and L going down where the card has it."""
-    light = [(9900 - 30 * i + dice.below(spread),) if on_new_card(kind) else () for i in range(rows)]
-    shades = [(70 * i - 12000 + dice.below(spread), 9000 - 60 * i + dice.below(spread)) + light[i] for i in range(rows)]
-    return table(kind, [(1 + i, 9999 - 20 * i - dice.below(20)) + shade for i, shade in enumerate(shades)])
-
-
 def far_card_cases():
     """The same on the new card: L is a side too."""
+
     def blocks(kind, *shades):
         return placed(kind, *[shade for shade in shades for _ in range(2)])
 
