@@ -17,6 +17,7 @@ mod outcome;
 mod plot;
 mod printed;
 mod profile;
+mod rectangle;
 mod report;
 mod roots;
 mod rows;

@@ -47,17 +47,10 @@ pub struct Case {
     pub limit: u32,
 }
 
-pub fn counts(field: u32, trim: u32) -> Counts {
-    Counts {
-        field: FieldRows(field),
-        trim: TrimRows(trim),
-    }
-}
-
 // The record of an opening on a card.
 pub fn opened(query: Query, card: u32, rows: Counts) -> Session {
     let z = plain::pair(0, 0, 0);
-    let depth = counts(0, 0);
+    let depth = plain::counts(0, 0);
     let tables = TwoTables {
         field: FieldRows(rows.field.0),
         trim: TrimRows(rows.trim.0),
@@ -133,7 +126,7 @@ fn lesser(c: Case, m: &Sums, d: Counts, least: u32) -> u32 {
 fn least_sure(c: Case, m: &Sums) -> u32 {
     let mut least = 12;
     for x in 0u32..169 {
-        least = lesser(c, m, counts(x / 13, x % 13), least);
+        least = lesser(c, m, plain::counts(x / 13, x % 13), least);
     }
     least
 }
@@ -181,29 +174,23 @@ fn field_next(c: Case, m: &Sums, d: Counts) -> bool {
 // So many rows of the table that is read, and of the other.
 fn reading(of_field: bool, own: u32, other: u32) -> Counts {
     if of_field {
-        counts(own, other)
+        plain::counts(own, other)
     } else {
-        counts(other, own)
+        plain::counts(other, own)
     }
-}
-
-// Whether a block begins after row c.
-fn begins(block: u32, c: u32) -> bool {
-    if block == 0 {
-        return false;
-    }
-    c % block == 0
 }
 
 // Whether rows a + 1 to e of one table join the block after row c of the other, read to d: not if k pairs of what was
-// met before have a higher sum than the blocks' first rows.
+// met before have a higher sum than the blocks' first rows, and not if the blocks lie too far apart.
 fn joins(q: Query, m: &Sums, of_field: bool, a: u32, e: u32, c: u32, d: u32) -> bool {
     let first = reading(of_field, wrapping_add_u32(a, 1), wrapping_add_u32(c, 1));
     let above = wrapping_add_u32(plain::sum_at(m, first.field.0, first.trim.0), 1);
     let before = plain::reaching(m, reading(of_field, a, d), above);
     let old = plain::reaching(m, reading(of_field, a, c), above);
     let new = plain::reaching(m, reading(of_field, e, c), above);
-    begins(q.block, c) & (wrapping_add_u32(before, plain::apart(new, old)) < q.k)
+    let room = wrapping_add_u32(before, plain::apart(new, old)) < q.k;
+    let near = !plain::far_at(m, first.field.0, first.trim.0);
+    plain::begins(q.block, c) & (room & near)
 }
 
 // How many block pairs are joined where rows a + 1 to e of one table meet the other, read to d.

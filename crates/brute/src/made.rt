@@ -1,5 +1,5 @@
-// Tables and queries made from a seed: ties, plateaus, zero scores, empty tables, extreme shades; on the new card many
-// that only L tells apart.
+// Tables and queries made from a seed: ties, plateaus, zero scores, empty tables, extreme shades, shades that drift; on
+// the new card many that only L tells apart.
 use crate::dice;
 use crate::plain;
 use crate::plain::Table;
@@ -22,6 +22,8 @@ pub struct Spread {
     pub extreme: bool,
     // How many of the lights there are beside the first.
     pub lights: u32,
+    // a, or L on the new card, goes on from row to row.
+    pub drifting: bool,
     pub card: u32,
 }
 
@@ -34,6 +36,7 @@ fn shades(seed: u64, card: u32) -> u32 {
     }
 }
 
+// Every fourth seed's shades drift: those of both tables of a case.
 fn spread_of(seed: u64, card: u32) -> Spread {
     let least = dice::pick(seed, 14, [0, 0, 0, 1, 1, 1, 1, 1]);
     let top = dice::pick(seed, 1, [0, 1, 3, 8, 20, 60, 400, 9999]);
@@ -45,6 +48,7 @@ fn spread_of(seed: u64, card: u32) -> Spread {
         shades: shades(seed, card),
         extreme: dice::one_in(seed, 5, 6),
         lights: dice::pick(seed, 15, [0, 1, 1, 3, 5, 7, 9, 11]),
+        drifting: seed % 4 == 3,
         card,
     }
 }
@@ -80,12 +84,64 @@ const SMALL: [i32; 12] = [0, 0, 1, -1, 2, -2, 3, 4, -5, 9, -13, 40];
 
 const LIGHTS: [i32; 12] = [0, 10000, 1, 9999, 2, 5, 13, 40, 41, 9960, 5000, 3];
 
+const DRIFTING: [i32; 16] = [
+    -90,
+    -71,
+    -60,
+    -41,
+    -40,
+    -22,
+    -13,
+    -9,
+    0,
+    4,
+    5,
+    18,
+    30,
+    43,
+    60,
+    90,
+];
+
+const FADING: [i32; 16] = [
+    0,
+    3,
+    9,
+    13,
+    20,
+    33,
+    40,
+    41,
+    60,
+    73,
+    90,
+    95,
+    100,
+    140,
+    150,
+    160,
+];
+
+// The one of row i + 1, or one of the next three.
+fn drifted(seed: u64, place: u64, i: u32, of: [i32; 16]) -> i32 {
+    let at = wrapping_add_u32(i % 12, dice::below(seed, place, 4));
+    of[(at % 16) as usize]
+}
+
 fn shade(seed: u64, place: u64, w: Spread) -> i32 {
     if w.extreme {
         return EXTREME[(dice::below(seed, place, 5) % 5) as usize];
     }
     let i = dice::below(seed, place, wrapping_add_u32(w.shades, 1));
     SMALL[(i % 12) as usize]
+}
+
+// The a of row i + 1.
+fn first_shade(seed: u64, place: u64, i: u32, w: Spread) -> i32 {
+    if w.drifting & (w.card == 2) {
+        return drifted(seed, place, i, DRIFTING);
+    }
+    shade(seed, place, w)
 }
 
 // The score of row i + 1, after a row of score s.
@@ -100,9 +156,13 @@ fn score(seed: u64, i: u32, w: Spread, s: u32) -> u32 {
     plain::higher(s - fall, w.least)
 }
 
-fn light(seed: u64, place: u64, w: Spread) -> i32 {
-    let i = dice::below(seed, place, wrapping_add_u32(w.lights, 1));
-    LIGHTS[(i % 12) as usize]
+// The L of row i + 1.
+fn light(seed: u64, place: u64, i: u32, w: Spread) -> i32 {
+    if w.drifting {
+        return drifted(seed, place, i, FADING);
+    }
+    let n = dice::below(seed, place, wrapping_add_u32(w.lights, 1));
+    LIGHTS[(n % 12) as usize]
 }
 
 // Sets row i + 1.
@@ -112,10 +172,10 @@ fn put_row(t: &mut Table, seed: u64, i: u32, w: Spread, s: u32) {
     let at = plain::numbers(w.card, i % 12) as usize % 56;
     t[at] = (n % 999999 + 1) as i32;
     t[at + 1] = (s % 10000) as i32;
-    t[at + 2] = shade(seed, place + 200, w);
+    t[at + 2] = first_shade(seed, place + 200, i, w);
     t[at + 3] = shade(seed, place + 300, w);
     if w.card == 3 {
-        t[at + 4] = light(seed, place + 400, w);
+        t[at + 4] = light(seed, place + 400, i, w);
     }
 }
 

@@ -25,6 +25,11 @@ pub const NEW_CARD: u32 = 39;
 // With pairs that L alone keeps apart.
 pub const BY_LIGHT: u32 = 41;
 
+// With block pairs too far apart; of these, with others that are joined.
+pub const FAR: u32 = 42;
+
+pub const FAR_AND_JOINED: u32 = 43;
+
 pub fn count(tally: &mut [u64; 48], i: u32) {
     if i < 48 {
         let at = i as usize;

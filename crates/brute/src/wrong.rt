@@ -47,20 +47,20 @@ fn table(card: u32, first: i32, second: i32, third: i32) -> Table {
 
 // The three best pairs of these tables, by blocks of two rows.
 fn tables() -> Lent {
-    calls::first_rows(2, table(2, 9, 8, 1), table(2, 7, 5, 2), due::counts(3, 3))
+    calls::first_rows(2, table(2, 9, 8, 1), table(2, 7, 5, 2), plain::counts(3, 3))
 }
 
 fn sums(card: u32) -> Sums {
     let f = table(card, 9, 8, 1);
     let t = table(card, 7, 5, 2);
-    plain::sums(openings::query(3, 2, 5), card, &f, &t)
+    plain::sums(openings::query(3, 2, 5), card, &f, &t, plain::counts(3, 3))
 }
 
 fn case(m: &Sums) -> Case {
     due::case_of(
         openings::query(3, 2, 5),
-        due::counts(3, 3),
-        due::counts(3, 3),
+        plain::counts(3, 3),
+        plain::counts(3, 3),
         m,
     )
 }

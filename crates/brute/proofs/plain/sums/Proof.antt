@@ -8,8 +8,9 @@ pub sums-spec : {M : Type 1} → statement M
 sums-spec =
     tie.close
     (tie.spec
-    (λ query card f t m₀ x₀ m x. x ≤ 169)
-    (λ query card f t m₀ x₀ m x. 169 - x)
+    (λ query card f t rows m₀ x₀ m x. x ≤ 169)
+    (λ query card f t rows m₀ x₀ m x. 169 - x)
+    (search needs)
     (search needs)
     (search needs)
     (search needs)
