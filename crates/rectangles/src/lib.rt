@@ -115,8 +115,8 @@ fn front_near(n: u32, radius: u32, sides: &[i32; 6], t: &[i32], m: usize) -> boo
     !front_far(n, radius, sides, t, 3)
 }
 
-// Whether a block's rectangle lies farther than the radius from the one in `sides`. Its first three rows are tried first:
-// most blocks of rows in no order of shade end there.
+// Whether a block's rectangle lies farther than the radius from the one in `sides`. Its first three rows are tried
+// first: most blocks of rows in no order of shade end there.
 pub fn far(n: u32, radius: u32, sides: &[i32; 6], t: &[i32]) -> bool
     requires { ⌜ (2 ≤ n) × (n ≤ 3) × HasRow (table n (now t)) 0 ⌝ }
     ensures { λ r. ⌜ ((x : Table) → rectangle x ≡ sidesIn n (now (sides .entry))

@@ -28,7 +28,8 @@ put-sides-requires c κs =
     let s = c .before .before .before in
     let k = fits s _ (c .before .before .if1 .taken) in (
       card-small (s .args .n) (s .pre .0),
-      has-row (table (s .args .n) (c .before .rows .result .now)) 0 (omega (arith, c .before .rows .ensures .0 .1, k .some)),
+      has-row (table (s .args .n) (c .before .rows .result .now)) 0
+          (omega (arith, c .before .rows .ensures .0 .1, k .some)),
     )
 
 rows-requires-2 : tie.Need-rows-requires-2
@@ -39,7 +40,8 @@ put-sides-requires-2 c κs =
     let s = c .before .before .before in
     let k = fits s _ (c .before .before .if1 .left) in (
       card-small (s .args .n) (s .pre .0),
-      has-row (table (s .args .n) (c .before .rows2 .result .now)) 0 (omega (arith, c .before .rows2 .ensures .0 .1, k .some)),
+      has-row (table (s .args .n) (c .before .rows2 .result .now)) 0
+          (omega (arith, c .before .rows2 .ensures .0 .1, k .some)),
     )
 
 -- the rectangle of the new block's table, by its side
