@@ -2,6 +2,7 @@
 use crate::checks::{call_fits, rows_legal};
 use crate::held::Held;
 use crate::outcome::Outcome;
+use crate::rectangle::Rectangle;
 use crate::rows::{count, live_end, near, part, score, square};
 use furzeladle::{Asked, Pair, Query};
 
@@ -125,16 +126,19 @@ impl<'a, const W: usize> Join<'a, W> {
     }
 
     /// Meets the blocks already read of the other table with rows of a new block. Where the live rows end is found once
-    /// for each table; a block pair without any is joined all the same.
+    /// for each table; a block pair without any is joined all the same, unless it is low or far.
     fn meet(&mut self, new: usize, from: u32, to: u32) {
         let old = 1 - new;
         let new_end = live_end::<W>(self.tables[new], from, to);
         let old_end = live_end::<W>(self.tables[old], 0, self.depths[old]);
+        let sides = Rectangle::of::<W>(part::<W>(self.tables[new], from, to));
+        let square = square(self.query);
         let mut start = 0;
         while start < self.depths[old] {
             let end = (start + self.query.block).min(self.depths[old]);
             let first = self.worth(new, from) + self.worth(old, start);
-            if first as i32 >= self.held.bound() {
+            let block = part::<W>(self.tables[old], start, end);
+            if first as i32 >= self.held.bound() && !sides.is_far::<W>(block, square) {
                 let (here, there) = ([from, new_end], [start, end.min(old_end).max(start)]);
                 let (f, t) = if new == 0 {
                     (here, there)

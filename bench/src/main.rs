@@ -17,6 +17,7 @@ mod outcome;
 mod plot;
 mod printed;
 mod profile;
+mod rectangle;
 mod report;
 mod roots;
 mod rows;
@@ -85,7 +86,7 @@ fn main() {
         ["full", plot_to] => queries(true, 5, plot_to),
         _ => {
             eprintln!("usage: bench/run [short|full|files|calls|roots]");
-            eprintln!("   or: bench/run profile CONTENDER RADIUS K BLOCK RUNS [new]");
+            eprintln!("   or: bench/run profile CONTENDER RADIUS K BLOCK RUNS [new] [drifting|apart]");
             std::process::exit(2);
         }
     }

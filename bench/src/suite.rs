@@ -112,6 +112,8 @@ pub fn sections(full: bool) -> Vec<Section> {
     };
     let mut adversarial = radii(Shape::TrimBelow, chosen);
     adversarial.extend(radii(Shape::Plateau, chosen));
+    let mut drifting = radii(Shape::Drifting, chosen);
+    drifting.extend(radii(Shape::DriftingApart, chosen));
     vec![
         section("Radius", radii(Shape::Uniform, &RADII)),
         section("List length and block", others),
@@ -123,7 +125,14 @@ pub fn sections(full: bool) -> Vec<Section> {
         ),
         section("Weights", weights()),
         section("Withdrawn rows", withdrawn(full)),
+        section("Drifting shades", drifting),
     ]
+}
+
+fn new_drifting() -> Vec<Case> {
+    [Shape::Drifting, Shape::DriftingApart]
+        .map(|shape| archive(shape, NEW_MIDDLE))
+        .to_vec()
 }
 
 /// The group on the new card.
@@ -146,6 +155,7 @@ pub fn new_card(full: bool) -> Vec<Section> {
                 radii(Shape::Clustered, &NEW_RADII),
             ),
             section("New card, growth", growth(NEW_MIDDLE, &GROWTH)),
+            section("New card, drifting shades", new_drifting()),
         ];
     }
     vec![
@@ -155,5 +165,6 @@ pub fn new_card(full: bool) -> Vec<Section> {
             lengths_and_blocks(NEW_MIDDLE, &[], &FEW_BLOCKS),
         ),
         section("New card, growth", growth(NEW_MIDDLE, &GROWTH[..1])),
+        section("New card, drifting shades", new_drifting()),
     ]
 }

@@ -5,8 +5,8 @@ use furzeladle_tests::cases::Dice;
 /// Lowest and highest a, b and, on the new card, L.
 const RANGES: [(i32, i32); 3] = [(-12_800, 12_700), (-12_800, 12_700), (0, 10_000)];
 const CLUSTERS: usize = 40;
-/// How far a shade may lie from its cluster's middle, on each axis: three throws of this, added.
-const CLUSTER_REACH: i32 = 400;
+/// How far a shade may lie from its middle, on each axis: three throws of this, added.
+const REACH: i32 = 400;
 
 /// How shades and scores are spread.
 #[derive(Clone, Copy, Debug, PartialEq, Eq)]
@@ -21,6 +21,10 @@ pub enum Shape {
     Plateau,
     /// As uniform; the last tenth of each table is withdrawn.
     Withdrawn,
+    /// Shades go from one corner of their card to the other as scores fall, the same way in both tables.
+    Drifting,
+    /// The same, the trim table's the other way.
+    DriftingApart,
 }
 
 impl Shape {
@@ -31,15 +35,17 @@ impl Shape {
             Shape::TrimBelow => "trim below field",
             Shape::Plateau => "plateau",
             Shape::Withdrawn => "a tenth withdrawn",
+            Shape::Drifting => "drifting",
+            Shape::DriftingApart => "drifting apart",
         }
     }
 
     /// Lowest and highest score of the field table, then of the trim table.
     fn scores(self) -> [(i32, i32); 2] {
         match self {
-            Shape::Uniform | Shape::Clustered | Shape::Withdrawn => [(0, 9_999); 2],
             Shape::TrimBelow => [(5_000, 9_999), (0, 4_999)],
             Shape::Plateau => [(5_000, 5_000); 2],
+            _ => [(0, 9_999); 2],
         }
     }
 }
@@ -90,35 +96,36 @@ fn anywhere(dice: &mut Dice, ranges: &[(i32, i32)]) -> Place {
 fn around(dice: &mut Dice, ranges: &[(i32, i32)], middle: Place) -> Place {
     let mut place = middle;
     for (axis, &(low, high)) in place.iter_mut().zip(ranges) {
-        let off: i32 = (0..3)
-            .map(|_| dice.between(-CLUSTER_REACH, CLUSTER_REACH))
-            .sum();
+        let off: i32 = (0..3).map(|_| dice.between(-REACH, REACH)).sum();
         *axis = (*axis + off).clamp(low, high);
     }
     place
 }
 
-/// A legal table; its shades lie around these places, or anywhere if there are none.
+/// The middle of the shades that drift with scores: from one corner to the other, and all around it within the card.
+fn along(ranges: &[(i32, i32)], score: i32) -> Place {
+    let mut place = [0; 3];
+    for (axis, &(low, high)) in place.iter_mut().zip(ranges) {
+        let (low, high) = (low + 3 * REACH, high - 3 * REACH);
+        *axis = low + (high - low) * score / 9_999;
+    }
+    place
+}
+
+/// A legal table; a row's shade goes by its score.
 fn table(
     dice: &mut Dice,
     rows: u32,
     (low, high): (i32, i32),
-    ranges: &[(i32, i32)],
-    middles: &[Place],
+    coordinates: usize,
+    place: impl Fn(&mut Dice, i32) -> Place,
 ) -> Vec<i32> {
     let mut scores: Vec<i32> = (0..rows).map(|_| dice.between(low, high)).collect();
     scores.sort_unstable_by_key(|score| -score);
-    let mut numbers = Vec::with_capacity((2 + ranges.len()) * rows as usize);
+    let mut numbers = Vec::with_capacity((2 + coordinates) * rows as usize);
     for (i, score) in scores.into_iter().enumerate() {
-        let place = match middles {
-            [] => anywhere(dice, ranges),
-            _ => {
-                let middle = dice.pick(middles);
-                around(dice, ranges, middle)
-            }
-        };
         numbers.extend([i as i32 + 1, score]);
-        numbers.extend(&place[..ranges.len()]);
+        numbers.extend(&place(dice, score)[..coordinates]);
     }
     numbers
 }
@@ -140,9 +147,21 @@ pub fn tables(shape: Shape, card: Card, (m, n): (u32, u32), seed: u64) -> Tables
         0
     };
     let middles: Vec<Place> = (0..clusters).map(|_| anywhere(&mut dice, ranges)).collect();
+    let place = |dice: &mut Dice, score: i32| match shape {
+        Shape::Clustered => {
+            let middle = dice.pick(&middles);
+            around(dice, ranges, middle)
+        }
+        Shape::Drifting | Shape::DriftingApart => around(dice, ranges, along(ranges, score)),
+        _ => anywhere(dice, ranges),
+    };
+    let trim_place = |dice: &mut Dice, score: i32| match shape {
+        Shape::DriftingApart => place(dice, 9_999 - score),
+        _ => place(dice, score),
+    };
     let [of_field, of_trim] = shape.scores();
-    let mut field = table(&mut dice, m, of_field, ranges, &middles);
-    let mut trim = table(&mut dice, n, of_trim, ranges, &middles);
+    let mut field = table(&mut dice, m, of_field, ranges.len(), place);
+    let mut trim = table(&mut dice, n, of_trim, ranges.len(), trim_place);
     if shape == Shape::Withdrawn {
         withdraw(&mut field, card.width());
         withdraw(&mut trim, card.width());

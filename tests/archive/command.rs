@@ -329,6 +329,7 @@ const STEEP: Spread = Spread {
     plateau: false,
     shades: 12_700,
     extreme: false,
+    drift: 0,
     light: None,
 };
 
@@ -391,6 +392,32 @@ fn withdrawn_rows_far_down() {
     let joined = 21 * 14;
     let last = format!("\n  2100  1400{joined:>12}\n");
     assert!(listing.ends_with(last.as_bytes()));
+}
+
+/// Shades drift down the tables, so that most block pairs lie too far apart.
+#[test]
+fn drifting_shades() {
+    let folder = Folder::new("drifting");
+    let drifting = Spread {
+        shades: 200,
+        drift: 3,
+        ..STEEP
+    };
+    let by_light = Spread {
+        shades: 40,
+        drift: 1,
+        light: Some(Light {
+            ground: 0,
+            alone: true,
+        }),
+        ..STEEP
+    };
+    beside_the_model(&folder, (3_000, 2_000), drifting, query(64, 16, 9));
+    beside_the_model(&folder, (3_000, 2_000), drifting, query(64, 1, 2));
+    let weighted = query(64, 100, 9).weights(FieldWeight(2), TrimWeight(3));
+    beside_the_model(&folder, (3_000, 2_000), drifting, weighted);
+    let new = query(64, 16, 0).on(Card::New);
+    beside_the_model(&folder, (3_000, 2_000), by_light, new);
 }
 
 #[test]

@@ -46,11 +46,13 @@ static void expect(const char *call, int32_t answer, int32_t wanted, int most)
     copies = 0;
 }
 
-/* Scores fall evenly; the shades of the two tables lie `apart` from each other. */
-static void fill(int apart)
+/* Scores fall evenly. Every trim shade lies between the two that the field rows have in turn, `apart` from each, or so
+ * much `off` that. */
+static void fill(int apart, int off)
 {
     for (int i = 0; i < ROWS; i++) {
-        const int32_t row[5] = {i + 1, 9999 - i, 0, 0, 50}, other[5] = {i + 1, 9999 - i, apart, 0, 50};
+        const int32_t row[5] = {i + 1, 9999 - i, i % 2 * 2 * apart, 0, 50};
+        const int32_t other[5] = {i + 1, 9999 - i, apart + off, 0, 50};
         memcpy(field + wide * i, row, wide * sizeof *row);
         memcpy(trim + wide * i, other, wide * sizeof *other);
     }
@@ -79,10 +81,10 @@ static int32_t show(void)
     return furzeladle_show(field, len, trim, len, record, FURZELADLE_RECORD_SIZE, place, FURZELADLE_PLACE_SIZE);
 }
 
-/* A new session over tables that lie `apart`, after some reads. */
-static void reads(int apart, int n)
+/* A new session over tables of such shades, after some reads. */
+static void reads(int apart, int off, int n)
 {
-    fill(apart);
+    fill(apart, off);
     open();
     while (n-- > 0)
         read(len);
@@ -91,17 +93,19 @@ static void reads(int apart, int n)
 
 static void calls(void)
 {
-    reads(6, 0);
+    reads(6, 0, 0);
     expect("open", open(), FURZELADLE_DONE, 0);
     expect("read: the first block", read(len), FURZELADLE_DONE, 3);
     expect("read: a block meets 1, no pair is near", read(len), FURZELADLE_DONE, 3);
-    reads(6, 62);
+    reads(6, 0, 62);
     expect("read: a block meets 31, no pair is near", read(len), FURZELADLE_DONE, 3);
+    reads(6, 100, 62);
+    expect("read: a block meets 31, all far", read(len), FURZELADLE_DONE, 3);
     expect("read: refused by 4", read(wide), -FURZELADLE_TABLE_SIZE, 2);
     expect("take: not yet", take(), FURZELADLE_NOT_YET, 2);
-    reads(3, 1);
+    reads(3, 0, 1);
     expect("read: a block meets 1, 16 pairs are near", read(len), FURZELADLE_DONE, 3);
-    reads(3, ROWS);
+    reads(3, 0, ROWS);
     expect("read: settled", read(len), FURZELADLE_SETTLED, 2);
     expect("show", show(), FURZELADLE_DONE, 1);
     expect("take: a pair", take(), FURZELADLE_GIVEN, 3);

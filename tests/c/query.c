@@ -30,9 +30,9 @@ static int32_t weigh(uint32_t v, uint32_t w, size_t count, const int32_t *f, siz
 }
 
 static void weights(void) {
-    static const uint64_t plainly[15] = {4, 4, 10, 140, 1, 2, 101, 202, 25, 110, 2, 3, 102, 203, 25};
-    static const uint64_t by_field[15] = {3, 5, 8, 320, 1, 2, 101, 202, 25, 270, 2, 3, 102, 203, 25};
-    static const uint64_t by_trim[15] = {5, 4, 12, 240, 1, 2, 101, 202, 25, 170, 2, 3, 102, 203, 25};
+    static const uint64_t plainly[15] = {4, 4, 2, 140, 1, 2, 101, 202, 25, 110, 2, 3, 102, 203, 25};
+    static const uint64_t by_field[15] = {3, 5, 2, 320, 1, 2, 101, 202, 25, 270, 2, 3, 102, 203, 25};
+    static const uint64_t by_trim[15] = {5, 4, 3, 240, 1, 2, 101, 202, 25, 170, 2, 3, 102, 203, 25};
     static const uint32_t bad[4][2] = {{0, 1}, {10, 1}, {1, 0}, {1, 10}};
     const uint32_t far[5] = {2, 1, 40001, 0, 10};
     uint64_t out[FURZELADLE_QUERY_SIZE];
@@ -72,7 +72,7 @@ static int32_t on_cards(uint32_t field_kind, uint32_t trim_kind, size_t m, size_
 }
 
 static void cards(void) {
-    static const uint64_t worked[15] = {4, 4, 10, 140, 1, 2, 101, 202, 25, 110, 2, 3, 102, 203, 25};
+    static const uint64_t worked[15] = {4, 4, 2, 140, 1, 2, 101, 202, 25, 110, 2, 3, 102, 203, 25};
     static const uint32_t bad[8][2] = {{0, 2}, {2, 2}, {4, 4}, {5, 4}, {1, 0}, {1, 1}, {3, 3}, {3, 5}};
     static const uint32_t old[7] = {2, 1, 5, 1, 1, FURZELADLE_FIELD, FURZELADLE_TRIM};
     uint64_t out[FURZELADLE_QUERY_SIZE];
@@ -159,7 +159,7 @@ static void each_root(void) {
 }
 
 int main(void) {
-    static const uint64_t worked[15] = {4, 4, 10, 140, 1, 2, 101, 202, 25, 110, 2, 3, 102, 203, 25};
+    static const uint64_t worked[15] = {4, 4, 2, 140, 1, 2, 101, 202, 25, 110, 2, 3, 102, 203, 25};
     uint64_t out[FURZELADLE_QUERY_SIZE + 1];
     uint32_t two[2] = {2, 1};
     int32_t bad[20];
@@ -192,7 +192,7 @@ int main(void) {
     expect("empty", ask(2, 1, 5, F, 0, out, FURZELADLE_QUERY_SIZE), 0);
 
     static const char listing[] = "     2     1     5\n     1   140   101   202       5       0\n"
-                                  "     2   110   102   203       5       0\n     4     4          10\n";
+                                  "     2   110   102   203       5       0\n     4     4           2\n";
     uint8_t text[FURZELADLE_LISTING_SIZE];
     const uint32_t q[3] = {2, 1, 5};
     memset(text, 'x', sizeof text);

@@ -67,7 +67,7 @@ static void worked(void)
     expect("finished", takes(s, pair), FURZELADLE_FINISHED);
     expect("field depth", s[FURZELADLE_FIELD_DEPTH], 4);
     expect("trim depth", s[FURZELADLE_TRIM_DEPTH], 4);
-    expect("joined", s[FURZELADLE_JOINED], 10);
+    expect("joined", s[FURZELADLE_JOINED], 2);
 }
 
 /* A refused read and take: the number, and nothing changed. */
@@ -169,8 +169,8 @@ static void weighted(void)
     const uint32_t ones[FURZELADLE_QUERY_MOST] = {2, 1, 5, 1, 1};
     const uint32_t all[FURZELADLE_QUERY_ALL] = {2, 1, 5, 1, 1, FURZELADLE_FIELD, FURZELADLE_TRIM};
     const uint32_t field_more[5] = {2, 1, 5, 3, 1}, trim_more[5] = {2, 1, 5, 1, 3};
-    const uint32_t plainly[5] = {140, 110, 4, 4, 10};
-    const uint32_t by_field[5] = {320, 270, 3, 5, 8}, by_trim[5] = {240, 170, 5, 4, 12};
+    const uint32_t plainly[5] = {140, 110, 4, 4, 2};
+    const uint32_t by_field[5] = {320, 270, 3, 5, 2}, by_trim[5] = {240, 170, 5, 4, 3};
     uint32_t three[SIZE], five[SIZE];
 
     listed("three numbers", query, FURZELADLE_QUERY_LEAST, plainly);
@@ -224,7 +224,7 @@ static void on_the_new_card(void)
     expect("finished", furzeladle_take(new_field, 25, new_trim, 25, s, SIZE, pair, 3), FURZELADLE_FINISHED);
     expect("field depth", s[FURZELADLE_FIELD_DEPTH], 4);
     expect("trim depth", s[FURZELADLE_TRIM_DEPTH], 4);
-    expect("joined", s[FURZELADLE_JOINED], 10);
+    expect("joined", s[FURZELADLE_JOINED], 2);
 }
 
 /* A session on the new card lent other tables, and rows whose L is out of range. */

@@ -96,6 +96,17 @@ def qualifies(x, y, radius):
     return not withdrawn(x) and not withdrawn(y) and distance(x, y) <= radius * radius
 
 
+def sides(rows):
+    """The lowest and highest of each coordinate of a block's rows, withdrawn ones too."""
+    return [(min(xs), max(xs)) for xs in zip(*(row[2:] for row in rows))]
+
+
+def far_apart(x, y, radius):
+    """Whether the rectangles of two blocks lie farther apart than the radius."""
+    gaps = [max(0, low - top, bottom - high) for (low, high), (bottom, top) in zip(sides(x), sides(y))]
+    return sum(gap * gap for gap in gaps) > radius * radius
+
+
 def read_out(t, depth):
     """All rows are read, or a withdrawn one is: scores fall, so that the last row read tells."""
     return depth == len(t) or (depth > 0 and withdrawn(t[depth - 1]))
@@ -183,6 +194,9 @@ def query(field, trim, raw, numbers):
         for old in read["t" if side == "f" else "f"]:
             x, y = (new, old) if side == "f" else (old, new)
             if len(held) == k and total(f[x[0]], t[y[0]]) < held[-1][0]:
+                continue
+            if far_apart(f[slice(*x)], t[slice(*y)], radius):
+                assert not any(qualifies(p, q, radius) for p in f[slice(*x)] for q in t[slice(*y)])
                 continue
             joined += 1
             for i in range(*x):
@@ -353,6 +367,7 @@ def cases():
     yield from new_card_refusals()
     yield from peek_cases()
     yield from unlike_card_cases()
+    yield from far_cases()
 
 
 def scored(kind, *scores):
@@ -555,6 +570,99 @@ def unlike_card_cases():
     yield "no-10-trim-before-15", NF, table(1, TRIMS), Q
 
 
+def placed(kind, *shades, withdrawn=0):
+    """A table of these shades: scores fall from 90; the last so many rows are withdrawn."""
+    live = len(shades) - withdrawn
+    return table(kind, [(100 * kind + i, 90 - i if i < live else 0) + shade for i, shade in enumerate(shades)])
+
+
+def drifting(kind, rows, step, offset):
+    """A table whose shades go off along a and back along b, so that rows of like scores are of like shades."""
+    return table(kind, [(1 + i, 9000 - 10 * i, step * i + offset - 6000, 6000 - step * i) for i in range(rows)])
+
+
+def drifted(dice, kind, rows, spread):
+    """The same with shades spread around the way, and L going down where the card has it."""
+    light = [(9900 - 30 * i + dice.below(spread),) if on_new_card(kind) else () for i in range(rows)]
+    shades = [(70 * i - 12000 + dice.below(spread), 9000 - 60 * i + dice.below(spread)) + light[i] for i in range(rows)]
+    return table(kind, [(1 + i, 9999 - 20 * i - dice.below(20)) + shade for i, shade in enumerate(shades)])
+
+
+def far_cases():
+    """Listings whose last number tells which block pairs were skipped for shade. In most of them the list is not full."""
+    # blocks of 2: a field block from -10 to 10 both ways, and trim blocks off each of its corners, nearer end to nearer end
+    centre = (-10, -10), (10, 10)
+
+    def corners(x, y):
+        return [(s * (10 + x + more), t * (10 + y + more)) for s in (1, -1) for t in (1, -1) for more in (0, 7)]
+
+    # 4 and 4 is beyond 5, though neither alone is; 3 and 4 is 5, and joined
+    yield "far-by-both", placed(1, *centre), placed(2, *corners(4, 4)), ask(64, 2, 5)
+    yield "far-at-radius", placed(1, *centre), placed(2, *corners(3, 4)), ask(64, 2, 5)
+    yield "far-some-by-both", placed(1, *centre), placed(2, *corners(4, 4), *corners(3, 4), *corners(4, 3)), ask(64, 2, 5)
+    # one way alone, a or b, below and above: 5 is joined, 6 is not
+    beside = [(15, 0), (-15, 0), (0, 15), (0, -15), (16, 0), (-16, 0), (0, 16), (0, -16)]
+    yield "far-one-way", placed(1, *centre), placed(2, *[shade for shade in beside for _ in range(2)]), ask(64, 2, 5)
+    # blocks that overlap are joined, though no row is near one of the other: one inside the other, and across
+    yield "far-overlapping", placed(1, (-50, -50), (50, 50), (-50, 0), (50, 0)), \
+        placed(2, (20, -20), (21, -21), (0, -60), (0, 60)), ask(64, 2, 5)
+    # first rows far apart, the others near: a pair, and none
+    yield "far-first-rows", placed(1, (0, 0), (100, 0)), placed(2, (200, 0), (103, 4), (0, 90), (90, 4)), ask(64, 2, 5)
+    # the row that comes nearest is the last of three, in the middle, or the first
+    yield "far-any-row", placed(1, (0, 0)), \
+        placed(2, (90, 0), (80, 0), (5, 0), (90, 0), (5, 0), (80, 0), (5, 0), (90, 0), (80, 0)), ask(64, 3, 5)
+    # a short last block has its own rows only
+    yield "far-short-block", placed(1, (0, 0), (0, 5), (40, 0)), placed(2, (0, 9), (3, 0), (43, 4)), ask(64, 2, 5)
+    # at 0 blocks must touch
+    yield "far-radius-zero", placed(1, (0, 0), (9, 9)), placed(2, (9, 9), (20, 20), (10, 9), (20, 20), (9, 10), (20, 20)), \
+        ask(64, 2, 0)
+    # 25,500 both ways are 36,062 and a rest
+    ends = placed(1, (-12800, -12800)), placed(2, (12700, 12700))
+    yield "far-widest", *ends, ask(64, 1, 36062)
+    yield "far-widest-within", *ends, ask(64, 1, 36063)
+    # withdrawn rows stretch a block, on either side; a block of them alone can be far
+    yield "far-withdrawn-stretch", placed(1, (0, 0), (30, 0), (0, 0), (90, 0), withdrawn=2), \
+        placed(2, (60, 0), (70, 0), (62, 0), (10, 0), withdrawn=1), ask(64, 2, 5)
+    yield "far-withdrawn-block", placed(1, (0, 0), (1, 0), (60, 0), (70, 0), withdrawn=2), \
+        placed(2, (0, 3), (1, 3), (20, 0), (30, 0), withdrawn=2), ask(64, 2, 5)
+    # with k pairs held, of 120: rows far from the first trim row whose sums would do, near the second whose would not, and
+    # rows that are neither near nor would do
+    yield "far-and-low", table(1, [(1, 90, 0, 0), (2, 89, 500, 0), (3, 88, 0, 0), (4, 87, 0, 0), (5, 30, 0, 0)]), \
+        table(2, [(6, 90, 1000, 0), (7, 30, 3, 4), (8, 29, 3, 4), (9, 28, 0, 0)]), ask(1, 1, 5)
+    # like shades with like scores
+    yield "far-drifting", drifting(1, 60, 200, 0), drifting(2, 60, 200, 90), ask(10, 4, 100)
+    yield "far-drifting-all-read", drifting(1, 60, 200, 0), drifting(2, 45, 200, 90), ask(64, 7, 100)
+    dice = Dice(11)
+    far = [drifted(dice, kind, 300, 60) for kind in (1, 2)]
+    yield "far-drifting-rows-300", *far, ask(64, 8, 150)
+    yield from far_card_cases()
+
+
+def far_card_cases():
+    """The same on the new card: L is a side too."""
+
+    def blocks(kind, *shades):
+        return placed(kind, *[shade for shade in shades for _ in range(2)])
+
+    # L alone: 5 is joined, 6 is not
+    around = [(0, 0, x) for x in (5006, 5005, 4995, 4994)]
+    yield "far-card-l", blocks(3, (0, 0, 5000)), blocks(4, *around), ask(64, 2, 5)
+    # 2, 3 and 6 are 7, and joined; 2, 3 and 5 are beyond 6, though no two of them are
+    yield "far-card-all-three", blocks(3, (0, 0, 5000)), \
+        blocks(4, (2, 3, 5006), (-2, -3, 4994), (3, -6, 5002), (6, 2, 4997), (2, 3, 5007), (3, 3, 5006)), ask(64, 2, 7)
+    yield "far-card-all-three-beyond", blocks(3, (0, 0, 5000)), \
+        blocks(4, (2, 3, 5005), (-2, -3, 4995), (3, -5, 5002), (5, 2, 4997), (2, 3, 5006)), ask(64, 2, 6)
+    # a withdrawn row stretches L
+    yield "far-card-withdrawn-stretch", placed(3, (0, 0, 0), (0, 0, 30), (0, 0, 9000), withdrawn=1), \
+        placed(4, (0, 0, 10000), (0, 0, 8000), (0, 0, 70), (0, 0, 20), withdrawn=1), ask(64, 2, 5)
+    # rows of one a and b, their L as their scores
+    lights = [placed(kind, *[(0, 0, 9000 - 50 * i - 10 * kind) for i in range(40)]) for kind in (3, 4)]
+    yield "far-card-drifting-l", *lights, ask(8, 4, 20)
+    dice = Dice(12)
+    far = [drifted(dice, kind, 300, 60) for kind in (3, 4)]
+    yield "far-card-drifting", *far, ask(64, 8, 150)
+
+
 def weighted_cases():
     yield "field-counts-more", F, T, weigh(2, 1, 5, 3, 1)
     yield "trim-counts-more", F, T, weigh(2, 1, 5, 1, 3)
@@ -583,6 +691,8 @@ def weighted_cases():
     yield "card-field-counts-more", NF, NT, weigh(2, 1, 13, 3, 1)
     rows = [dice.new_rows(40, 300, 20, 20) for _ in range(2)]
     yield "card-random-unlike", table(3, rows[0]), table(4, rows[1]), weigh(12, 3, 6, 7, 2)
+    # rows of like scores are of like shades; the list is full after some blocks
+    yield "far-drifting", drifting(1, 60, 200, 0), drifting(2, 60, 200, 90), weigh(10, 4, 100, 1, 4)
     yield "no-15-unlike-cards", NF, T, weigh(2, 1, 5, 2, 3)
     yield "no-12-before-15", F, NT, weigh(2, 1, 5, 1, 10)
 

@@ -1,17 +1,17 @@
 // The session against a plain double loop, over tables made from seeds. Prints totals; the comparer is tried first.
-use crate::due::Case;
+use double_loop::dice;
+use double_loop::due;
+use double_loop::due::Case;
+use double_loop::judge;
+use double_loop::made;
+use double_loop::plain;
+use double_loop::tally;
 use libc::STDOUT_FILENO;
 use rules::Counts;
 
 mod calls;
-mod dice;
-mod due;
-mod judge;
-mod made;
 mod openings;
-mod plain;
 mod play;
-mod tally;
 mod wrong;
 
 // A case: its session is played, and counted. The first 4,000 are on the old card, the others on the new.
@@ -19,10 +19,10 @@ fn case(seed: u64, tally: &mut [u64; 48]) {
     let card = judge::when(seed < 4000, 2, 3);
     let field = made::table(seed, card);
     let trim = made::table(std::num::wrapping_add_u64(seed, 1000000), card);
-    let rows = due::counts(dice::below(seed, 10, 13), dice::below(seed, 11, 13));
+    let rows = plain::counts(dice::below(seed, 10, 13), dice::below(seed, 11, 13));
     let query = made::query(seed, card);
-    let sums = plain::sums(query, card, &field, &trim);
-    let live = due::counts(
+    let sums = plain::sums(query, card, &field, &trim, rows);
+    let live = plain::counts(
         plain::live(card, &field, rows.field.0),
         plain::live(card, &trim, rows.trim.0),
     );
@@ -32,6 +32,14 @@ fn case(seed: u64, tally: &mut [u64; 48]) {
     counted(c, seen.said, seen.fault, seen.session.depth, tally);
     let apart = plain::kept_apart(query, card, &field, &trim, rows);
     counted_on(card, apart, tally);
+    let far = plain::far_blocks(&sums, seen.session.depth);
+    counted_far(far, seen.session.joined, tally);
+}
+
+// By how many block pairs of its reading lie too far apart, and how many others are joined.
+fn counted_far(far: u32, joined: u64, tally: &mut [u64; 48]) {
+    tally::count_if(tally, 0 < far, tally::FAR);
+    tally::count_if(tally, (0 < far) & (0 < joined), tally::FAR_AND_JOINED);
 }
 
 // By card, and by how many pairs L alone keeps apart.
@@ -80,6 +88,12 @@ fn totals(a: [u64; 48]) {
     line(a, tally::OLD_CARD, b"on the old card: ");
     line(a, tally::NEW_CARD, b"on the new card: ");
     line(a, tally::BY_LIGHT, b"with pairs that L alone keeps apart: ");
+    line(a, tally::FAR, b"with block pairs too far apart: ");
+    line(
+        a,
+        tally::FAR_AND_JOINED,
+        b"and with others that are joined: ",
+    );
     line(a, tally::EMPTY, b"with an empty table: ");
     line(a, tally::WITHDRAWN, b"with a withdrawn row: ");
     line(a, due::READ, b"blocks read: ");

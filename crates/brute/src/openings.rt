@@ -3,8 +3,9 @@
 use crate::calls;
 use crate::calls::Lent;
 use crate::calls::kinds;
-use crate::due;
-use crate::judge;
+use double_loop::due;
+use double_loop::judge;
+use double_loop::plain;
 use rules::FieldWeight;
 use rules::Kinds;
 use rules::Query;
@@ -14,7 +15,7 @@ use rules::Weights;
 
 // The record of a refused opening.
 fn zeros() -> Session {
-    due::opened(weighing(0, 0, query(0, 0, 0)), 0, due::counts(0, 0))
+    due::opened(weighing(0, 0, query(0, 0, 0)), 0, plain::counts(0, 0))
 }
 
 // A query with these weights.

@@ -1,21 +1,21 @@
 // The comparer is first fed one wrong list, answer and record of each kind, which it must report.
 use crate::calls;
 use crate::calls::Lent;
-use crate::due;
-use crate::due::Case;
-use crate::due::FINISHED;
-use crate::due::GIVEN;
-use crate::due::NOT_YET;
-use crate::due::READ;
-use crate::due::SETTLED;
-use crate::judge;
-use crate::judge::Seen;
 use crate::openings;
-use crate::plain;
-use crate::plain::Sums;
-use crate::plain::Table;
-use crate::plain::pair;
 use crate::play;
+use double_loop::due;
+use double_loop::due::Case;
+use double_loop::due::FINISHED;
+use double_loop::due::GIVEN;
+use double_loop::due::NOT_YET;
+use double_loop::due::READ;
+use double_loop::due::SETTLED;
+use double_loop::judge;
+use double_loop::judge::Seen;
+use double_loop::plain;
+use double_loop::plain::Sums;
+use double_loop::plain::Table;
+use double_loop::plain::pair;
 use libc::STDOUT_FILENO;
 use rules::Answer;
 use rules::Pair;
@@ -47,20 +47,20 @@ fn table(card: u32, first: i32, second: i32, third: i32) -> Table {
 
 // The three best pairs of these tables, by blocks of two rows.
 fn tables() -> Lent {
-    calls::first_rows(2, table(2, 9, 8, 1), table(2, 7, 5, 2), due::counts(3, 3))
+    calls::first_rows(2, table(2, 9, 8, 1), table(2, 7, 5, 2), plain::counts(3, 3))
 }
 
 fn sums(card: u32) -> Sums {
     let f = table(card, 9, 8, 1);
     let t = table(card, 7, 5, 2);
-    plain::sums(openings::query(3, 2, 5), card, &f, &t)
+    plain::sums(openings::query(3, 2, 5), card, &f, &t, plain::counts(3, 3))
 }
 
 fn case(m: &Sums) -> Case {
     due::case_of(
         openings::query(3, 2, 5),
-        due::counts(3, 3),
-        due::counts(3, 3),
+        plain::counts(3, 3),
+        plain::counts(3, 3),
         m,
     )
 }

@@ -1,5 +1,5 @@
-// The distance of two shades, lists of their coordinates of one length, for all 32-bit numbers: no sum wraps, whatever a
-// table holds. At the end whether two small shades, as legal rows have them, lie within a radius, at 32 bits.
+// The distance of two shades, lists of their coordinates of one length, for all 32-bit numbers: no sum wraps, whatever
+// a table holds. At the end whether two small shades, as legal rows have them, lie within a radius, at 32 bits.
 ghost use mathlib.Core.Path.{_≡_};
 ghost use mathlib.Core.Bool.{false};
 ghost use Prim.Native.Nat.{_+_, _*_, _<_, _≤_, _^_, _-_, min};

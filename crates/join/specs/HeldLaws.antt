@@ -2,7 +2,7 @@
 -- rank.
 use mathlib.Core.Path.{_≡_, refl, sym, ap, subst, _∙_}
 use mathlib.Core.Bool.{Bool, true, false}
-use mathlib.Core.List.{List, [], _∷_, _++_, map, map-append, List·Memᴰ, List·Memᴰ·head, List·Memᴰ·tail}
+use mathlib.Core.List.{List, [], _∷_, _++_, append-nil, map, map-append, List·Memᴰ, List·Memᴰ·head, List·Memᴰ·tail}
 use mathlib.Core.List.{List·Memᴰ·cases-cons, List·Memᴰ·not-nil, List·Memᴰ·append-cases, List·Memᴰ·eq-of-singleton}
 use mathlib.Core.List.{Memᴰ·append-left, Memᴰ·append-right, Memᴰ·cast}
 use mathlib.Core.Logic.{_⊎_, inl, inr, ⊎-elim, _↔_}
@@ -10,7 +10,7 @@ use Prim.Native.Nat.{ℕ, zero, suc, _+_, _-_, _≤_, _<_, min}
 use native.Mathlib.Omega.{arith}
 use lib.Dec.{leb, ltb}
 use lib.ListN.{length, take, length-append, length-take, length-map}
-use lib.Seq.{take-nil, take-at}
+use lib.Seq.{take-nil, take-at, take-all}
 use borrow.Author.Tests.{leb-true, ltb-true, ltb-false}
 use Rattle.lists.specs.Lists.{keep, sort, ranked, atLeast}
 use Rattle.lists.specs.Bools.{clash}
@@ -51,6 +51,14 @@ module _ {P : Type 0} {ahead : P → P → Bool} {sum : P → ℕ} (rank : Rank 
       let sorted = ranked-sort ahead (rank .order) held r in
       ap (take n) (sort-below ahead (rank .order) held met sorted (λ p q a b. rank .higher p q (h p q a b)))
       ∙ take-at held (sort ahead met) n e
+
+  -- nor does meeting no pair
+  pub none-same : (n : ℕ) (held : List P) → ranked ahead held ≡ true → length held ≤ n
+      → take n (sort ahead (held ++ [])) ≡ held
+  none-same n held r h =
+      ap (λ l. take n (sort ahead l)) (append-nil held)
+      ∙ ap (take n) (ranked-sort ahead (rank .order) held r)
+      ∙ take-all n held h
 
   -- nothing is held of an empty region
   pub holds-none : (k : ℕ) (R : P → Type 0) → ((p : P) → R p → ⊥) → Holds ahead k R [] [] []

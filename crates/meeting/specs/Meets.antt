@@ -115,6 +115,13 @@ module _ (f t : Table) (new old : Span) where
   inside-trim true x y = y
   inside-trim false x y = x
 
+  -- the new block's rows, whichever table it is of
+  pub new-rows : (b : Bool)
+      → spanBlock (cond b f t) new .rows
+      ≡ cond b (spanBlock f (cond b new old) .rows) (spanBlock t (cond b old new) .rows)
+  new-rows true = refl
+  new-rows false = refl
+
   pub parts-meet : (b : Bool) (r : Session) → meet r (spanBlock f (cond b new old)) (spanBlock t (cond b old new))
       ≡ meet r (cond b (spanBlock (cond b f t) new) (spanBlock (cond b t f) old))
       (cond b (spanBlock (cond b t f) old) (spanBlock (cond b f t) new))

@@ -1,6 +1,6 @@
 -- A record's held pairs as keys, and its counts beside them, while blocks are met. Assumes nothing.
 use mathlib.Core.Path.{_≡_, refl, sym, ap, subst, _∙_}
-use mathlib.Core.Bool.{Bool, true, false, cond, _&&_}
+use mathlib.Core.Bool.{Bool, true, false, cond, _&&_, _||_}
 use mathlib.Core.List.{List, [], _∷_, map}
 use Prim.Native.Nat.{ℕ, _+_, _-_, _%_, _≤_, _<_}
 use native.Mathlib.Omega.{arith}
@@ -112,8 +112,9 @@ module _ (r : Session) (ready : Ready r) (room : ℕ) (left : r .query .k - r .o
   skips-is : (x y : Block) → skips (eqb (m .held) room) lowSum (r .query) (x .rows) (y .rows) ≡ skipped r x y
   unfolding skippedBy
   skips-is x y =
-      go (eqb (m .held) room) refl
-      ∙ ap (λ (b : Bool). b && ltb (firstScores (r .query) (x .rows) (y .rows)) (lowest (heldPairs r))) full-is
+      ap (λ (b : Bool). b || terms (r .query) .far (x .rows) (y .rows))
+      (go (eqb (m .held) room) refl
+      ∙ ap (λ (b : Bool). b && ltb (firstScores (r .query) (x .rows) (y .rows)) (lowest (heldPairs r))) full-is)
     where
       go : (b : Bool) → eqb (m .held) room ≡ b
           → (b && ltb (firstScores (r .query) (x .rows) (y .rows)) lowSum)

@@ -8,13 +8,14 @@ ghost use mathlib.Core.Path.{_≡_};
 ghost use mathlib.Core.Bool.{true, false, cond};
 ghost use Prim.Native.Nat.{_+_, _*_, _-_, _≤_, _<_, _^_, min};
 ghost use lib.ListN.{length};
-ghost use Rattle.rules.specs.Tables.{table, mostRows, terms, HasRows};
+ghost use Rattle.rules.specs.Tables.{table, mostRows, rectangle, terms, HasRows};
 ghost use Rattle.rules.specs.Session.{lentTable, settled};
 ghost use Rattle.rules.specs.Read.{meetBlocks, readTable, readBlock};
 ghost use Rattle.rules.specs.Calls.{isCard, newBlockCode};
 ghost use Rattle.session_laws.specs.Record.{QueryFits};
 ghost use Rattle.session_laws.specs.Calls.{Accepted};
 ghost use Rattle.block.specs.Block.{Joined};
+ghost use Rattle.rectangles.specs.Sides.{sidesIn};
 ghost use Rattle.skipping.specs.Effect.{Effect};
 ghost use Rattle.choosing.specs.Ready.{Ready};
 ghost use Rattle.choosing.specs.Due.{Due};
@@ -56,24 +57,29 @@ fn join_parts(
     block::join(n, q, room, fields, x.from, trims, y.from, keys, held)
 }
 
-// The effect of rows of the field table and rows of the trim table.
+// The effect of rows of the field table and rows of the trim table. The rectangle of the new ones, of the field table
+// where the flag says so, stands in `sides`.
 fn effect_parts(
     n: u32,
     full: bool,
     low: u32,
     q: Query,
+    field: bool,
+    sides: &[i32; 6],
     f: &[i32],
     x: Span,
     t: &[i32],
     y: Span,
 ) -> u64
     requires { ⌜ QueryFits q × (isCard n ≡ true) × SpanFits x (table n (now f)) × SpanFits y (table n (now t)) ⌝ }
+    requires { ⌜ sidesIn n (now sides)
+        ≡ rectangle (cond field (spanBlock (table n (now f)) x .rows) (spanBlock (table n (now t)) y .rows)) ⌝ }
     ensures { λ r. ⌜ Effect full low q (spanBlock (table n (now (f .entry))) x .rows)
         (spanBlock (table n (now (t .entry))) y .rows) r ⌝ }
 {
     let fields = tables::rows(n, f, x.from, x.to);
     let trims = tables::rows(n, t, y.from, y.to);
-    skipping::effect(n, full, low, q, fields, trims)
+    skipping::effect(n, full, low, q, field, sides, fields, trims)
 }
 
 // How many pairs are held and how many block pairs are joined.
@@ -82,11 +88,13 @@ pub struct Met {
     pub joined: u64,
 }
 
-// One block pair is met: skipped, or joined and counted.
+// One block pair is met: skipped, or joined and counted. `sides` as above.
 fn meet_parts(
     n: u32,
     q: Query,
     room: usize,
+    field: bool,
+    sides: &[i32; 6],
     f: &[i32],
     x: Span,
     t: &[i32],
@@ -96,13 +104,15 @@ fn meet_parts(
 ) -> Met
     requires { ⌜ (m .held ≤ room) × (room ≤ 64) × (m .joined < 2 ^ 63) × (length (now keys) ≡ 64) ⌝ }
     requires { ⌜ QueryFits q × (isCard n ≡ true) × SpanFits x (table n (now f)) × SpanFits y (table n (now t)) ⌝ }
+    requires { ⌜ sidesIn n (now sides)
+        ≡ rectangle (cond field (spanBlock (table n (now f)) x .rows) (spanBlock (table n (now t)) y .rows)) ⌝ }
     ensures { λ r. ⌜ Meets q room (spanBlock (table n (now (f .entry))) x) (spanBlock (table n (now (t .entry))) y) m
         (now (keys .entry)) r (now (keys .exit)) ⌝ }
 {
     let full = m.held == room;
     let last = (m.held + 63) % 64;
     let p = keys::pair(keys[last]);
-    let w = effect_parts(n, full, p.sum, q, f, x, t, y);
+    let w = effect_parts(n, full, p.sum, q, field, sides, f, x, t, y);
     if w == 2 {
         let held = join_parts(n, q, room, f, x, t, y, keys, m.held);
         return Met {
@@ -117,8 +127,80 @@ fn meet_parts(
 }
 
 // The new block, of the field table where the flag says so, meets the first n blocks of the other table, down to its
-// depth.
+// depth. Its rectangle stands in `sides`.
 fn meet_blocks(
+    field: bool,
+    s: Session,
+    f: &[i32],
+    t: &[i32],
+    new: Span,
+    depth: usize,
+    n: usize,
+    sides: &[i32; 6],
+    keys: &mut [u64; 64],
+) -> Met
+    requires { ⌜ Ready s × (s .joined + n < 2 ^ 63) × Keys s (now keys) ⌝ }
+    requires { ⌜ SpanFits new (cond field (lentTable s (now f)) (lentTable s (now t)))
+        × FirstFit (cond field (lentTable s (now t)) (lentTable s (now f))) depth ⌝ }
+    requires { ⌜ (depth ≤ mostRows) × HasRows (cond field (lentTable s (now t)) (lentTable s (now f))) depth
+        × (n * s .query .block < depth + s .query .block) ⌝ }
+    requires { ⌜ sidesIn (s .rows .card) (now sides)
+        ≡ rectangle (spanBlock (cond field (lentTable s (now f)) (lentTable s (now t))) new .rows) ⌝ }
+    ensures { λ r. ⌜ Stands
+        (meetBlocks field s
+        (spanBlock (cond field (lentTable s (now (f .entry))) (lentTable s (now (t .entry)))) new)
+        (cond field (lentTable s (now (t .entry))) (lentTable s (now (f .entry)))) depth n)
+        r (now (keys .exit)) ⌝ }
+{
+    let block = s.query.block as usize;
+    let room = (s.query.k - s.out) as usize;
+    let mut m = Met {
+        held: s.held as usize,
+        joined: s.joined,
+    };
+    let mut c: usize = 0;
+    let mut i: usize = 0;
+    while i < n {
+        let g = block::lesser(c + block, depth);
+        let old = Span { from: c, to: g };
+        let x = either(field, new, old);
+        let y = either(field, old, new);
+        m = meet_parts(
+            s.rows.card,
+            s.query,
+            room,
+            field,
+            sides,
+            f,
+            x,
+            t,
+            y,
+            keys,
+            m,
+        );
+        c = c + block;
+        i += 1;
+    }
+    m
+}
+
+// The rectangle of the new block, of the field table where the flag says so, is written into lent numbers.
+fn put_sides(n: u32, field: bool, f: &[i32], t: &[i32], new: Span, sides: &mut [i32; 6])
+    requires { ⌜ (isCard n ≡ true) × SpanFits new (cond field (table n (now f)) (table n (now t))) ⌝ }
+    ensures { λ _. ⌜ sidesIn n (now (sides .exit))
+        ≡ rectangle (spanBlock (cond field (table n (now (f .entry))) (table n (now (t .entry)))) new .rows) ⌝ }
+{
+    if field {
+        let rows = tables::rows(n, f, new.from, new.to);
+        rectangles::put_sides(n, rows, sides);
+    } else {
+        let rows = tables::rows(n, t, new.from, new.to);
+        rectangles::put_sides(n, rows, sides);
+    }
+}
+
+// The same: the new block's rectangle is found once for all blocks that it meets.
+fn meet_new(
     field: bool,
     s: Session,
     f: &[i32],
@@ -139,24 +221,9 @@ fn meet_blocks(
         (cond field (lentTable s (now (t .entry))) (lentTable s (now (f .entry)))) depth n)
         r (now (keys .exit)) ⌝ }
 {
-    let block = s.query.block as usize;
-    let room = (s.query.k - s.out) as usize;
-    let mut m = Met {
-        held: s.held as usize,
-        joined: s.joined,
-    };
-    let mut c: usize = 0;
-    let mut i: usize = 0;
-    while i < n {
-        let g = block::lesser(c + block, depth);
-        let old = Span { from: c, to: g };
-        let x = either(field, new, old);
-        let y = either(field, old, new);
-        m = meet_parts(s.rows.card, s.query, room, f, x, t, y, keys, m);
-        c = c + block;
-        i += 1;
-    }
-    m
+    let mut sides = [0i32; 6];
+    put_sides(s.rows.card, field, f, t, new, &mut sides);
+    meet_blocks(field, s, f, t, new, depth, n, &sides, keys)
 }
 
 // The depths with one table's read down to row e.
@@ -198,7 +265,7 @@ fn read_on(field: bool, f: &[i32], t: &[i32], s: Session, keys: &mut [u64; 64]) 
         from: d as usize,
         to: e as usize,
     };
-    let m = meet_blocks(field, s, f, t, new, depth as usize, n as usize, keys);
+    let m = meet_new(field, s, f, t, new, depth as usize, n as usize, keys);
     let to = down_to(field, e, s.depth);
     let last = choosing::pick(field, 1, 2);
     After {

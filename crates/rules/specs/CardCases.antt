@@ -7,12 +7,12 @@ use lib.IntN.{ℤ, pos, negsuc}
 use lib.ListN.{replicate}
 use Rattle.rules.specs.declared.Kinds.{Kinds}
 use Rattle.rules.specs.declared.Session.{Session}
-use Rattle.rules.specs.Tables.{table, rowCount, fieldTable, trimTable, qualifies}
+use Rattle.rules.specs.Tables.{Table, table, rowCount, fieldTable, trimTable, qualifies}
 use Rattle.rules.specs.Calls.{rowsCode, recordCode, openCode}
 use Rattle.rules.specs.Query.{fieldFileKind, trimFileKind, wholeQuery, refusalLine}
 use Rattle.rules.specs.Run.{run}
 use Rattle.rules.specs.Example.{bytes, text, fieldFile, input, afterReads}
-use Rattle.rules.specs.Small.{asked}
+use Rattle.rules.specs.Small.{asked, joinedAt5}
 
 -- ---- Lightness counts in the distance, as a and b do
 
@@ -22,6 +22,21 @@ near radius l = qualifies radius (pos 0 ∷ pos 0 ∷ pos 0 ∷ []) (pos 3 ∷ p
 pub only-lightness : near 5 (pos 4) ∷ near 5 (pos 5) ∷ near 4 (pos 4) ∷ [] ≡ true ∷ false ∷ false ∷ []
 unfolding run
 only-lightness = refl
+
+-- ---- and so it does in the gap of two blocks
+
+abbrev at : ℤ → ℤ → ℤ → Table
+at a b l = table 3 (pos 1 ∷ pos 9 ∷ a ∷ b ∷ l ∷ [])
+
+pub third-side : map (joinedAt5 (at (pos 0) (pos 0) (pos 0)))
+    (at (pos 0) (pos 0) (pos 5)
+    ∷ at (pos 0) (pos 0) (pos 6)
+    ∷ at (pos 3) (pos 4) (pos 0)
+    ∷ at (pos 3) (pos 4) (pos 1)
+    ∷ [])
+    ≡ 1 ∷ 0 ∷ 1 ∷ 0 ∷ []
+unfolding run
+third-side = refl
 
 -- ---- Rows: twenty numbers are five rows on the old card, four on the new one
 
@@ -113,7 +128,7 @@ pub worked-new : wholeQuery newFields newTrims input
     ("     2     1     5"
     ∷ "     1   160   101   201       5       0"
     ∷ "     2   130   102   202       5       0"
-    ∷ "     2     2           4"
+    ∷ "     2     2           2"
     ∷ [])
 unfolding run
 worked-new = refl

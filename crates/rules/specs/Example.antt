@@ -62,7 +62,7 @@ output =
     ("     2     1     5"
     ∷ "     1   140   101   202       5       0"
     ∷ "     2   110   102   203       5       0"
-    ∷ "     4     4          10"
+    ∷ "     4     4           2"
     ∷ [])
 
 -- the worked query's whole output
@@ -119,7 +119,7 @@ five =
       out = 0;
       held = 1;
       pairs = places (record { sum = 140; field = 1; trim = 2 } ∷ []);
-      joined = 6;
+      joined = 1;
     }
 
 is-five : afterReads 5 ≡ five
@@ -139,7 +139,7 @@ tableAt s =
     ∷ entry (column true (bytes "     -0")) []
     ∷ entry (pos (ceiling fields trims s) ∷ []) (pos 140 ∷ [])
     ∷ entry (told (takeCall fields trims s .answer)) (pos 2 ∷ pos 140 ∷ pos 1 ∷ pos 2 ∷ [])
-    ∷ entry (account (settledSession query fields trims)) (pos 4 ∷ pos 4 ∷ pos 10 ∷ [])
+    ∷ entry (account (settledSession query fields trims)) (pos 4 ∷ pos 4 ∷ pos 2 ∷ [])
     ∷ entry (told (takeCall (oldTable []) trims (openCall query (oldTable []) trims .session) .answer)) (pos 4 ∷ [])
     ∷ []
 

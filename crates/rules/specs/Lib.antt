@@ -3,6 +3,7 @@ pub mod Widths
 pub mod Squares
 pub mod Whole
 pub mod Qualifying
+pub mod Rectangles
 pub mod Session
 pub mod Read
 pub mod Take

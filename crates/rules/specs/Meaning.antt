@@ -1,11 +1,12 @@
 -- What single rules mean where a slip would not show in the rules' worked query: one law a rule. Assumes nothing.
 use mathlib.Core.Path.{_≡_}
-use mathlib.Core.Bool.{true, false}
+use mathlib.Core.Bool.{Bool, true, false, _&&_, _||_}
+use mathlib.Core.Logic.{_⊎_, inl, inr, ⊎-elim, _↔_}
 use Prim.Native.Nat.{ℕ, _+_, _<_}
 use native.Mathlib.Omega.{arith}
-use lib.Dec.{eqb, leb}
-use borrow.Author.Tests.{lt-ltb, le-ltb, ne-eqb}
-use Rattle.lists.specs.Bools.{and-false}
+use lib.Dec.{eqb, leb, ltb}
+use borrow.Author.Tests.{lt-ltb, le-ltb, ltb-true, eq-eqb, ne-eqb, eqb-true}
+use Rattle.lists.specs.Bools.{and-out, and-in, and-false, or-out, or-in-left, or-in-right}
 use Rattle.rules.specs.declared.Session.{Session}
 use Rattle.rules.specs.Tables.{Table, terms, Block}
 use Rattle.rules.specs.Session.{firstScore, lastScore, fieldReadOut, trimReadOut, heldPairs, ceilingBy, ceiling}
@@ -70,15 +71,58 @@ module _ (f t : Table) (s : Session) (p : 0 < s .depth .field .0) (q : 0 < s .de
         le-ltb y x (omega arith),
       )
 
--- ---- a block pair whose first scores add to just the lowest held sum is joined
+-- ---- which block pairs are skipped
 
 module _ (s : Session) (x y : Block) where
   -- the first scores of both, added
-  abbrev firstScores : ℕ
+  abbrev pub firstScores : ℕ
   firstScores = firstScore (terms (s .query) .field) (x .rows) + firstScore (terms (s .query) .trim) (y .rows)
 
-  pub joined-at-equality : firstScores ≡ lowest (heldPairs s) → skipped s x y ≡ false
+  -- out plus held is k, and the first scores add to less than the lowest held sum
+  abbrev pub SkippedForScores : Type 0
+  SkippedForScores = (s .out + s .held ≡ s .query .k) × (firstScores < lowest (heldPairs s))
+
+  -- by either rule, and no other way
+  pub skipped-is : (skipped s x y ≡ true)
+      ↔ (SkippedForScores ⊎ (terms (s .query) .far (x .rows) (y .rows) ≡ true))
+  unfolding skippedBy
+  skipped-is = (there, back)
+    where
+      n : ℕ
+      n = s .out + s .held
+
+      k : ℕ
+      k = s .query .k
+
+      least : ℕ
+      least = lowest (heldPairs s)
+
+      full : Bool
+      full = eqb n k
+
+      low : Bool
+      low = ltb firstScores least
+
+      far : Bool
+      far = terms (s .query) .far (x .rows) (y .rows)
+
+      there : (full && low) || far ≡ true → SkippedForScores ⊎ (far ≡ true)
+      there e =
+          ⊎-elim
+          (λ a. let both = and-out full low a in inl (eqb-true n k (both .0), ltb-true firstScores least (both .1)))
+          inr (or-out (full && low) far e)
+
+      back : SkippedForScores ⊎ (far ≡ true) → (full && low) || far ≡ true
+      back (inl h) =
+          or-in-left (full && low) far (and-in full low (eq-eqb n k (h .0)) (lt-ltb firstScores least (h .1)))
+      back (inr h) = or-in-right (full && low) far h
+
+  -- where the first scores add to just the lowest held sum, shades alone decide
+  pub joined-at-equality : firstScores ≡ lowest (heldPairs s)
+      → skipped s x y ≡ terms (s .query) .far (x .rows) (y .rows)
   unfolding skippedBy
   joined-at-equality h =
-      simp (le-ltb firstScores (lowest (heldPairs s)) (omega arith))
-      (and-false (eqb (s .out + s .held) (s .query .k)))
+      simp (
+        le-ltb firstScores (lowest (heldPairs s)) (omega arith),
+        and-false (eqb (s .out + s .held) (s .query .k)),
+      )

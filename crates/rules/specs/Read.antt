@@ -1,6 +1,6 @@
 -- docs/RULES.md, "Read". Definitions only. Assumes nothing.
 use Prim.Native.Nat.{ℕ, zero, suc, _+_, _*_, _-_, _/_, min}
-use mathlib.Core.Bool.{Bool, true, false, cond, _&&_}
+use mathlib.Core.Bool.{Bool, true, false, cond, _&&_, _||_}
 use mathlib.Core.List.{List, [], _∷_, _++_}
 use lib.Dec.{leb, ltb, eqb}
 use lib.ListN.{length, take}
@@ -58,12 +58,13 @@ lowest (p ∷ []) = p .sum
 lowest (p ∷ q ∷ l) = min (p .sum) (lowest (q ∷ l))
 
 -- "A block pair is skipped if out plus held is k and the first scores of both blocks add to less than the lowest
--- held sum"
+-- held sum"; "A block pair is also skipped if these two rectangles lie farther apart than the radius."
 unfoldable pub skippedBy : (Query → Terms) → Session → Block → Block → Bool
 skippedBy g s x y =
     let w = g (s .query) in
-    eqb (s .out + s .held) (s .query .k)
-    && ltb (firstScore (w .field) (x .rows) + firstScore (w .trim) (y .rows)) (lowest (heldPairs s))
+    (eqb (s .out + s .held) (s .query .k)
+    && ltb (firstScore (w .field) (x .rows) + firstScore (w .trim) (y .rows)) (lowest (heldPairs s)))
+    || w .far (x .rows) (y .rows)
 
 abbrev pub skipped : Session → Block → Block → Bool
 skipped = skippedBy terms

@@ -1,8 +1,8 @@
 -- All rules at once: a proof that says `unfolding run` computes with them. Assumes nothing.
 use Rattle.rules.specs.Tables.{kindCoordinates, within, coordinateFits, fitsAt, shadeFits, inRange, rowInRange}
 use Rattle.rules.specs.Tables.{rowInOrder, sizeFits, legal, row, gap}
-use Rattle.rules.specs.Tables.{squares, qualifies, withdrawn, rowsQualify, weighted, pairSum, ahead}
-use Rattle.rules.specs.Tables.{pairAt, qualifying}
+use Rattle.rules.specs.Tables.{squares, qualifies, side, rectangle, sideGap, farApart, withdrawn, rowsQualify}
+use Rattle.rules.specs.Tables.{weighted, pairSum, ahead, pairAt, qualifying}
 use Rattle.rules.specs.Session.{places, opened, zeros, withdrawnWithin, readOut, isEmpty, ceilingBy, securedBy}
 use Rattle.rules.specs.Session.{settledBy}
 use Rattle.rules.specs.Read.{fieldNextBy, lowest, skippedBy, bestHeld, holding, meetBy, meetBlocksBy, readTo}
@@ -28,7 +28,7 @@ use Rattle.lists.specs.Lists.{consIf, keep, every, range, each, ins, sort, rank
 
 unfoldable pub run : Unit {0}
 unfolding kindCoordinates within coordinateFits fitsAt shadeFits inRange rowInRange rowInOrder sizeFits legal row gap
-    squares qualifies withdrawn rowsQualify
+    squares qualifies side rectangle sideGap farApart withdrawn rowsQualify
     weighted pairSum ahead pairAt qualifying places opened zeros withdrawnWithin readOut isEmpty ceilingBy securedBy
     settledBy fieldNextBy lowest skippedBy bestHeld holding meetBy meetBlocksBy readTo readTableBy givesPairBy
     movedOut finished shownRows queryCode sizeCode sameSizeCode rowCode rowsCode countsFit pairFits markFits

@@ -4,7 +4,7 @@ use Prim.Native.String.{String}
 use mathlib.Core.Path.{_≡_, refl}
 use mathlib.Core.Bool.{true, false}
 use mathlib.Core.List.{List, [], _∷_, map}
-use lib.IntN.{ℤ, pos}
+use lib.IntN.{ℤ, pos, negsuc}
 use lib.ListN.{set, replicate}
 use Rattle.rules.specs.declared.Query.{Query}
 use Rattle.rules.specs.declared.Session.{Session}
@@ -166,8 +166,11 @@ apart a scores = oldTable (each (λ score. pos 1 ∷ score ∷ a ∷ pos 0 ∷ [
 abbrev tens : Table
 tens = apart (pos 0) (pos 20 ∷ pos 10 ∷ pos 0 ∷ [])
 
+abbrev sixesAt : ℤ → Table
+sixesAt a = apart a (pos 20 ∷ pos 14 ∷ pos 0 ∷ [])
+
 abbrev sixes : Table
-sixes = apart (pos 9) (pos 20 ∷ pos 14 ∷ pos 0 ∷ [])
+sixes = sixesAt (pos 9)
 
 abbrev readTwice : Session
 readTwice =
@@ -184,7 +187,7 @@ pub ceiling-weighted : ceiling tens sixes readTwice ≡ 50
 unfolding run
 ceiling-weighted = refl
 
--- 10 and twice 14 is not below a held sum of 30, though 10 and 14 is
+-- at one place, 10 and twice 14 is not below a held sum of 30, though 10 and 14 is
 abbrev oneHeld : Session
 oneHeld =
     let s = readTwice in
@@ -199,7 +202,7 @@ oneHeld =
       joined = s .joined;
     }
 
-pub skipping-weighted : skipped oneHeld (rowsBetween tens 1 2) (rowsBetween sixes 1 2) ≡ false
+pub skipping-weighted : skipped oneHeld (rowsBetween tens 1 2) (rowsBetween (sixesAt (pos 0)) 1 2) ≡ false
 unfolding run
 skipping-weighted = refl
 
@@ -249,6 +252,46 @@ pub begins-withdrawn : depthsOf (settledSession (asked 1 1 0) noneLive allLive)
     ∷ [] ≡ (1 ∷ 0 ∷ []) ∷ (1 ∷ 1 ∷ []) ∷ (0 ∷ 0 ∷ []) ∷ []
 unfolding run
 begins-withdrawn = refl
+
+-- ---- Blocks of far shades: of one block each, a list that is not full and radius 5, how many block pairs are joined
+
+abbrev pub joinedAt5 : Table → Table → ℕ
+joinedAt5 x y = settledSession (asked 1 2 5) x y .joined
+
+abbrev at : ℤ → ℤ → Table
+at a b = oldTable (pos 1 ∷ pos 9 ∷ a ∷ b ∷ [])
+
+-- by both gaps at once, joined at equality, by either gap alone; a skipped block pair is not counted
+pub both-gaps : map (joinedAt5 (at (pos 0) (pos 0)))
+    (at (pos 3) (pos 4)
+    ∷ at (pos 4) (pos 4)
+    ∷ at (pos 5) (pos 0)
+    ∷ at (pos 6) (pos 0)
+    ∷ at (pos 0) (pos 5)
+    ∷ at (pos 0) (pos 6)
+    ∷ [])
+    ≡ 1 ∷ 0 ∷ 1 ∷ 0 ∷ 1 ∷ 0 ∷ []
+unfolding run
+both-gaps = refl
+
+-- two rows at 20 and 0, the second of this score: beside the second, between the two and beside the first
+abbrev two : ℤ → Table
+two score = oldTable (pos 1 ∷ pos 9 ∷ pos 20 ∷ pos 0 ∷ pos 1 ∷ score ∷ pos 0 ∷ pos 0 ∷ [])
+
+abbrev beside : List Table
+beside = map (λ a. at a (pos 0)) (negsuc 5 ∷ negsuc 4 ∷ pos 10 ∷ pos 25 ∷ pos 26 ∷ [])
+
+pub all-rows : map (joinedAt5 (two (pos 8))) beside ≡ 0 ∷ 1 ∷ 1 ∷ 1 ∷ 0 ∷ []
+unfolding run
+all-rows = refl
+
+pub withdrawn-too : map (joinedAt5 (two (pos 0))) beside ≡ 0 ∷ 1 ∷ 1 ∷ 1 ∷ 0 ∷ []
+unfolding run
+withdrawn-too = refl
+
+pub trims-too : map (λ x. joinedAt5 x (two (pos 0))) beside ≡ 0 ∷ 1 ∷ 1 ∷ 1 ∷ 0 ∷ []
+unfolding run
+trims-too = refl
 
 -- ---- What a refused reading leaves in the oldTable numbers: a bad column in the second row, and too short a slice
 

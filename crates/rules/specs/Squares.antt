@@ -1,8 +1,8 @@
 -- Laws of squares, whatever is squared and however many places there are. Assumes nothing.
-use mathlib.Core.Path.{_≡_, refl, ap₂}
+use mathlib.Core.Path.{_≡_, refl, ap, ap₂}
 use mathlib.Core.List.{List, [], _∷_}
 use Prim.Native.Nat.{ℕ, zero, suc, _+_, _*_, _≤_, _<_}
-use native.Mathlib.Nat.{suc-mul}
+use native.Mathlib.Nat.{suc-mul, mul-le-mul}
 use native.Mathlib.Omega.{arith}
 use lib.ListN.{length, getD, take}
 use lib.Seq.{take-all}
@@ -63,3 +63,31 @@ module _ {A : Type 0} (f : A → A → ℕ) where
   pub squares-all : (k l : List A) (i : ℕ) → length k ≤ i → length l ≤ i
       → squares f (take i k) (take i l) ≡ squares f k l
   squares-all k l i h j = ap₂ (squares f) (take-all i k h) (take-all i l j)
+
+  -- the lists the other way round
+  pub squares-turned : (k l : List A) → squares f k l ≡ squares (λ x y. f y x) l k
+  unfolding squares
+  squares-turned [] [] = refl
+  squares-turned [] (y ∷ l) = refl
+  squares-turned (x ∷ k) [] = refl
+  squares-turned (x ∷ k) (y ∷ l) = ap (λ n. f x y * f x y + n) (squares-turned k l)
+
+-- a law of each place is a law of the lists
+module _ {A B : Type 0} (f : A → A → ℕ) (g : B → B → ℕ) (d : A) (e : B) where
+  pub square-le : (k l : List A) (m n : List B) (i : ℕ)
+      → f (getD k i d) (getD l i d) ≤ g (getD m i e) (getD n i e) → squareAt f d k l i ≤ squareAt g e m n i
+  unfolding squareAt
+  square-le k l m n i h = mul-le-mul h h
+
+  pub squares-le : (k l : List A) (m n : List B) → length k ≤ length m → length l ≤ length n
+      → ((i : ℕ) → i < length k → i < length l → squareAt f d k l i ≤ squareAt g e m n i)
+      → squares f k l ≤ squares g m n
+  unfolding squares squareAt
+  squares-le [] l m n a b h = omega arith
+  squares-le (x ∷ k) [] m n a b h = omega arith
+  squares-le (x ∷ k) (y ∷ l) [] n a b h = absurd (omega arith)
+  squares-le (x ∷ k) (y ∷ l) (z ∷ m) [] a b h = absurd (omega arith)
+  squares-le (x ∷ k) (y ∷ l) (z ∷ m) (w ∷ n) a b h =
+      let first = h 0 (omega arith) (omega arith) in
+      let rest = squares-le k l m n (omega arith) (omega arith) (λ i p q. h (suc i) (omega arith) (omega arith)) in
+      omega arith

@@ -1,10 +1,10 @@
 -- docs/RULES.md, "Tables". Definitions only. Assumes nothing.
-use Prim.Native.Nat.{ℕ, _+_, _*_, _-_, _/_, _%_, _≤_}
+use Prim.Native.Nat.{ℕ, zero, suc, _+_, _*_, _-_, _/_, _%_, _≤_}
 use mathlib.Core.Bool.{Bool, cond, _&&_, _||_, not}
 use mathlib.Core.List.{List, [], _∷_, map}
 use lib.Dec.{leb, ltb, eqb}
 use lib.IntN.{ℤ, pos, negsuc, natAbs, _-ℤ_}
-use lib.Signed.{leZ}
+use lib.Signed.{leZ, ltZ}
 use lib.ListN.{length, getD, take, drop}
 use Rattle.lists.specs.Lists.{keep, every, range, each}
 use Rattle.rules.specs.declared.Card.{Card}
@@ -12,6 +12,7 @@ use Rattle.rules.specs.declared.Card.the-variants.{Old, New}
 use Rattle.rules.specs.declared.Kinds.{Kinds}
 use Rattle.rules.specs.declared.Pair.{Pair}
 use Rattle.rules.specs.declared.Query.{Query}
+use Rattle.rules.specs.declared.Side.{Side}
 
 -- A table: how many coordinates a shade has on its card, and its numbers, row by row.
 pub record Table : Type 0 where
@@ -152,6 +153,29 @@ squaredDistance = squares gap
 unfoldable pub qualifies : ℕ → List ℤ → List ℤ → Bool
 qualifies radius x y = leb (squaredDistance x y) (radius * radius)
 
+-- "from each block's rows, withdrawn ones too, the lowest and highest a and b": of coordinate k, from 0 on, of the
+-- first m + 1 rows of a block
+unfoldable pub side : Table → ℕ → ℕ → Side
+side t k zero = record { low = num t 0 (k + 2); high = num t 0 (k + 2) }
+side t k (suc m) =
+    let x = num t (suc m) (k + 2) in
+    let s = side t k m in
+    record { low = cond (leZ (s .low) x) (s .low) x; high = cond (leZ x (s .high)) (s .high) x }
+
+-- the rectangle of a block's rows: a side for each coordinate
+unfoldable pub rectangle : Table → List Side
+rectangle t = map (λ k. side t k (rowCount t - 1)) (range 0 (t .coordinates))
+
+-- how far apart two sides lie: 0 where they overlap
+unfoldable pub sideGap : Side → Side → ℕ
+sideGap s o =
+    cond (ltZ (s .high) (o .low)) (gap (s .high) (o .low))
+    (cond (ltZ (o .high) (s .low)) (gap (o .high) (s .low)) 0)
+
+-- "these two rectangles lie farther apart than the radius"
+unfoldable pub farApart : ℕ → Table → Table → Bool
+farApart radius x y = ltb (radius * radius) (squares sideGap (rectangle x) (rectangle y))
+
 -- "a score of 0 means that the pattern is out of the collection"
 unfoldable pub withdrawn : Row → Bool
 withdrawn x = eqb (x .score) 0
@@ -160,11 +184,13 @@ withdrawn x = eqb (x .score) 0
 unfoldable pub rowsQualify : ℕ → Row → Row → Bool
 rowsQualify radius x y = not (withdrawn x) && (not (withdrawn y) && qualifies radius (x .shade) (y .shade))
 
--- What the rules ask of rows: what a field row and a trim row add to the sum of a pair, and whether the two qualify.
+-- What the rules ask of rows: what a field row and a trim row add to the sum of a pair, whether the two qualify, and
+-- whether the rows of two blocks lie too far apart for that.
 pub record Terms : Type 0 where
   pub field : Row → ℕ
   pub trim : Row → ℕ
   pub near : Row → Row → Bool
+  pub far : Table → Table → Bool
 
 -- a row's weighted score: "weight × score"
 unfoldable pub weighted : ℕ → Row → ℕ
@@ -177,11 +203,13 @@ terms q =
       field = weighted (q .weights .field .0);
       trim = weighted (q .weights .trim .0);
       near = rowsQualify (q .radius);
+      far = farApart (q .radius);
     }
 
 -- without weights: scores as they are
 abbrev pub unweighted : Query → Terms
-unweighted q = record { field = λ x. x .score; trim = λ y. y .score; near = terms q .near }
+unweighted q =
+    record { field = λ x. x .score; trim = λ y. y .score; near = terms q .near; far = terms q .far }
 
 -- "Its sum is the two scores added."; "field weight × score + trim weight × score"
 unfoldable pub pairSum : Terms → Row → Row → ℕ

@@ -53,6 +53,15 @@ no-rest t h = omega (arith, div-add-mod (length (t .numbers)) (width (t .coordin
 pub shade-length : (t : Table) (i : ℕ) → HasRow t i → length (shadeAt t i) ≡ t .coordinates
 shade-length t i h = simp (length-take, length-drop) (omega arith)
 
+-- coordinate k of a row's shade
+pub shade-num : (t : Table) (i k : ℕ) → k < t .coordinates → getD (shadeAt t i) k (pos 0) ≡ num t i (k + 2)
+shade-num t i k h =
+    let o = width (t .coordinates) * i + 2 in
+    let e : o + k ≡ width (t .coordinates) * i + (k + 2) = omega arith in
+    getD-take (t .coordinates) (drop o (t .numbers)) k (pos 0) h
+    ∙ getD-drop o (t .numbers) k (pos 0)
+    ∙ ap (λ (p : ℕ). getD (t .numbers) p (pos 0)) e
+
 drop-take : (o k : ℕ) (l : List ℤ) → o ≤ k → drop o (take k l) ≡ take (k - o) (drop o l)
 drop-take zero k l h = let e : k ≡ k - 0 = omega arith in ap (λ (m : ℕ). take m l) e
 drop-take (suc o) zero l h = absurd (omega arith)

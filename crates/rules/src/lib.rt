@@ -101,6 +101,12 @@ pub struct Query {
     pub weights: Weights,
 }
 
+// The lowest and the highest of one coordinate of some rows: a side of their rectangle.
+pub struct Side {
+    pub low: i32,
+    pub high: i32,
+}
+
 // A field row and a trim row, numbered from 1, and their sum.
 pub struct Pair {
     pub sum: u32,

@@ -235,7 +235,7 @@ module _ (f t f′ t′ : Table) (s : Session) (ef : SameRows (s .depth .field .
 
 -- ---- Reading
 
-same-blocks : (field : Bool) (s : Session) (new : Block) (t u : Table) (depth n : ℕ) → SameRows depth t u
+pub same-blocks : (field : Bool) (s : Session) (new : Block) (t u : Table) (depth n : ℕ) → SameRows depth t u
     → meetBlocks field s new u depth n ≡ meetBlocks field s new t depth n
 unfolding meetBlocksBy
 same-blocks field s new t u depth zero e = refl

@@ -201,6 +201,9 @@ module _ (s : Session) where
 pub card-out : (n : ℕ) → isCard n ≡ true → (n ≡ 2) ⊎ (n ≡ 3)
 card-out n h = ⊎-elim (λ e. inl (eqb-true n 2 e)) (λ e. inr (eqb-true n 3 e)) (or-out (eqb n 2) (eqb n 3) h)
 
+pub card-least : (n : ℕ) → isCard n ≡ true → 2 ≤ n
+card-least n h = ⊎-elim (λ e. omega (arith, e)) (λ e. omega (arith, e)) (card-out n h)
+
 pub card-small : (n : ℕ) → isCard n ≡ true → n ≤ 3
 card-small n h = ⊎-elim (λ e. omega (arith, e)) (λ e. omega (arith, e)) (card-out n h)
 

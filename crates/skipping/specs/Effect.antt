@@ -1,7 +1,7 @@
 -- What a block pair comes to before it is looked at pair by pair: skipped, or joined with no qualifying pair. Assumes
 -- nothing.
 use mathlib.Core.Path.{_≡_}
-use mathlib.Core.Bool.{Bool, true, false, _&&_}
+use mathlib.Core.Bool.{Bool, true, false, _&&_, _||_}
 use Prim.Native.Nat.{ℕ, _+_, _≤_}
 use native.Mathlib.Omega.{arith}
 use lib.Dec.{ltb}
@@ -14,8 +14,12 @@ use Rattle.block.specs.Near.{NoPair}
 abbrev pub firstScores : Query → Table → Table → ℕ
 firstScores q x y = firstScore (terms q .field) x + firstScore (terms q .trim) y
 
+-- they are too low for a full list
+abbrev pub lowScores : Bool → ℕ → Query → Table → Table → Bool
+lowScores full low q x y = full && ltb (firstScores q x y) low
+
 abbrev pub skips : Bool → ℕ → Query → Table → Table → Bool
-skips full low q x y = full && ltb (firstScores q x y) low
+skips full low q x y = lowScores full low q x y || terms q .far x y
 
 pub record Effect (full : Bool) (low : ℕ) (q : Query) (x y : Table) (r : ℕ) : Type 0 where
   pub skip : r ≡ 0 → skips full low q x y ≡ true

@@ -109,6 +109,14 @@ fn number(n: u32, t: &[i32], i: usize, j: usize) -> i32
     t[o + j]
 }
 
+// Coordinate k, from 0 on, of row i + 1.
+pub fn coordinate(n: u32, t: &[i32], i: usize, k: usize) -> i32
+    requires { ⌜ HasRow (table n (now t)) i × (k < n) ⌝ }
+    ensures { λ r. ⌜ r ≡ num (table n (now (t .entry))) i (k + 2) ⌝ }
+{
+    number(n, t, i, k + 2)
+}
+
 // The coordinates of row i + 1, as a part of the table.
 pub fn shade(n: u32, t: &[i32], i: usize) -> &[i32]
     requires { ⌜ HasRow (table n (now t)) i ⌝ }

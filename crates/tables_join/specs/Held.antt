@@ -4,24 +4,23 @@ use mathlib.Core.Path.{_≡_, refl, sym, ap, subst₂, _∙_, subst}
 use mathlib.Core.Bool.{Bool, cond, true, false}
 use mathlib.Core.List.{List, [], _∷_, _++_, List·Memᴰ, List·Memᴰ·cases-cons, List·Memᴰ·not-nil}
 use mathlib.Core.Logic.{_⊎_, inl, inr, ⊎-elim, _↔_}
-use Prim.Native.Nat.{ℕ, _≤_, _<_, _+_, _-_, zero, suc, _*_, min}
+use Prim.Native.Nat.{ℕ, _≤_, _+_, _-_, zero, suc, _*_, min}
 use native.Mathlib.Omega.{arith}
 use native.Mathlib.Nat.{suc-mul, lt-div-mul-add}
 use native.Mathlib.Decide.{decLe}
-use lib.Dec.{eqb, ltb}
-use lib.ListN.{length, take, replicate}
+use lib.ListN.{length, take, replicate, length-take}
 use lib.Seq.{take-append-seam}
-use borrow.Author.Tests.{eqb-true, ltb-true}
 use Rattle.lists.specs.Lists.{sort, ranked}
-use Rattle.lists.specs.Bools.{and-out}
 use Rattle.join.specs.Held.{Holds}
-use Rattle.join.specs.HeldLaws.{skip-same, holds-join, held-ranked, holds-same}
+use Rattle.join.specs.HeldLaws.{skip-same, none-same, holds-join, held-ranked, held-room, holds-same}
 use Rattle.rules.specs.declared.Pair.{Pair}
 use Rattle.rules.specs.declared.Query.{Query}
 use Rattle.rules.specs.declared.Session.{Session}
 use Rattle.rules.specs.Tables.{Table, rowCount, terms, ahead, Block, qualifying, legal}
+use Rattle.rules.specs.Rectangles.{far-qualifying}
+use Rattle.rules.specs.Meaning.{firstScores, skipped-is}
 use Rattle.rules.specs.Session.{heldPairs, noPair, places, firstScore}
-use Rattle.rules.specs.Read.{lowest, skippedBy, skipped, bestHeld, holding, meetBy, meet, rowsBetween, blockCount}
+use Rattle.rules.specs.Read.{lowest, skipped, bestHeld, holding, meetBy, meet, rowsBetween, blockCount}
 use Rattle.rules.specs.Read.{meetBlocksBy}
 use Rattle.rules.specs.Read.{meetBlocks}
 use Rattle.session_laws.specs.Read.{meet-keeps, blocks-keep}
@@ -61,25 +60,56 @@ pub held-holding : (s : Session) (l : List Pair) → heldPairs (holding s l) ≡
 unfolding holding places
 held-holding s l = take-append-seam l (replicate (64 - length l) noPair)
 
+-- no pair met, none more held
+pub none-held : (s : Session) → length (heldPairs s) ≡ s .held → ranked ahead (heldPairs s) ≡ true
+    → s .out + s .held ≤ s .query .k → (l : List Pair) → l ≡ [] → bestHeld s l ≡ heldPairs s
+unfolding bestHeld
+none-held s stored in-rank room l none =
+    ap (λ l. take (s .query .k - s .out) (sort ahead (heldPairs s ++ l))) none
+    ∙ none-same pair-rank (s .query .k - s .out) (heldPairs s) in-rank (omega arith)
+
 module _ (s : Session) (x y : Block) where
   abbrev met : List Pair
   met = qualifying (terms (s .query)) x y
 
-  abbrev firstScores : ℕ
-  firstScores = firstScore (terms (s .query) .field) (x .rows) + firstScore (terms (s .query) .trim) (y .rows)
+  -- it holds as many as it says, and with those out at most k
+  pub meet-stored : length (heldPairs s) ≡ s .held → length (heldPairs (meet s x y)) ≡ meet s x y .held
+  unfolding meetBy holding
+  meet-stored stored = go (skipped s x y)
+    where
+      l : List Pair
+      l = bestHeld s met
 
-  -- of any record whose held pairs are ranked and as many as it says
+      go : (b : Bool) → length (heldPairs (cond b s (holding s l))) ≡ cond b s (holding s l) .held
+      go true = stored
+      go false = ap length (held-holding s l)
+
+  pub meet-room : s .out + s .held ≤ s .query .k → meet s x y .out + meet s x y .held ≤ meet s x y .query .k
+  unfolding meetBy holding bestHeld
+  meet-room room = go (skipped s x y)
+    where
+      l : List Pair
+      l = bestHeld s met
+
+      most : length l ≤ s .query .k - s .out
+      most = omega (arith, length-take (s .query .k - s .out) (sort ahead (heldPairs s ++ met)))
+
+      go : (b : Bool) → cond b s (holding s l) .out + cond b s (holding s l) .held ≤ cond b s (holding s l) .query .k
+      go true = room
+      go false = omega (arith, most)
+
+  -- of any record whose held pairs are ranked, as many as it says, and with those out at most k
   module _ (stored : length (heldPairs s) ≡ s .held) (in-rank : ranked ahead (heldPairs s) ≡ true)
-      (low : (p : Pair) → List·Memᴰ p met → p .sum ≤ firstScores) where
-    -- "Skipping never changes them"
+      (room : s .out + s .held ≤ s .query .k) (low : (p : Pair) → List·Memᴰ p met → p .sum ≤ firstScores s x y) where
+    -- "Skipping never changes them": neither for scores nor for shade
     skipped-same : skipped s x y ≡ true → bestHeld s met ≡ heldPairs s
-    unfolding skippedBy bestHeld
+    unfolding bestHeld
     skipped-same e =
-        let a = and-out (eqb (s .out + s .held) (s .query .k)) (ltb firstScores (lowest (heldPairs s))) e in
-        let full : s .out + s .held ≡ s .query .k = eqb-true (s .out + s .held) (s .query .k) (a .0) in
-        let under : firstScores < lowest (heldPairs s) = ltb-true firstScores (lowest (heldPairs s)) (a .1) in
-        skip-same pair-rank (s .query .k - s .out) (heldPairs s) met in-rank (omega arith)
-        (λ p q m n. omega (arith, lowest-least p (heldPairs s) m, low q n))
+        ⊎-elim
+        (λ a.
+        skip-same pair-rank (s .query .k - s .out) (heldPairs s) met in-rank (omega (arith, a .0))
+        (λ p q m n. omega (arith, a .1, lowest-least p (heldPairs s) m, low q n)))
+        (λ far. none-held s stored in-rank room met (far-qualifying (s .query) x y far)) (skipped-is s x y .0 e)
 
     -- a block pair met holds the best of those held and its own, skipped or not
     pub meet-held : heldPairs (meet s x y) ≡ bestHeld s met
@@ -90,29 +120,22 @@ module _ (s : Session) (x y : Block) where
         go true e = sym (skipped-same e)
         go false e = held-holding s (bestHeld s met)
 
-    pub meet-stored : length (heldPairs (meet s x y)) ≡ meet s x y .held
-    unfolding meetBy holding
-    meet-stored = go (skipped s x y)
-      where
-        l : List Pair
-        l = bestHeld s met
-
-        go : (b : Bool) → length (heldPairs (cond b s (holding s l))) ≡ cond b s (holding s l) .held
-        go true = stored
-        go false = ap length (held-holding s l)
-
   -- the block pair's pairs M, none of them in R, join R
   meet-holds : (R R′ M : Pair → Type 0) (out : List Pair) → Keeping R out s → ((p : Pair) → List·Memᴰ p met ↔ M p)
-      → ((p : Pair) → M p → p .sum ≤ firstScores) → ((p : Pair) → M p → R p → ⊥) → ((p : Pair) → R′ p ↔ (R p ⊎ M p))
+      → ((p : Pair) → M p → p .sum ≤ firstScores s x y) → ((p : Pair) → M p → R p → ⊥)
+      → ((p : Pair) → R′ p ↔ (R p ⊎ M p))
       → Keeping R′ out (meet s x y)
   unfolding bestHeld
   meet-holds R R′ M out h in-met low new more = record {
     counted = meet-keeps s x y .out ∙ h .counted;
-    stored = meet-stored (h .stored) (held-ranked pair-rank (h .holds)) (λ p m. low p (in-met p .0 m));
+    stored = meet-stored (h .stored);
     rest = sort ahead (h .rest ++ met);
     holds = subst₂ (λ k l. Holds ahead k R′ out (sort ahead (h .rest ++ met)) l) wanted held joined;
   }
     where
+      full : s .out + s .held ≤ s .query .k
+      full = omega (arith, h .counted, h .stored, held-room pair-rank (h .holds))
+
       best : List Pair
       best = take (s .query .k - length out) (sort ahead (heldPairs s ++ met))
 
@@ -131,7 +154,7 @@ module _ (s : Session) (x y : Block) where
       held : best ≡ heldPairs (meet s x y)
       held =
           ap (λ n. take (s .query .k - n) (sort ahead (heldPairs s ++ met))) (sym (h .counted))
-          ∙ sym (meet-held (h .stored) (held-ranked pair-rank (h .holds)) (λ p m. low p (in-met p .0 m)))
+          ∙ sym (meet-held (h .stored) (held-ranked pair-rank (h .holds)) full (λ p m. low p (in-met p .0 m)))
 
 -- ---- A new block meets all blocks read of the other table
 

@@ -8,3 +8,4 @@ pub mod Choice
 pub mod WholeList
 pub mod Withdrawn
 pub mod Unskipped
+pub mod Shades

@@ -10,13 +10,13 @@ use native.Mathlib.Decide.{le-ind, decLe}
 use native.Mathlib.Nat.{mul-le-mul-left, mul-suc, mul-zero, div-add-mod, mod-lt}
 use native.Mathlib.Nat.{mul-comm, div-lt-iff-lt-mul}
 use lib.Dec.{eqb, leb, ltb, lit≤}
-use lib.IntN.{ℤ, pos, negsuc}
+use lib.IntN.{ℤ, pos}
 use lib.Signed.{leZ}
 use lib.ListN.{length, getD, take, drop, replicate, length-append, length-replicate}
 use lib.ListN.{List·getD-append, getD-replicate}
 use lib.Seq.{ext-getD, take-nil, drop-nil, take-at, take-append-add, drop-append-add, getD-append-add, getD-take}
 use lib.Seq.{getD-drop}
-use borrow.Author.Tests.{leb-true, le-leb, eqb-true, eqb-false, eq-eqb, ne-eqb, lt-leb, le-ltb}
+use borrow.Author.Tests.{leb-true, le-leb, eqb-true, eqb-false, eq-eqb, ne-eqb, lt-leb}
 use Rattle.lists.specs.Lists.{range}
 use Rattle.lists.specs.Bools.{clash, and-false, or-out}
 use Rattle.lists.specs.Parts.{map-range-at, length-map-range, every-of, mem-range}
@@ -30,6 +30,7 @@ use Rattle.rules.specs.Tables.{withdrawn, rowsQualify, weighted, terms}
 use Rattle.rules.specs.Session.{withdrawnWithin, isEmpty}
 use Rattle.rules.specs.Tables.{legal, width, firstRows}
 use Rattle.rules.specs.Squares.{squares-same}
+use Rattle.rules.specs.Whole.{gap-same}
 use Rattle.rules.specs.Widths.{rows-count, has-row, shade-length}
 use Rattle.rules.specs.Tables.{natOf, gap, table, shadeAt, coordinateFits, fitsAt, shadeFits}
 use Rattle.rules.specs.declared.Query.{Query}
@@ -373,12 +374,6 @@ module _ {n : ℕ} {weight : Row → ℕ} (rises : Rises weight) (l : List Row) 
       })
 
 -- ---- The laws of the join
-
-gap-same : (x : ℤ) → gap x x ≡ 0
-unfolding gap
-gap-same (pos zero) = refl
-gap-same (pos (suc n)) = rw (le-ltb (suc n) (suc n) (omega arith)) (omega arith)
-gap-same (negsuc n) = rw (le-ltb (suc n) (suc n) (omega arith)) (omega arith)
 
 same-place : (radius : ℕ) (x : List ℤ) → qualifies radius x x ≡ true
 unfolding qualifies

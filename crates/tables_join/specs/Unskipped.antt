@@ -1,6 +1,6 @@
 -- "Skipping never changes them": every accepted read, of a forged record too, holds what it would hold had it skipped
 -- nothing. Assumes nothing.
-use mathlib.Core.Path.{_≡_, refl, sym, ap, ap₂, subst, _∙_}
+use mathlib.Core.Path.{_≡_, refl, sym, ap, ap₂, subst, subst₂, _∙_}
 use mathlib.Core.Bool.{Bool, cond, true, false}
 use mathlib.Core.List.{List, _++_, List·Memᴰ, List·Memᴰ·append-cases}
 use mathlib.Core.Logic.{_⊎_, inl, inr, ⊎-elim}
@@ -22,10 +22,11 @@ use Rattle.rules.specs.Calls.{pairFits, callCode, newBlockCode}
 use Rattle.session_laws.specs.Record.{PairFits, pair-out, RecordFits}
 use Rattle.session_laws.specs.Calls.{Accepted, call-out, NewRowsFit, new-block-out, read-rows}
 use Rattle.session_laws.specs.Read.{new-within, own-within, Kept, blocks-keep}
-use Rattle.session_laws.specs.Alike.{SameRows, same-part, cut-same, cut-count, cut-legal, same-new, same-old, same-read}
+use Rattle.session_laws.specs.Alike.{SameRows, same-part, cut-same, cut-count, cut-legal, same-new, same-old}
+use Rattle.session_laws.specs.Alike.{same-blocks}
 use Rattle.tables_join.specs.Pairs.{ownRow, otherRow, Between, pair-rank, qualifying-distinct, mem-between}
 use Rattle.tables_join.specs.Pairs.{between-low}
-use Rattle.tables_join.specs.Held.{meet-held, meet-stored}
+use Rattle.tables_join.specs.Held.{meet-held, meet-stored, meet-room}
 
 -- ---- The pairs that a read which skips no block pair holds
 
@@ -46,13 +47,14 @@ readUnskipped field f t s =
 
 -- ---- Blocks of legal tables
 
--- what a record holds while the new block meets the others: ranked, as many as it says, no pair of blocks yet to come,
--- and what it would hold had it skipped nothing
-record Unskipping (field : Bool) (a m : ℕ) (l : List Pair) (r : Session) : Type 0 where
-  stored : length (heldPairs r) ≡ r .held
-  in-rank : ranked ahead (heldPairs r) ≡ true
-  seen : (p : Pair) → List·Memᴰ p (heldPairs r) → (ownRow field p ≤ a) ⊎ (otherRow field p ≤ m)
-  same : heldPairs r ≡ l
+-- what a record holds while the new block meets the others: ranked, as many as it says, with those out at most k, no
+-- pair of blocks yet to come, and what it would hold had it skipped nothing
+pub record Unskipping (field : Bool) (a m : ℕ) (l : List Pair) (r : Session) : Type 0 where
+  pub stored : length (heldPairs r) ≡ r .held
+  pub in-rank : ranked ahead (heldPairs r) ≡ true
+  pub room : r .out + r .held ≤ r .query .k
+  pub seen : (p : Pair) → List·Memᴰ p (heldPairs r) → (ownRow field p ≤ a) ⊎ (otherRow field p ≤ m)
+  pub same : heldPairs r ≡ l
 
 module _ (field : Bool) (f t : Table) (g : legal f ≡ true) (h : legal t ≡ true) (s : Session) (a b c : ℕ)
     (hb : b ≤ rowCount (cond field f t)) (hc : c ≤ rowCount (cond field t f)) where
@@ -69,10 +71,11 @@ module _ (field : Bool) (f t : Table) (g : legal f ≡ true) (h : legal t ≡ tr
       → Unskipping field a (suc n * s .query .block) (unskipped (suc n)) (after (suc n))
   unfolding meetBlocksBy heldUnskipped bestHeld
   block-unskipping n u = record {
-    stored = meet-stored (after n) x y (u .stored) (u .in-rank) low;
+    stored = meet-stored (after n) x y (u .stored);
+    room = meet-room (after n) x y (u .room);
     in-rank =
         subst (λ l. ranked ahead l ≡ true) (sym held)
-        (ranked-take ahead (pair-rank .order) room (sort ahead (heldPairs (after n) ++ met))
+        (ranked-take ahead (pair-rank .order) left (sort ahead (heldPairs (after n) ++ met))
         (sort-ranked ahead (pair-rank .order) (heldPairs (after n) ++ met)
         (append-distinct (heldPairs (after n)) met
         (ranked-distinct ahead (pair-rank .order) (heldPairs (after n)) (u .in-rank))
@@ -82,7 +85,7 @@ module _ (field : Bool) (f t : Table) (g : legal f ≡ true) (h : legal t ≡ tr
         (λ k. inr (omega (arith, suc-mul n B, inside p k .other-part)))
         (List·Memᴰ·append-cases (heldPairs (after n))
         (mem-sort ahead p (heldPairs (after n) ++ met) .0
-        (mem-take room p (sort ahead (heldPairs (after n) ++ met)) (subst (List·Memᴰ p) held m))));
+        (mem-take left p (sort ahead (heldPairs (after n) ++ met)) (subst (List·Memᴰ p) held m))));
     same =
         held
         ∙ ap₂ (λ k l. take k (sort ahead l)) (ap₂ (λ q o. q .k - o) (kept .query) (kept .out))
@@ -101,8 +104,8 @@ module _ (field : Bool) (f t : Table) (g : legal f ≡ true) (h : legal t ≡ tr
       y : Block
       y = cond field old new
 
-      room : ℕ
-      room = after n .query .k - after n .out
+      left : ℕ
+      left = after n .query .k - after n .out
 
       met : List Pair
       met = qualifying (terms (after n .query)) x y
@@ -120,22 +123,26 @@ module _ (field : Bool) (f t : Table) (g : legal f ≡ true) (h : legal t ≡ tr
           → p .sum ≤ firstScore (terms query .field) (x .rows) + firstScore (terms query .trim) (y .rows)
       low p m = between-low field query f t a b (n * B) (min (n * B + B) c) g h p (inside p m)
 
-      held : heldPairs (meet (after n) x y) ≡ take room (sort ahead (heldPairs (after n) ++ met))
-      held = meet-held (after n) x y (u .stored) (u .in-rank) low
+      held : heldPairs (meet (after n) x y) ≡ take left (sort ahead (heldPairs (after n) ++ met))
+      held = meet-held (after n) x y (u .stored) (u .in-rank) (u .room) low
 
       fresh : (p : Pair) → List·Memᴰ p (heldPairs (after n)) → List·Memᴰ p met → ⊥
       fresh p i j =
           ⊎-elim (λ z. omega (arith, inside p j .own-part)) (λ z. omega (arith, inside p j .other-part)) (u .seen p i)
 
   module _ (stored : length (heldPairs s) ≡ s .held) (in-rank : ranked ahead (heldPairs s) ≡ true)
+      (room : s .out + s .held ≤ s .query .k)
       (seen : (p : Pair) → List·Memᴰ p (heldPairs s) → ownRow field p ≤ a) where
     unskipping : (n : ℕ) → Unskipping field a (n * s .query .block) (unskipped n) (after n)
     unfolding meetBlocksBy heldUnskipped
-    unskipping zero = record { stored = stored; in-rank = in-rank; seen = λ p m. inl (seen p m); same = refl }
+    unskipping zero = record {
+      stored = stored;
+      in-rank = in-rank;
+      room = room;
+      seen = λ p m. inl (seen p m);
+      same = refl;
+    }
     unskipping (suc n) = block-unskipping n (unskipping n)
-
-    unskipped-same : (n : ℕ) → heldPairs (after n) ≡ unskipped n
-    unskipped-same n = unskipping n .same
 
 -- ---- The rows that a read looks at
 
@@ -150,18 +157,6 @@ same-held-unskipped field s new t u depth (suc n) e =
     (sort ahead (l ++ qualifying (terms (s .query)) (cond field new old) (cond field old new))))
     (same-held-unskipped field s new t u depth n e)
     (same-part depth t u e (n * s .query .block) (min (n * s .query .block + s .query .block) depth) (omega arith))
-
-same-unskipped : (field : Bool) (f t f′ t′ : Table) (s : Session)
-    → SameRows (cond field (newDepth field s) (s .depth .field .0)) f f′
-    → SameRows (cond field (s .depth .trim .0) (newDepth field s)) t t′
-    → readUnskipped field f′ t′ s ≡ readUnskipped field f t s
-unfolding readUnskipped
-same-unskipped field f t f′ t′ s h k =
-    let c : ℕ = cond field (s .depth .trim .0) (s .depth .field .0) in
-    let n : ℕ = blockCount (s .query .block) c in
-    ap (λ new. heldUnskipped field s new (cond field t′ f′) c n) (same-new field f t f′ t′ s h k)
-    ∙ same-held-unskipped field s (rowsBetween (cond field f t) (oldDepth field s) (newDepth field s)) (cond field t f)
-    (cond field t′ f′) c n (same-old field f t f′ t′ s h k)
 
 -- the rows of a held pair lie within the depths
 held-own : (field : Bool) (s : Session) (p : Pair) → PairFits s p → ownRow field p ≤ oldDepth field s
@@ -195,27 +190,49 @@ module _ (field : Bool) (f t : Table) (s : Session) (a : Accepted f t s) (new : 
   n-within : n ≤ rowCount t
   n-within = omega (arith, down, a .lent .trim .count)
 
-  cut-unskipped : heldPairs (readTable field f′ t′ s) ≡ readUnskipped field f′ t′ s
-  unfolding readTableBy readTo readUnskipped
-  cut-unskipped =
+  -- the depth of the other table, and the new block of tables f and t
+  abbrev c : ℕ
+  c = cond field (s .depth .trim .0) (s .depth .field .0)
+
+  abbrev newOf : Table → Table → Block
+  newOf f t = rowsBetween (cond field f t) (oldDepth field s) (newDepth field s)
+
+  abbrev UnskippingOver : Table → Table → ℕ → Type 0
+  UnskippingOver f t i =
+      Unskipping field (oldDepth field s) (i * s .query .block) (heldUnskipped field s (newOf f t) (cond field t f) c i)
+      (meetBlocks field s (newOf f t) (cond field t f) c i)
+
+  cut-unskipping : (i : ℕ) → UnskippingOver f′ t′ i
+  cut-unskipping =
       let good = read-rows field f t s a new in
       let d = s .depth .field .0 in
       let e = s .depth .trim .0 in
       let has-m : m ≤ rowCount f′ = omega (arith, cut-count f m m-within) in
       let has-n : n ≤ rowCount t′ = omega (arith, cut-count t n n-within) in
       let cut = own-within field f′ t′ (newDepth field s) d e has-m has-n in
-      unskipped-same field f′ t′ (cut-legal f m m-within (omega (arith, down, fits .field .few)) (good .0))
+      unskipping field f′ t′ (cut-legal f m m-within (omega (arith, down, fits .field .few)) (good .0))
       (cut-legal t n n-within (omega (arith, down, fits .trim .few)) (good .1)) s (oldDepth field s) (newDepth field s)
-      (cond field e d) (cut .0) (cut .1)
-      (length-take (s .held) (s .pairs) ∙ omega (arith, fits .room, fits .query .k)) (fits .rank)
+      c (cut .0) (cut .1)
+      (length-take (s .held) (s .pairs) ∙ omega (arith, fits .room, fits .query .k)) (fits .rank) (fits .room)
       (λ p i. held-own field s p (pair-out s p (every-at (pairFits s) p (fits .pairs) i)))
-      (blockCount (s .query .block) (cond field e d))
+
+  -- and so over the tables lent
+  pub read-unskipping : (i : ℕ) → UnskippingOver f t i
+  read-unskipping i =
+      let same-f = cut-same f m m-within in
+      let same-t = cut-same t n n-within in
+      let block = same-new field f t f′ t′ s same-f same-t in
+      let rest = same-old field f t f′ t′ s same-f same-t in
+      subst₂ (Unskipping field (oldDepth field s) (i * s .query .block))
+      (ap (λ new. heldUnskipped field s new (cond field t′ f′) c i) block
+      ∙ same-held-unskipped field s (newOf f t) (cond field t f) (cond field t′ f′) c i rest)
+      (ap (λ new. meetBlocks field s new (cond field t′ f′) c i) block
+      ∙ same-blocks field s (newOf f t) (cond field t f) (cond field t′ f′) c i rest)
+      (cut-unskipping i)
 
   table-unskipped : heldPairs (readTable field f t s) ≡ readUnskipped field f t s
-  table-unskipped =
-      ap heldPairs (sym (same-read field f t f′ t′ s (cut-same f m m-within) (cut-same t n n-within)))
-      ∙ cut-unskipped
-      ∙ same-unskipped field f t f′ t′ s (cut-same f m m-within) (cut-same t n n-within)
+  unfolding readTableBy readTo readUnskipped
+  table-unskipped = read-unskipping (blockCount (s .query .block) c) .same
 
 -- every accepted read, over any slices and of any record with its 64 places
 pub skipping-changes-nothing : (f t : Table) (s : Session) → callCode f t s ≡ 0 → newBlockCode f t s ≡ 0

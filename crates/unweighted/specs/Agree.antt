@@ -25,8 +25,9 @@ meet-agrees g r x y e =
     ap
     (λ (w : Terms).
     cond
-    (eqb (r .out + r .held) (r .query .k)
+    ((eqb (r .out + r .held) (r .query .k)
     && ltb (firstScore (w .field) (x .rows) + firstScore (w .trim) (y .rows)) (lowest (heldPairs r)))
+    || w .far (x .rows) (y .rows))
     r (holding r (bestHeld r (qualifying w x y))))
     e
 

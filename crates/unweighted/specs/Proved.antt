@@ -45,6 +45,7 @@ same-terms q ones =
       field = λ x. (sym (one-mul (x .score)) ∙ ap (λ (v : Weights). v .field .0 * x .score) (sym ones)) i;
       trim = λ x. (sym (one-mul (x .score)) ∙ ap (λ (v : Weights). v .trim .0 * x .score) (sym ones)) i;
       near = terms q .near;
+      far = terms q .far;
     }
 
 module _ (f t : Table) (s : Session) (plain : Plain s) where

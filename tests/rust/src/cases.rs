@@ -39,6 +39,8 @@ pub struct Spread {
     pub plateau: bool,
     pub shades: i32,
     pub extreme: bool,
+    /// How much a, or L where it alone tells shades apart, grows from row to row: rows of like scores are of like shades.
+    pub drift: i32,
     /// None on the old card.
     pub light: Option<Light>,
 }
@@ -69,6 +71,7 @@ impl Spread {
             plateau: dice.one_in(3),
             shades: dice.pick(&[0, 1, 4, 12, 60]),
             extreme: dice.one_in(6),
+            drift: dice.pick(&[0, 0, 0, 0, 0, 1, 2, 9]),
             light: (card == Card::New).then(|| Light::of(dice)),
         }
     }
@@ -82,6 +85,16 @@ impl Spread {
             return dice.pick(&[-12_800, 12_700, 0]);
         }
         dice.between(-self.shades, self.shades)
+    }
+
+    /// What row i + 1 has more of a and of L than the first.
+    fn drifted(&self, i: u32) -> [i32; 2] {
+        let by = self.drift.saturating_mul(i as i32).min(12_700 + 12_800);
+        if self.light.is_some_and(|light| light.alone) {
+            [0, by]
+        } else {
+            [by, 0]
+        }
     }
 
     /// Its L, on the new card.
@@ -105,8 +118,9 @@ pub fn table(dice: &mut Dice, rows: u32, spread: Spread) -> Vec<i32> {
         score = score.max(1);
         let pattern = dice.pick(&[1, 999_999, dice_pattern(i)]);
         let (a, b) = (spread.shade(dice), spread.shade(dice));
-        t.extend([pattern, score, a, b]);
-        t.extend(spread.lightness(dice));
+        let [along_a, along_l] = spread.drifted(i);
+        t.extend([pattern, score, (a + along_a).min(12_700), b]);
+        t.extend(spread.lightness(dice).map(|lightness| (lightness + along_l).min(10_000)));
     }
     t
 }

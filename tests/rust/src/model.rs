@@ -111,6 +111,11 @@ struct Lent<'a> {
 type Both<'a> = [Lent<'a>; 2];
 
 impl<'a> Lent<'a> {
+    /// Rows from + 1 to to.
+    fn part(&self, from: u32, to: u32) -> &'a [i32] {
+        &self.numbers[self.wide * from as usize..self.wide * to as usize]
+    }
+
     /// Row i, numbered from 1.
     fn row(&self, i: u32) -> &'a [i32] {
         let end = self.wide * i as usize;
@@ -195,6 +200,28 @@ pub fn near(radius: u32, x: &[i32], y: &[i32]) -> bool {
 
 fn qualifies(radius: u32, x: &[i32], y: &[i32]) -> bool {
     !withdrawn(x) && !withdrawn(y) && near(radius, x, y)
+}
+
+/// Whether the rectangles of two blocks lie farther apart than the radius: each block's rows have a lowest and a highest
+/// of every coordinate, withdrawn rows too.
+pub fn far_apart(radius: u32, x: &[i32], y: &[i32], wide: usize) -> bool {
+    let ends = |rows: &[i32], at: usize| {
+        let along: Vec<i32> = rows.chunks(wide).map(|row| row[at]).collect();
+        (*along.iter().min().unwrap(), *along.iter().max().unwrap())
+    };
+    let mut square = 0;
+    for at in 2..wide {
+        let ((low, high), (bottom, top)) = (ends(x, at), ends(y, at));
+        let between = if high < bottom {
+            high.abs_diff(bottom)
+        } else if top < low {
+            top.abs_diff(low)
+        } else {
+            0
+        };
+        square += u64::from(between).pow(2);
+    }
+    square > u64::from(radius).pow(2)
 }
 
 /// Higher sum, then lower field row, then lower trim row.
@@ -402,7 +429,9 @@ pub fn read(f: &[i32], t: &[i32], r: &mut Record) -> Said {
         let first = r.worth(tables, new, from + 1) + r.worth(tables, old, start + 1);
         let lowest = r.pairs().iter().map(|p| p.sum).min();
         let full = r.out + r.held == r.query.k;
-        if !(full && lowest.is_some_and(|low| first < low)) {
+        let low = full && lowest.is_some_and(|low| first < low);
+        let (here, there) = (tables[new].part(from, to), tables[old].part(start, end));
+        if !low && !far_apart(r.query.radius, here, there, tables[new].wide) {
             let mut met = r.pairs().to_vec();
             for i in from + 1..=to {
                 for j in start + 1..=end {

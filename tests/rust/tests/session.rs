@@ -75,6 +75,9 @@ struct Totals {
     ended_by_withdrawn: u32,
     on_the_new_card: u64,
     decided_by_lightness: u32,
+    blocks_near: u32,
+    blocks_far: u32,
+    near_and_far: u32,
 }
 
 impl Totals {
@@ -114,6 +117,24 @@ impl Totals {
         let decided = rows.clone().any(|x| others.clone().any(|y| apart(x, y)));
         self.on_the_new_card += u64::from(tables.asked.field_card == Card::New);
         self.decided_by_lightness += u32::from(decided);
+    }
+
+    /// Block pairs read that are near enough to be joined and those that are too far apart; sessions with both.
+    fn count_blocks(&mut self, tables: &Tables, (p, q): (u32, u32)) {
+        let (wide, query) = (tables.wide(), tables.asked.query);
+        let rows = wide * query.block as usize;
+        let (fields, trims) = (&tables.field[..wide * p as usize], &tables.trim[..wide * q as usize]);
+        let (mut near, mut far) = (0, 0);
+        for x in fields.chunks(rows) {
+            for y in trims.chunks(rows) {
+                let apart = model::far_apart(query.radius, x, y, wide);
+                far += u32::from(apart);
+                near += u32::from(!apart);
+            }
+        }
+        self.blocks_near += near;
+        self.blocks_far += far;
+        self.near_and_far += u32::from(near > 0 && far > 0);
     }
 }
 
@@ -253,6 +274,7 @@ fn sessions_beside_the_double_loop() {
         totals.count_pairs(&tables, &result.given);
         totals.count_withdrawn(&tables, &result);
         totals.count_card(&tables);
+        totals.count_blocks(&tables, result.depth);
         let deepest = result.depth.0.max(result.depth.1);
         totals.at_limit += u32::from(deepest == limit && tables.asked.query.block > 1);
         totals.deeper_than_sure += u32::from(deepest > sure as u32);
@@ -266,6 +288,7 @@ fn sessions_beside_the_double_loop() {
     assert!(totals.withdrawn_read > 20_000 && totals.ended_by_withdrawn > 10_000);
     assert!((CASES * 2 / 5..CASES * 3 / 5).contains(&totals.on_the_new_card));
     assert!(totals.decided_by_lightness > 5_000);
+    assert!(totals.blocks_near > 200_000 && totals.blocks_far > 200_000 && totals.near_and_far > 8_000);
 }
 
 #[test]
@@ -400,7 +423,7 @@ fn tiny_tables_against_every_sure_reading() {
         let top = dice.between(1, 2);
         let (shades, card) = ([0, 7], card(&mut dice));
         let light = (card == Card::New).then_some(Light { ground: 0, alone: true });
-        let spread = Spread { top, step: 1, plateau: dice.one_in(3), shades: 0, extreme: false, light };
+        let spread = Spread { top, step: 1, plateau: dice.one_in(3), shades: 0, extreme: false, drift: 0, light };
         let make = |dice: &mut Dice| {
             let rows = dice.below(5);
             let mut t = table(dice, rows, spread);
@@ -492,7 +515,7 @@ fn the_worked_query() {
     assert_eq!(s.take(&field, &trim), Ok(Taken::Given(Pair { sum: 140, field: 1, trim: 2 })));
     assert_eq!(s.take(&field, &trim), Ok(Taken::Given(Pair { sum: 110, field: 2, trim: 3 })));
     assert_eq!(s.take(&field, &trim), Ok(Taken::Finished));
-    assert_eq!((s.depths(), s.joined()), ((4, 4), 10));
+    assert_eq!((s.depths(), s.joined()), ((4, 4), 2));
 }
 
 /// Openings that are refused in the middle of a session: it goes on as if they had not been called.
@@ -533,10 +556,10 @@ fn worked(field: u32, trim: u32) -> (Vec<u32>, (u32, u32), u64) {
 
 #[test]
 fn the_worked_query_at_other_weights() {
-    assert_eq!(worked(1, 1), (vec![140, 110], (4, 4), 10));
-    assert_eq!(worked(3, 1), (vec![320, 270], (3, 5), 8));
-    assert_eq!(worked(1, 3), (vec![240, 170], (5, 4), 12));
-    assert_eq!(worked(9, 9), (vec![1_260, 990], (4, 4), 10));
+    assert_eq!(worked(1, 1), (vec![140, 110], (4, 4), 2));
+    assert_eq!(worked(3, 1), (vec![320, 270], (3, 5), 2));
+    assert_eq!(worked(1, 3), (vec![240, 170], (5, 4), 3));
+    assert_eq!(worked(9, 9), (vec![1_260, 990], (4, 4), 2));
 }
 
 /// 12 comes after 3 and before 4, whichever weight it is.
@@ -789,7 +812,7 @@ fn forged_records_over_withdrawn_rows() {
     let (mut given, mut finished_holding, mut read) = (0, 0, 0);
     for seed in 0..40_000 {
         let mut dice = Dice::new(seed + 4_000_001);
-        let spread = Spread { top: 9, step: 1, plateau: false, shades: 1, extreme: false, light: None };
+        let spread = Spread { top: 9, step: 1, plateau: false, shades: 1, extreme: false, drift: 0, light: None };
         let [f, t] = [(); 2].map(|()| {
             let rows = 1 + dice.below(8);
             let mut t = table(&mut dice, rows, spread);

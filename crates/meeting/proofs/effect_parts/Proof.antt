@@ -25,13 +25,16 @@ effect-requires c κs =
     let n = a .n in
     let fields = table n (c .before .rows .result .now) in
     let trims = table n (c .rows2 .result .now) in
-    let first = lent-rows (table n (a .f .now)) (a .x) _ (c .before .rows .ensures .0 .0) (s .pre .2) in
-    let second = lent-rows (table n (a .t .now)) (a .y) _ (c .rows2 .ensures .0 .0) (s .pre .3) in (
+    let first = lent-rows (table n (a .f .now)) (a .x) _ (c .before .rows .ensures .0 .0) (s .pre .0 .2) in
+    let second = lent-rows (table n (a .t .now)) (a .y) _ (c .rows2 .ensures .0 .0) (s .pre .0 .3) in (
       (
-        has-row fields 0 (omega (arith, c .before .rows .ensures .0 .1, s .pre .2 .some)),
-        has-row trims 0 (omega (arith, c .rows2 .ensures .0 .1, s .pre .3 .some)),
+        has-row fields 0 (omega (arith, c .before .rows .ensures .0 .1, s .pre .0 .2 .some)),
+        has-row trims 0 (omega (arith, c .rows2 .ensures .0 .1, s .pre .0 .3 .some)),
       ),
-      rows-small (a .q) (a .x .from) (a .y .from) fields trims (s .pre .1) (s .pre .0) first second,
+      (
+        rows-small (a .q) (a .x .from) (a .y .from) fields trims (s .pre .0 .1) (s .pre .0 .0) first second,
+        rw (c .before .rows .ensures .0 .0, c .rows2 .ensures .0 .0) (s .pre .1),
+      ),
     )
 
 returns : tie.Need-returns

@@ -7,22 +7,23 @@ use native.Mathlib.Omega.{arith}
 use borrow.Author.Needs.{needs}
 use Rattle.rules.specs.declared.Query.{Query}
 use Rattle.rules.specs.declared.Session.{Session}
-use Rattle.rules.specs.Tables.{Table}
+use Rattle.rules.specs.Tables.{Table, rectangle}
 use Rattle.rules.specs.Widths.{rows-less}
 use Rattle.rules.specs.Session.{lentTable}
 use Rattle.rules.specs.Read.{meet, meetBlocksBy, meetBlocks}
 use Rattle.session_laws.specs.Read.{blocks-keep, blocks-joined}
 use Rattle.meeting.specs.declared.Span.{Span}
+use Rattle.rectangles.specs.Sides.{sidesIn}
 use Rattle.choosing.specs.Ready.{Ready}
 use Rattle.meeting.specs.Side.{SpanFits, spanBlock}
 use Rattle.meeting.specs.Stands.{Stands}
 use Rattle.meeting.specs.Meets.{blocks-ready, block-begins, block-next, blocks-next, inside-field, inside-trim}
-use Rattle.meeting.specs.Meets.{parts-meet}
+use Rattle.meeting.specs.Meets.{parts-meet, new-rows}
 use Rattle.meeting.proofs.meet_blocks.Statement.{statement}
 use Rattle.meeting.proofs.meet_blocks.Tie as tie
 
 abbrev Inv-loop : tie.InvT-loop
-Inv-loop field s f t new depth n keys₀ block room m₀ c₀ i₀ keys m c i =
+Inv-loop field s f t new depth n sides keys₀ block room m₀ c₀ i₀ keys m c i =
     (i ≤ n)
     × (block ≡ s .query .block)
     × (room ≡ s .query .k - s .out)
@@ -34,7 +35,7 @@ Inv-loop field s f t new depth n keys₀ block room m₀ c₀ i₀ keys m c i =
     m keys
 
 abbrev μ-loop : tie.MeasureT-loop
-μ-loop field s f t new depth n keys₀ block room m₀ c₀ i₀ keys m c i = n - i
+μ-loop field s f t new depth n sides keys₀ block room m₀ c₀ i₀ keys m c i = n - i
 
 -- the start of the call, from where its loop stands
 abbrev start : tie.At-loop Inv-loop μ-loop → tie.Start Inv-loop μ-loop
@@ -72,7 +73,7 @@ begins c =
     let s = start (c .before) in
     let v = c .before .loop in
     let low =
-    block-begins (s .args .n) (s .args .s .query .block) (s .args .depth) (v .i) (s .pre .1 .1 .2)
+    block-begins (s .args .n) (s .args .s .query .block) (s .args .depth) (v .i) (s .pre .1 .1 .0 .2)
     (c .loop-test .taken) in
     omega (arith, v .inv .3)
 
@@ -97,10 +98,10 @@ old-inside c =
     let least = s .pre .0 .0 .query .block .0 in
     record {
       some = omega (arith, begins (c .before), c .lesser .ensures, least);
-      few = omega (arith, c .lesser .ensures, s .pre .1 .1 .0);
+      few = omega (arith, c .lesser .ensures, s .pre .1 .1 .0 .0);
       within =
           rows-less (other s) (c .lesser .result) (s .args .depth) (omega (arith, c .lesser .ensures))
-          (s .pre .1 .1 .1);
+          (s .pre .1 .1 .0 .1);
       fit = λ i h. s .pre .1 .0 .1 i (omega (arith, h, c .lesser .ensures));
     }
 
@@ -117,6 +118,20 @@ inside c =
           (inside-trim (fields s) (trims s) (a .new) (old l) (a .field) (s .pre .1 .0 .0) (old-inside l)),
     )
 
+-- the new block's rectangle, whichever table it is of
+new-sides : (c : tie.After-either2 Inv-loop μ-loop)
+    → let s = start (turn (c .before .before)) in
+    sidesIn (s .args .s .rows .card) (s .args .sides .now)
+    ≡ rectangle
+    (cond (s .args .field) (spanBlock (fields s) (c .before .either .result) .rows)
+    (spanBlock (trims s) (c .either2 .result) .rows))
+new-sides c =
+    let l = c .before .before in
+    let s = start (turn l) in
+    let a = s .args in
+    rw (c .before .either .ensures, c .either2 .ensures)
+    (s .pre .1 .1 .1 ∙ ap rectangle (new-rows (fields s) (trims s) (a .new) (old l) (a .field)))
+
 cast-block : tie.Need-cast-block Inv-loop μ-loop
 cast-block c = search needs
 
@@ -126,8 +141,8 @@ sub-room c = search needs
 cast-room : tie.Need-cast-room Inv-loop μ-loop
 cast-room c = search needs
 
-cast-t19 : tie.Need-cast-t19 Inv-loop μ-loop
-cast-t19 c = search needs
+cast-t20 : tie.Need-cast-t20 Inv-loop μ-loop
+cast-t20 c = search needs
 
 loop-holds : tie.Need-loop-holds Inv-loop μ-loop
 unfolding meetBlocksBy
@@ -144,7 +159,7 @@ loop-holds c =
 add-lesser : tie.Need-add-lesser Inv-loop μ-loop
 add-lesser c =
     let s = start (c .before) in
-    record { fits = omega (arith, begins c, s .pre .1 .1 .0, s .pre .0 .0 .query .block .1) }
+    record { fits = omega (arith, begins c, s .pre .1 .1 .0 .0, s .pre .0 .0 .query .block .1) }
 
 lesser-requires : tie.Need-lesser-requires Inv-loop μ-loop
 lesser-requires c κs = tt
@@ -167,7 +182,7 @@ meet-parts-requires c κs =
         room (c .before .before .before .before),
         v .inv .5 .pairs .long,
       ),
-      (s .pre .0 .0 .query, s .pre .0 .0 .card, parts .0, parts .1),
+      ((s .pre .0 .0 .query, s .pre .0 .0 .card, parts .0, parts .1), new-sides (c .before)),
     )
 
 add-c : tie.Need-add-c Inv-loop μ-loop
@@ -177,7 +192,7 @@ add-c c =
       fits = omega (
         arith,
         begins (c .before .before .before .before .before),
-        s .pre .1 .1 .0,
+        s .pre .1 .1 .0 .0,
         s .pre .0 .0 .query .block .1,
       );
     }
@@ -233,7 +248,7 @@ meet-blocks-spec =
     cast-block
     sub-room
     cast-room
-    cast-t19
+    cast-t20
     loop-holds
     add-lesser
     lesser-requires

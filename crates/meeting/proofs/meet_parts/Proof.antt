@@ -34,8 +34,8 @@ effect-parts-requires c κs = search needs
 join-parts-requires : tie.Need-join-parts-requires
 join-parts-requires c κs = search needs
 
-add-t21 : tie.Need-add-t21
-add-t21 c = search needs
+add-t23 : tie.Need-add-t23
+add-t23 c = search needs
 
 -- the effect, of the last key's sum
 effect : (c : tie.After-effect-parts) → let a = start c .args in
@@ -53,8 +53,8 @@ returns c =
     (a .keys .now) (at .effect-parts .result) (effect at) (c .before .before .before .if1 .taken)
     (c .before .join-parts .result) _ (c .before .join-parts .ensures)
 
-add-t18 : tie.Need-add-t18
-add-t18 c = search needs
+add-t20 : tie.Need-add-t20
+add-t20 c = search needs
 
 returns-2 : tie.Need-returns-2
 returns-2 c =
@@ -75,7 +75,7 @@ meet-parts-spec =
     pair-requires
     effect-parts-requires
     join-parts-requires
-    add-t21
+    add-t23
     returns
-    add-t18
+    add-t20
     returns-2)

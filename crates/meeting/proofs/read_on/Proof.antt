@@ -44,17 +44,17 @@ next-depth-requires c κs = search needs
 block-count-requires : tie.Need-block-count-requires
 block-count-requires c κs = search needs
 
-cast-meet-blocks : tie.Need-cast-meet-blocks
-cast-meet-blocks c = search needs
+cast-meet-new : tie.Need-cast-meet-new
+cast-meet-new c = search needs
 
-cast-meet-blocks-2 : tie.Need-cast-meet-blocks-2
-cast-meet-blocks-2 c = search needs
+cast-meet-new-2 : tie.Need-cast-meet-new-2
+cast-meet-new-2 c = search needs
 
-cast-meet-blocks-3 : tie.Need-cast-meet-blocks-3
-cast-meet-blocks-3 c = search needs
+cast-meet-new-3 : tie.Need-cast-meet-new-3
+cast-meet-new-3 c = search needs
 
-meet-blocks-requires : tie.Need-meet-blocks-requires
-meet-blocks-requires c κs =
+meet-new-requires : tie.Need-meet-new-requires
+meet-new-requires c κs =
     let at = c .before .before in
     let s = start at in
     let due = s .pre .0 in
@@ -101,14 +101,14 @@ ready : (s : tie.Start) → Ready (met s)
 ready s = blocks-ready (s .args .field) (s .args .s) _ _ _ _ (s .pre .0 .ready)
 
 -- the keys that the meeting leaves, its last argument
-abbrev keys : tie.After-meet-blocks → List ℕ
+abbrev keys : tie.After-meet-new → List ℕ
 keys c =
-    let after-new = c .meet-blocks .last .1 .1 .1 .1 .1 in
+    let after-new = c .meet-new .last .1 .1 .1 .1 .1 in
     after-new .1 .1 .0
 
 -- the numbers and keys stand for it
-stands : (c : tie.After-meet-blocks)
-    → Stands (met (start (c .before .before .before))) (c .meet-blocks .result) (keys c)
+stands : (c : tie.After-meet-new)
+    → Stands (met (start (c .before .before .before))) (c .meet-new .result) (keys c)
 stands c =
     let at = c .before .before .before in
     simp (
@@ -118,9 +118,9 @@ stands c =
       at .before .before .pick2 .ensures,
       at .before .before .before .pick .ensures,
     )
-    at (c .meet-blocks .ensures)
+    at (c .meet-new .ensures)
 
-few : (c : tie.After-meet-blocks) → c .meet-blocks .result .held ≤ 64
+few : (c : tie.After-meet-new) → c .meet-new .result .held ≤ 64
 few c =
     let k = ready (start (c .before .before .before)) in
     omega (arith, stands c .held, k .room, k .query .k .1)
@@ -136,7 +136,7 @@ returns c =
     let s = start at in
     let a = s .args in
     let is = read-is (a .field) (newDepth (a .field) (a .s)) (a .s) (met s) (blocks-keep (a .field) (a .s) _ _ _ _)
-    (ready s) (m .meet-blocks .result) (keys m) (stands m) in (
+    (ready s) (m .meet-new .result) (keys m) (stands m) in (
       simp (
         c .before .pick4 .ensures,
         c .before .before .down-to .ensures,
@@ -158,10 +158,10 @@ read-on-spec =
     pick-requires-3
     next-depth-requires
     block-count-requires
-    cast-meet-blocks
-    cast-meet-blocks-2
-    cast-meet-blocks-3
-    meet-blocks-requires
+    cast-meet-new
+    cast-meet-new-2
+    cast-meet-new-3
+    meet-new-requires
     down-to-requires
     pick-requires-4
     cast-t19

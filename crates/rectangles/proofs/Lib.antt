@@ -1,0 +1,4 @@
+pub mod Ends
+pub mod Gaps
+pub mod Sums
+pub mod Stored
