@@ -86,7 +86,9 @@ fn main() {
         ["full", plot_to] => queries(true, 5, plot_to),
         _ => {
             eprintln!("usage: bench/run [short|full|files|calls|roots]");
-            eprintln!("   or: bench/run profile CONTENDER RADIUS K BLOCK RUNS [new] [drifting|apart]");
+            eprintln!(
+                "   or: bench/run profile CONTENDER RADIUS K BLOCK RUNS [new] [drifting|apart]"
+            );
             std::process::exit(2);
         }
     }
