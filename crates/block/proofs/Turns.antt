@@ -12,9 +12,9 @@ use Rattle.rules.specs.Tables.{Terms, Block, row, rowCount, pairAt, ahead}
 use Rattle.keys.specs.Held.{keyOf, Narrow, Keyed, Put}
 use Rattle.keys.specs.Keys.{keyed-length}
 use Rattle.block.specs.Block.{metRow, metRows, Joined}
-use Rattle.block.specs.Full.{off, to-ordered}
+use Rattle.block.specs.Full.{off, put-off, to-ordered}
 use Rattle.block.specs.Near.{NextNear}
-use Rattle.block.specs.Twin.{metTo, to-next, row-joins, row-skips, rows-skip, met-is}
+use Rattle.block.specs.Twin.{metTo, to-next, row-joins, row-leaves, row-skips, rows-skip, met-is}
 
 module _ (w : Terms) (room : ℕ) (x y : Block) (n : ℕ) (a : List ℕ) where
   -- b holds g pairs: of those that a held and of the pairs of rows passed
@@ -42,16 +42,22 @@ module _ (w : Terms) (room : ℕ) (x y : Block) (n : ℕ) (a : List ℕ) where
         (row-joins w room x y i k (metRows w room x y l i) p q e)
         (put .held (metTo w room x y l i k) (met l h o))
 
-    -- a near pair would fall off
-    pub fallen : (k : ℕ) (p : Pair) → Met i k g b
-        → w .near (row (x .rows) i) (row (y .rows) k) ≡ true → p ≡ pairAt w x y i k → Narrow p
-        → length b ≡ 64 → room ≤ 64 → g ≡ room → ltb (getD b ((room + 63) % 64) 0) (keyOf p) ≡ true → Met i (k + 1) g b
-    fallen k p met q e narrow long fits full last =
+    -- a pair would fall off, and so would all later ones of its row
+    pub rest-fallen : (k : ℕ) → Met i k g b → k ≤ rowCount (y .rows)
+        → ((j : ℕ) → k ≤ j → j < rowCount (y .rows) → Narrow (pairAt w x y i j)
+        × (ltb (getD b ((room + 63) % 64) 0) (keyOf (pairAt w x y i j)) ≡ true))
+        → length b ≡ 64 → room ≤ 64 → g ≡ room → Met (i + 1) 0 g b
+    rest-fallen k met few later long fits full =
         λ l h o.
         let m = metTo w room x y l i k in
-        let same = off b m g room p long (met l h o) narrow (to-ordered w room x y l i k o) fits full last in
         subst (λ (m : List Pair). Keyed m (take g b))
-        (sym same ∙ row-joins w room x y i k (metRows w room x y l i) p q e) (met l h o)
+        (row-leaves w room x y i (metRows w room x y l i) k (rowCount (y .rows)) few
+        (λ j a c.
+        put-off (w .near (row (x .rows) i) (row (y .rows) j)) room (pairAt w x y i j) m
+        (off b m g room (pairAt w x y i j) long (met l h o) (later j a c .0) (to-ordered w room x y l i k o) fits full
+        (later j a c .1)))
+        ∙ to-next w room x y l i)
+        (met l h o)
 
     -- row i + 1 of x has met all of y that may lie near
     pub next : (k : ℕ) → k ≤ rowCount (y .rows)

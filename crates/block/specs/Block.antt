@@ -26,7 +26,7 @@ pub record Rows (a : ℕ) (rows : Table) : Type 0 where
   pub whole : width (rows .coordinates) * rowCount rows ≡ length (rows .numbers)
   pub few : a + rowCount rows ≤ mostRows
   pub range : (i : ℕ) → i < rowCount rows → rowInRange rows i ≡ true
-  pub below : Below rows
+  pub falls : (i j : ℕ) → i ≤ j → j < rowCount rows → row rows j .score ≤ row rows i .score
 
 -- the pairs of x and y that qualify among the n pairs that a holds, of which at most `room` are kept: r of them, which
 -- a′ holds

@@ -11,7 +11,8 @@ use Rattle.lists.specs.Lists.{ins}
 use Rattle.lists.specs.Words.{Ordered}
 use Rattle.lists.specs.Sorts as Sorts
 use Rattle.rules.specs.declared.Pair.{Pair}
-use Rattle.rules.specs.Tables.{Terms, Block, row, rowCount, pairAt, ahead}
+use borrow.Author.Tests.{ltb-true, lt-ltb}
+use Rattle.rules.specs.Tables.{Terms, Block, row, rowCount, pairSum, pairAt, ahead}
 use Rattle.rules.specs.Ranking.{ahead-strict}
 use Rattle.rules.specs.Session.{noPair}
 use Rattle.keys.specs.Held.{keyOf, Narrow, Keyed}
@@ -61,6 +62,25 @@ off ks l g (suc n) p long k narrow o h e t =
     ∙ ap (λ (i : ℕ). ltb i (keyOf p)) (sym at)
     ∙ t in
     ap (λ (i : ℕ). take i (ins ahead p l)) (sym full) ∙ falls-off p l o behind
+
+-- whether it qualifies or not
+pub put-off : (b : Bool) (room : ℕ) (p : Pair) (l : List Pair) → take room (ins ahead p l) ≡ l → putIf b room p l ≡ l
+put-off true room p l e = e
+put-off false room p l e = refl
+
+-- pairs of a row of x, the rows of y one below the other and their scores falling: a later one ranks behind
+module _ (w : Terms) (x y : Block) (i k j : ℕ) (h : k ≤ j) (falls : w .trim (row (y .rows) j) ≤ w .trim (row (y .rows) k))
+    (few : y .start + j + 1 < 65536) (narrow : Narrow (pairAt w x y i k)) where
+  pub later-narrow : Narrow (pairAt w x y i j)
+  unfolding pairAt pairSum
+  later-narrow = record { sum = omega (arith, narrow .sum); field = narrow .field; trim = few }
+
+  pub later-behind : (last : ℕ) → ltb last (keyOf (pairAt w x y i k)) ≡ true
+      → ltb last (keyOf (pairAt w x y i j)) ≡ true
+  unfolding pairAt pairSum keyOf
+  later-behind last e =
+      lt-ltb last (keyOf (pairAt w x y i j))
+      (omega (arith, ltb-true last (keyOf (pairAt w x y i k)) e, narrow .sum))
 
 -- the pairs held stay in order
 put-ordered : (b : Bool) (room : ℕ) (p : Pair) (l : List Pair) → Ordered ahead l → Ordered ahead (putIf b room p l)

@@ -2,16 +2,35 @@
 use mathlib.Core.Path.{_≡_}
 use mathlib.Core.Bool.{true, false}
 use Prim.Native.Nat.{ℕ, _≤_, _<_}
+use native.Mathlib.Nat.{mul-le-mul}
+use native.Mathlib.Omega.{arith}
+use borrow.Author.Tests.{eqb-true, eq-eqb}
 use Rattle.lists.specs.Bools.{clash, fails}
-use Rattle.rules.specs.Tables.{Table, row, rowCount, withdrawn, rowsQualify}
+use Rattle.rules.specs.declared.Query.{Query}
+use Rattle.rules.specs.Tables.{Table, row, rowCount, withdrawn, rowsQualify, weighted, terms}
 use Rattle.session_laws.specs.ReadOut.{rows-qualify-out}
-use Rattle.block.specs.Block.{Below}
+use Rattle.block.specs.Block.{Below, Rows}
 
 -- the first n rows are not withdrawn, those from there on are
 pub record Live (rows : Table) (n : ℕ) : Type 0 where
   pub upto : n ≤ rowCount rows
   pub live : (i : ℕ) → i < n → withdrawn (row rows i) ≡ false
   pub beyond : (i : ℕ) → n ≤ i → i < rowCount rows → withdrawn (row rows i) ≡ true
+
+-- scores fall
+pub rows-below : (a : ℕ) (rows : Table) → Rows a rows → Below rows
+unfolding withdrawn
+rows-below a rows r i j h k e =
+    eq-eqb (row rows j .score) 0 (omega (arith, r .falls i j h k, eqb-true (row rows i .score) 0 e))
+
+-- and so do weighted scores
+pub trim-falls : (q : Query) (a : ℕ) (rows : Table) → Rows a rows → (k j : ℕ) → k ≤ j → j < rowCount rows
+    → terms q .trim (row rows j) ≤ terms q .trim (row rows k)
+unfolding weighted
+trim-falls q a rows r k j h l =
+    let weight = q .weights .trim .0 in
+    let same : weight ≤ weight = omega arith in
+    mul-le-mul same (r .falls k j h l)
 
 -- above a row that is not withdrawn none is
 pub above-live : (rows : Table) → Below rows → (i j : ℕ) → i ≤ j → j < rowCount rows

@@ -57,7 +57,7 @@ putAll-sort room l (p ∷ m) o h =
         ∙ sym (Sorts.sort-append-comm ahead ahead-strict l (p ∷ m))
 
 module _ (w : Terms) (room : ℕ) (x y : Block) where
-  test : ℕ → ℕ → Bool
+  abbrev test : ℕ → ℕ → Bool
   test i j = w .near (row (x .rows) i) (row (y .rows) j)
 
   -- the pairs of row i + 1 of x with the first j rows of y
@@ -128,24 +128,34 @@ module _ (w : Terms) (room : ℕ) (x y : Block) where
   row-joins i j l p q e =
       ap (λ (r : Pair). take room (ins ahead r (metRow w room x y i l j))) e ∙ sym (rw (add-one, q))
 
-  -- rows of y that do not lie near row i + 1 of x leave the pairs held
-  pub row-skips : (i : ℕ) (l : List Pair) (j r : ℕ) → j ≤ r
-      → ((k : ℕ) → j ≤ k → k < r → w .near (row (x .rows) i) (row (y .rows) k) ≡ false)
+  -- rows of y that, near row i + 1 of x or not, leave the pairs held
+  pub row-leaves : (i : ℕ) (l : List Pair) (j r : ℕ) → j ≤ r
+      → ((k : ℕ) → j ≤ k → k < r → putIf (test i k) room (pairAt w x y i k) (metRow w room x y i l j)
+      ≡ metRow w room x y i l j)
       → metRow w room x y i l j ≡ metRow w room x y i l r
   unfolding metRow
-  row-skips i l j zero h none = let e : j ≡ 0 = omega arith in ap (metRow w room x y i l) e
-  row-skips i l j (suc r) h none = go (eqb j (suc r)) refl (row-skips i l j r)
+  row-leaves i l j zero h same = let e : j ≡ 0 = omega arith in ap (metRow w room x y i l) e
+  row-leaves i l j (suc r) h same = go (eqb j (suc r)) refl (row-leaves i l j r)
     where
       go : (t : Bool) → eqb j (suc r) ≡ t
-          → (j ≤ r → ((k : ℕ) → j ≤ k → k < r → w .near (row (x .rows) i) (row (y .rows) k) ≡ false)
+          → (j ≤ r → ((k : ℕ) → j ≤ k → k < r → putIf (test i k) room (pairAt w x y i k) (metRow w room x y i l j)
+          ≡ metRow w room x y i l j)
           → metRow w room x y i l j ≡ metRow w room x y i l r)
           → metRow w room x y i l j ≡ metRow w room x y i l (suc r)
       go true e before = ap (metRow w room x y i l) (eqb-true j (suc r) e)
       go false e before =
           let n = eqb-false j (suc r) e in
-          let here = none r (omega (arith, n)) (omega arith) in
-          before (omega (arith, n)) (λ k a b. none k a (omega (arith, b)))
-          ∙ sym (ap (λ (b : Bool). putIf b room (pairAt w x y i r) (metRow w room x y i l r)) here)
+          sym (same r (omega (arith, n)) (omega arith))
+          ∙ ap (putIf (test i r) room (pairAt w x y i r))
+          (before (omega (arith, n)) (λ k a b. same k a (omega (arith, b))))
+
+  -- as those that do not lie near do
+  pub row-skips : (i : ℕ) (l : List Pair) (j r : ℕ) → j ≤ r
+      → ((k : ℕ) → j ≤ k → k < r → w .near (row (x .rows) i) (row (y .rows) k) ≡ false)
+      → metRow w room x y i l j ≡ metRow w room x y i l r
+  row-skips i l j r h none =
+      row-leaves i l j r h
+      (λ k a b. ap (λ (t : Bool). putIf t room (pairAt w x y i k) (metRow w room x y i l j)) (none k a b))
 
   -- and so do rows of x that lie near none of y
   pub rows-skip : (l : List Pair) (i r : ℕ) → i ≤ r

@@ -177,8 +177,8 @@ fn next_near(n: u32, q: Query, x: &[i32], i: usize, y: &[i32], m: usize, j: usiz
 }
 
 // The block join: of the pairs held and the qualifying pairs of x and y the best-ranked, at most room: how many are
-// held then. It goes from one near pair of live rows to the next; where the room is used up, a pair that would fall off
-// is not put.
+// held then. It goes from one near pair of live rows to the next; where the room is used up and a pair would fall off,
+// so would all others of its row, whose scores are no higher, and the next row is due.
 pub fn join(
     n: u32,
     q: Query,
@@ -206,10 +206,13 @@ pub fn join(
         if k < m {
             let p = pair_at(n, q, x, a, i, y, c, k);
             let key = keys::key(p);
-            if !((g == room) & (keys[last] < key)) {
+            if (g == room) & (keys[last] < key) {
+                i += 1;
+                j = 0;
+            } else {
                 g = keys::put(keys, g, room, p);
+                j = k + 1;
             }
-            j = k + 1;
         } else {
             i += 1;
             j = 0;

@@ -20,7 +20,7 @@ use Rattle.rules.specs.Ranking.{ahead-strict}
 use Rattle.rules.specs.Session.{places, heldPairs}
 use Rattle.rules.specs.Read.{skipped, bestHeld, holding, meetBy, meet, rowsBetween, meetBlocksBy, meetBlocks}
 use Rattle.session_laws.specs.Tables.{row-part, range-part}
-use Rattle.session_laws.specs.ReadOut.{withdrawn-below}
+use Rattle.session_laws.specs.ReadOut.{scores-fall}
 use Rattle.session_laws.specs.Calls.{Accepted, NewRowsFit, read-rows}
 use Rattle.keys.specs.Places.{list-of-places}
 use Rattle.block.specs.Block.{Rows}
@@ -85,12 +85,11 @@ part-rows t x fits =
           λ i h.
           let k : i < n = omega (arith, count, h) in
           range-part t a n i k ∙ fits .fit (a + i) (omega (arith, k)) .range;
-      below =
-          λ i j h k g.
+      falls =
+          λ i j h k.
           let l : j < n = omega (arith, count, k) in
-          ap withdrawn (row-part t a n j l)
-          ∙ withdrawn-below t (x .to) (fits .fit) (a + i) (a + j) (omega (arith, h)) (omega (arith, l))
-          (ap withdrawn (sym (row-part t a n i (omega (arith, h, l)))) ∙ g);
+          rw (row-part t a n j l, row-part t a n i (omega (arith, h, l)))
+          (scores-fall t (x .to) (fits .fit) (a + i) (a + j) (omega (arith, h)) (omega (arith, l)));
     }
 
 -- the same of a slice that is this part

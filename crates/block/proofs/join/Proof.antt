@@ -1,18 +1,20 @@
 -- `join` meets its contract: the pairs held are those of all pairs of rows passed so far, pair by pair is all at
 -- once, and withdrawn rows qualify with none. Assumes nothing.
 use mathlib.Core.Path.{_≡_, refl, sym, ap, subst, _∙_}
-use mathlib.Core.Logic.{⊎-elim}
+use mathlib.Core.Bool.{true}
 use Prim.Native.Nat.{ℕ, _+_, _*_, _-_, _%_, _≤_, _<_}
 use native.Mathlib.Nat.{suc-mul}
 use native.Mathlib.Omega.{arith}
 use lib.Dec.{eqb, ltb}
 use lib.ListN.{length, getD}
-use borrow.Author.Tests.{not-false, eqb-true}
+use borrow.Author.Tests.{eqb-true}
 use Rattle.lists.specs.Bools.{and-out}
-use Rattle.rules.specs.Tables.{table, terms, rowCount}
+use Rattle.rules.specs.Tables.{table, terms, rowCount, pairAt}
 use Rattle.rules.specs.Widths.{has-row}
 use Rattle.block.specs.Block.{at}
-use Rattle.block.specs.Live.{none-beyond-first, none-beyond-second}
+use Rattle.keys.specs.Held.{keyOf, Narrow}
+use Rattle.block.specs.Full.{later-narrow, later-behind}
+use Rattle.block.specs.Live.{rows-below, trim-falls, none-beyond-first, none-beyond-second}
 use Rattle.block.specs.Small.{rows-small}
 use Rattle.block.proofs.Turns as Turns
 use Rattle.block.proofs.join.Statement.{statement}
@@ -43,10 +45,10 @@ row-less l m i j h =
     omega (arith, e)
 
 live-rows-requires : tie.Need-live-rows-requires Inv-loop μ-loop
-live-rows-requires c κs = c .pre .1 .2 .below
+live-rows-requires c κs = rows-below _ _ (c .pre .1 .2)
 
 live-rows-requires-2 : tie.Need-live-rows-requires-2 Inv-loop μ-loop
-live-rows-requires-2 c κs = c .before .pre .1 .3 .below
+live-rows-requires-2 c κs = rows-below _ _ (c .before .pre .1 .3)
 
 add-last : tie.Need-add-last Inv-loop μ-loop
 add-last c = omega arith
@@ -106,6 +108,76 @@ mul-if2 c = record { fits = omega arith }
 element-copy-out-if2 : tie.Need-element-copy-out-if2 Inv-loop μ-loop
 element-copy-out-if2 c = omega arith
 
+-- the pair found and all later ones of its row: what a key has room for, and behind the last one held
+later : (c : tie.Then2 Inv-loop μ-loop) (j : ℕ)
+    → let found = sought (c .before .before) in
+    let s = counted found .before .before in
+    let v = found .before .before .loop in
+    let x = at (s .args .a) (table (s .args .n) (s .args .x .now)) in
+    let y = at (s .args .c) (table (s .args .n) (s .args .y .now)) in
+    let p = pairAt (terms (s .args .q)) x y (v .i) j in
+    found .next-near .result ≤ j → j < rowCount (y .rows)
+    → Narrow p × (ltb (getD (v .keys) ((s .args .room + 63) % 64) 0) (keyOf p) ≡ true)
+later c j h l =
+    let key = c .before .before in
+    let found = sought key in
+    let s = counted found .before .before in
+    let q = s .args .q in
+    let v = found .before .before .loop in
+    let x = at (s .args .a) (table (s .args .n) (s .args .x .now)) in
+    let y = at (s .args .c) (table (s .args .n) (s .args .y .now)) in
+    let k = found .next-near .result in
+    let rows = s .pre .1 .3 in
+    let pair = key .before .pair-at .ensures in
+    let last = getD (v .keys) ((s .args .room + 63) % 64) 0 in
+    let both = and-out (eqb (v .g) (s .args .room)) (ltb last (key .key .result)) (c .if2 .taken) in
+    let falls = trim-falls q (s .args .c) (y .rows) rows k j h l in
+    let few : s .args .c + j + 1 < 65536 = omega (arith, rows .few, l) in
+    let narrow : Narrow (pairAt (terms q) x y (v .i) k) = subst Narrow (pair .0) (pair .1) in
+    let behind : ltb last (keyOf (pairAt (terms q) x y (v .i) k)) ≡ true =
+    ap (λ p. ltb last (keyOf p)) (sym (pair .0)) ∙ ap (ltb last) (sym (key .key .ensures)) ∙ both .1 in (
+      later-narrow (terms q) x y (v .i) k j h falls few narrow,
+      later-behind (terms q) x y (v .i) k j h falls few narrow last behind,
+    )
+
+add-i : tie.Need-add-i Inv-loop μ-loop
+add-i c = omega arith
+
+loop-less : tie.Need-loop-less Inv-loop μ-loop
+loop-less c =
+    let found = sought (c .before .before) in
+    let live = counted found in
+    let v = found .before .before .loop in
+    row-less (live .before .live-rows .result) (live .live-rows2 .result) (v .i) (v .j)
+    (found .before .loop-test .taken)
+
+loop-again : tie.Need-loop-again Inv-loop μ-loop
+loop-again c =
+    let key = c .before .before in
+    let found = sought key in
+    let live = counted found in
+    let s = live .before .before in
+    let v = found .before .before .loop in
+    let near = found .next-near in
+    let x = at (s .args .a) (table (s .args .n) (s .args .x .now)) in
+    let y = at (s .args .c) (table (s .args .n) (s .args .y .now)) in
+    let n = s .args .held in
+    let a = s .args .keys .now in
+    let last = getD (v .keys) ((s .args .room + 63) % 64) 0 in
+    let both = and-out (eqb (v .g) (s .args .room)) (ltb last (key .key .result)) (c .if2 .taken) in
+    let here =
+    Turns.skipped (terms (s .args .q)) (s .args .room) x y n a (v .i) (v .g) (v .keys) _ (v .j) (near .result)
+    (near .ensures) (v .inv .5) in (
+      omega (arith, found .before .loop-test .taken),
+      omega arith,
+      λ _. refl,
+      v .inv .3,
+      v .inv .4,
+      Turns.rest-fallen (terms (s .args .q)) (s .args .room) x y n a (v .i) (v .g) (v .keys) (near .result) here
+          (omega (arith, near .ensures .upto, live .live-rows2 .ensures .upto)) (later c) (v .inv .4) (s .pre .0 .1)
+          (eqb-true (v .g) (s .args .room) (both .0)),
+    )
+
 put-requires : tie.Need-put-requires Inv-loop μ-loop
 put-requires c κs =
     let key = c .before .before .before in
@@ -116,14 +188,15 @@ put-requires c κs =
 add-j : tie.Need-add-j Inv-loop μ-loop
 add-j c = omega arith
 
-loop-less : tie.Need-loop-less Inv-loop μ-loop
-loop-less c =
-    let key = c .before .before in
+loop-less-2 : tie.Need-loop-less-2 Inv-loop μ-loop
+loop-less-2 c =
+    let key = c .before .before .before .before in
     omega (arith, sought key .next-near .ensures .from, key .before .before .if1 .taken)
 
-loop-again : tie.Need-loop-again Inv-loop μ-loop
-loop-again c =
-    let found = sought (c .before .before) in
+loop-again-2 : tie.Need-loop-again-2 Inv-loop μ-loop
+loop-again-2 c =
+    let key = c .before .before .before .before in
+    let found = sought key in
     let live = counted found in
     let s = live .before .before in
     let v = found .before .before .loop in
@@ -132,46 +205,33 @@ loop-again c =
     let y = at (s .args .c) (table (s .args .n) (s .args .y .now)) in
     let n = s .args .held in
     let a = s .args .keys .now in
-    let p = c .before .before .before .pair-at in
-    let key = c .before .before .key in
-    let h : near .result < live .live-rows2 .result = c .before .before .before .before .if1 .taken in
+    let p = key .before .pair-at in
+    let h : near .result < live .live-rows2 .result = key .before .before .if1 .taken in
     let turn : v .i < live .before .live-rows .result = found .before .loop-test .taken in
     let here =
     Turns.skipped (terms (s .args .q)) (s .args .room) x y n a (v .i) (v .g) (v .keys) _ (v .j) (near .result)
-    (near .ensures) (v .inv .5) in
-    let Met = Turns.Met (terms (s .args .q)) (s .args .room) x y n a (v .i) (near .result + 1) in
-    let after : (c .if2 .g ≤ s .args .room) × (length (c .if2 .keys) ≡ 64) × Met (c .if2 .g) (c .if2 .keys) =
-    ⊎-elim
-    (λ w.
-    let next : Met (w .2 .result) (w .2 .last .0) =
-    Turns.joined (terms (s .args .q)) (s .args .room) x y n a (v .i) (v .g) (v .keys) (near .result) (w .2 .result)
-    (w .2 .last .0) (p .result)
-    here (near .ensures .found h) (p .ensures .0) (w .2 .ensures) in
-    rw (w .3, w .4) (w .2 .ensures .few, w .2 .ensures .long, next))
-    (λ w.
-    let last = getD (v .keys) ((s .args .room + 63) % 64) 0 in
-    let both = and-out (eqb (v .g) (s .args .room)) (ltb last (key .result)) (not-false _ (w .0 .left)) in
-    let behind = ap (ltb last) (sym (key .ensures)) ∙ both .1 in
-    let next : Met (v .g) (v .keys) =
-    Turns.fallen (terms (s .args .q)) (s .args .room) x y n a (v .i) (v .g) (v .keys) (near .result) (p .result)
-    here (near .ensures .found h) (p .ensures .0) (p .ensures .1) (v .inv .4) (s .pre .0 .1)
-    (eqb-true (v .g) (s .args .room) (both .0)) behind in
-    rw (w .1, w .2) (v .inv .3, v .inv .4, next))
-    (c .if2 .came) in
-    (omega (arith, turn), omega (arith, h), λ z. absurd (omega (arith, z, turn)), after .0, after .1, after .2)
+    (near .ensures) (v .inv .5) in (
+      omega (arith, turn),
+      omega (arith, h),
+      λ z. absurd (omega (arith, z, turn)),
+      c .put .ensures .few,
+      c .put .ensures .long,
+      Turns.joined (terms (s .args .q)) (s .args .room) x y n a (v .i) (v .g) (v .keys) (near .result) (c .put .result)
+          (c .put .last .0) (p .result) here (near .ensures .found h) (p .ensures .0) (c .put .ensures),
+    )
 
-add-i : tie.Need-add-i Inv-loop μ-loop
-add-i c = omega arith
+add-i-2 : tie.Need-add-i-2 Inv-loop μ-loop
+add-i-2 c = omega arith
 
-loop-less-2 : tie.Need-loop-less-2 Inv-loop μ-loop
-loop-less-2 c =
+loop-less-3 : tie.Need-loop-less-3 Inv-loop μ-loop
+loop-less-3 c =
     let live = counted (c .before) in
     let v = c .before .before .before .loop in
     row-less (live .before .live-rows .result) (live .live-rows2 .result) (v .i) (v .j)
     (c .before .before .loop-test .taken)
 
-loop-again-2 : tie.Need-loop-again-2 Inv-loop μ-loop
-loop-again-2 c =
+loop-again-3 : tie.Need-loop-again-3 Inv-loop μ-loop
+loop-again-3 c =
     let live = counted (c .before) in
     let s = live .before .before in
     let v = c .before .before .before .loop in
@@ -229,11 +289,14 @@ join-spec =
     key-requires
     mul-if2
     element-copy-out-if2
-    put-requires
-    add-j
+    add-i
     loop-less
     loop-again
-    add-i
+    put-requires
+    add-j
     loop-less-2
     loop-again-2
+    add-i-2
+    loop-less-3
+    loop-again-3
     returns)
