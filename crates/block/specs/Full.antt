@@ -69,8 +69,9 @@ put-off true room p l e = e
 put-off false room p l e = refl
 
 -- pairs of a row of x, the rows of y one below the other and their scores falling: a later one ranks behind
-module _ (w : Terms) (x y : Block) (i k j : ℕ) (h : k ≤ j) (falls : w .trim (row (y .rows) j) ≤ w .trim (row (y .rows) k))
-    (few : y .start + j + 1 < 65536) (narrow : Narrow (pairAt w x y i k)) where
+module _ (w : Terms) (x y : Block) (i k j : ℕ) (h : k ≤ j)
+    (falls : w .trim (row (y .rows) j) ≤ w .trim (row (y .rows) k)) (few : y .start + j + 1 < 65536)
+    (narrow : Narrow (pairAt w x y i k)) where
   pub later-narrow : Narrow (pairAt w x y i j)
   unfolding pairAt pairSum
   later-narrow = record { sum = omega (arith, narrow .sum); field = narrow .field; trim = few }
