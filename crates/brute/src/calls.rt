@@ -1,14 +1,14 @@
 // Calls of the session, and the list of those that must be refused and change nothing: with harmed records, harmed
 // tables, wrong openings. Each of these answers its number, or 0 if it was not refused by it or changed a thing.
+use crate::dice;
+use crate::due;
+use crate::due::Case;
+use crate::judge;
 use crate::openings;
-use double_loop::dice;
-use double_loop::due;
-use double_loop::due::Case;
-use double_loop::judge;
-use double_loop::plain;
-use double_loop::plain::Sums;
-use double_loop::plain::Table;
-use double_loop::plain::pair;
+use crate::plain;
+use crate::plain::Sums;
+use crate::plain::Table;
+use crate::plain::pair;
 use rules::Counts;
 use rules::FieldKind;
 use rules::Kinds;

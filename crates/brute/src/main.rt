@@ -1,17 +1,17 @@
 // The session against a plain double loop, over tables made from seeds. Prints totals; the comparer is tried first.
-use double_loop::dice;
-use double_loop::due;
-use double_loop::due::Case;
-use double_loop::judge;
-use double_loop::made;
-use double_loop::plain;
-use double_loop::tally;
+use crate::due::Case;
 use libc::STDOUT_FILENO;
 use rules::Counts;
 
 mod calls;
+mod dice;
+mod due;
+mod judge;
+mod made;
 mod openings;
+mod plain;
 mod play;
+mod tally;
 mod wrong;
 
 // A case: its session is played, and counted. The first 4,000 are on the old card, the others on the new.

@@ -3,9 +3,9 @@
 use crate::calls;
 use crate::calls::Lent;
 use crate::calls::kinds;
-use double_loop::due;
-use double_loop::judge;
-use double_loop::plain;
+use crate::due;
+use crate::judge;
+use crate::plain;
 use rules::FieldWeight;
 use rules::Kinds;
 use rules::Query;

@@ -1,14 +1,14 @@
 // A whole session, read and taken from in one of several orders; each answer and record is compared.
 use crate::calls;
 use crate::calls::Lent;
-use double_loop::dice;
-use double_loop::due;
-use double_loop::due::Case;
-use double_loop::judge;
-use double_loop::judge::Seen;
-use double_loop::plain;
-use double_loop::plain::Sums;
-use double_loop::tally;
+use crate::dice;
+use crate::due;
+use crate::due::Case;
+use crate::judge;
+use crate::judge::Seen;
+use crate::plain;
+use crate::plain::Sums;
+use crate::tally;
 use rules::Answer;
 use rules::Pair;
 use rules::Session;

@@ -1,0 +1,20 @@
+-- `joined` is safe and ends: one turn for each row of the other table. Assumes nothing.
+use Prim.Native.Nat.{_≤_, _-_}
+use borrow.Author.Needs.{needs}
+use Rattle.brute.proofs.due.joined.Statement.{statement}
+use Rattle.brute.proofs.due.joined.Tie as tie
+
+pub joined-spec : {M : Type 1} → statement M
+joined-spec =
+    tie.close
+    (tie.spec
+    (λ q m of-field a e d n₀ c₀ n c. c ≤ d)
+    (λ q m of-field a e d n₀ c₀ n c. d - c)
+    (search needs)
+    (search needs)
+    (search needs)
+    (search needs)
+    (search needs)
+    (search needs)
+    (search needs)
+    (search needs))

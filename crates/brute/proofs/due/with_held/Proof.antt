@@ -1,0 +1,25 @@
+-- `with_held` is safe and ends: one turn for each pair that can be held. Assumes nothing.
+use Prim.Native.Nat.{_≤_, _-_}
+use borrow.Author.Needs.{needs}
+use Rattle.brute.proofs.due.with_held.Statement.{statement}
+use Rattle.brute.proofs.due.with_held.Tie as tie
+
+pub with-held-spec : {M : Type 1} → statement M
+with-held-spec =
+    tie.close
+    (tie.spec
+    (λ m s given all most r₀ cut₀ i₀ r cut i. i ≤ all)
+    (λ m s given all most r₀ cut₀ i₀ r cut i. all - i)
+    (search needs)
+    (search needs)
+    (search needs)
+    (search needs)
+    (search needs)
+    (search needs)
+    (search needs)
+    (search needs)
+    (search needs)
+    (search needs)
+    (search needs)
+    (search needs)
+    (search needs))

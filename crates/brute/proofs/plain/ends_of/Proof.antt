@@ -1,0 +1,20 @@
+-- `ends_of` is safe and ends: one turn for each row. Assumes nothing.
+use Prim.Native.Nat.{_≤_, _-_}
+use borrow.Author.Needs.{needs}
+use Rattle.brute.proofs.plain.ends_of.Statement.{statement}
+use Rattle.brute.proofs.plain.ends_of.Tie as tie
+
+pub ends-of-spec : {M : Type 1} → statement M
+ends-of-spec =
+    tie.close
+    (tie.spec
+    (λ card t first last c x e₀ i₀ e i. i ≤ 13)
+    (λ card t first last c x e₀ i₀ e i. 13 - i)
+    (search needs)
+    (search needs)
+    (search needs)
+    (search needs)
+    (search needs)
+    (search needs)
+    (search needs)
+    (search needs))
