@@ -52,14 +52,18 @@ element-copy-out-side-gap-2 c = search needs
 side-gap-requires : tie.Need-side-gap-requires Inv-loop μ-loop
 side-gap-requires c κs = search needs
 
+-- where the loop stands, from the gap of its turn
+abbrev head : tie.After-side-gap Inv-loop μ-loop → tie.At-loop Inv-loop μ-loop
+head c = c .before .before .before .before .before
+
 -- one side more, at either branch
 turn : (c : tie.After-side-gap Inv-loop μ-loop)
-    → let s = c .before .before .before .before .before .before .args in
-    let k = c .before .before .before .before .before .loop .k in
+    → let s = head c .before .args in
+    let k = head c .loop .k in
     let seen = S.seen (s .sides .now) (table (s .n) (s .t .now)) (s .m) in
     seen (k + 1) ≡ seen k + c .side-gap .result * c .side-gap .result
 turn c =
-    let l = c .before .before .before .before .before in
+    let l = head c in
     let s = l .before in
     let low = E.passed (getD (s .args .sides .now) (2 * l .loop .k) (pos 0)) (c .before .before .side-gap-arg .given) in
     let high = E.passed (getD (s .args .sides .now) (2 * l .loop .k + 1) (pos 0)) (c .before .side-gap-arg2 .given) in
@@ -73,9 +77,10 @@ mul-square c = S.square-fits (c .side-gap .result) (c .side-gap .ensures .1)
 
 returns : tie.Need-returns Inv-loop μ-loop
 returns c =
-    let s = c .before .before .before .before .before .before .before in
-    S.too-far (s .args .sides .now) (table (s .args .n) (s .args .t .now)) (s .args .m)
-    (c .before .before .before .before .before .before .loop .k + 1) (s .args .radius) (omega (arith, turn (c .before)))
+    let at = head (c .before) in
+    let s = at .before in
+    S.too-far (s .args .sides .now) (table (s .args .n) (s .args .t .now)) (s .args .m) (at .loop .k + 1)
+    (s .args .radius) (omega (arith, turn (c .before)))
 
 add-k : tie.Need-add-k Inv-loop μ-loop
 add-k c = search needs
