@@ -11,6 +11,7 @@ use lib.Seq.{drop-cons, length-take-le}
 use Rattle.rules.specs.File.{isDigit, columns}
 use Rattle.file_laws.specs.Spelling.{digit-range}
 use Rattle.file_laws.specs.Places.{placeAt, place-power}
+use mir.Val.{boolByte}
 use Rattle.column.specs.Scan.{upTo, byteWorth}
 
 pub whole : (bytes : List ℕ) (at width : ℕ) → columns bytes at width ≡ upTo bytes at (at + width)
@@ -46,6 +47,10 @@ pub worth-small : (m : Bool) (b : ℕ) → byteWorth m b ≤ 15
 unfolding byteWorth
 worth-small true b = omega arith
 worth-small false b = omega (arith, mod-lt b {m = 16} (omega arith))
+
+pub one-most : (t : Bool) → boolByte t ≤ 1
+one-most true = omega arith
+one-most false = omega arith
 
 -- ---- Place values: r bytes that are left are worth less than 2 × 10 ^ r
 

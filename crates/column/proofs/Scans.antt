@@ -1,24 +1,24 @@
 -- A column that is scanned to its end holds what the rules say. Assumes nothing.
-use mathlib.Core.Path.{_≡_, refl, sym, ap, _∙_}
+use mathlib.Core.Path.{_≡_, refl, sym, ap, ap₂, _∙_}
 use mathlib.Core.Bool.{Bool, true, false, cond, _&&_, not, and-false, or-true, or-false}
 use mathlib.Core.List.{List, [], _∷_}
-use Prim.Native.Nat.{ℕ, _+_, _*_, _-_, _≤_, _<_}
-use native.Mathlib.Nat.{mul-le-mul, mul-zero, one-le-pow}
+use Prim.Native.Nat.{ℕ, suc, _+_, _*_, _-_, _≤_, _<_}
+use native.Mathlib.Nat.{mul-le-mul, mul-zero}
 use native.Mathlib.Omega.{arith}
-use lib.Dec.{eqb}
+use lib.Dec.{leb, eqb}
 use lib.IntN.{pos, negℤ}
 use lib.ListN.{length}
-use borrow.Author.Tests.{ne-eqb, eqb-true, eqb-false}
+use borrow.Author.Tests.{ne-eqb, eqb-true, eqb-false, le-leb, lt-leb}
 use Rattle.lists.specs.Lists.{every}
 use Rattle.rules.specs.File.{isDigit, afterBlanks, digitsFit, hasMinus, afterMinus, digitsOf}
 use Rattle.rules.specs.File.{columnFits, columnNumber}
-use Rattle.lists.specs.Bools.{and-left, and-right}
+use Rattle.lists.specs.Bools.{and-left, and-right, and-true}
 use Rattle.file_laws.specs.Spelling.{digit-range}
-use Rattle.file_laws.specs.Places.{placeAt, byPlaces, place-power, digits-places, digits-less}
+use Rattle.file_laws.specs.Places.{placeAt, byPlaces, place-tenfold, digits-places, digits-less}
 use Rattle.column.specs.declared.Column.{Column}
 use Rattle.column.specs.declared.Scan.{Scan}
 use Rattle.column.specs.Column.{columnHeld}
-use Rattle.column.specs.Scan.{byteWorth, stepped, start, scanned, signedWorth, heldOf}
+use Rattle.column.specs.Scan.{byteWorth, leastOf, stepped, start, scanned, signedWorth, heldOf}
 use Rattle.column.proofs.Bytes.{digit-worth}
 
 abbrev unfit : Column
@@ -31,16 +31,20 @@ fitting m n = record { fits = true; number = cond m (negℤ (pos n)) (pos n) }
 abbrev heldAs : Bool → Bool → ℕ → Column
 heldAs m fits n = record { fits = fits; number = cond fits (cond m (negℤ (pos n)) (pos n)) (pos 0) }
 
+-- a column of so many digits that are worth n
+abbrev digitsHeld : Bool → ℕ → ℕ → Column
+digitsHeld m c n = heldAs m (leb (leastOf c) n && not (m && eqb n 0)) n
+
 -- a column of these digits, after a minus or not
 numberHeld : Bool → List ℕ → Column
 numberHeld m ds = let n = byPlaces ds in heldAs m (digitsFit ds && not (m && eqb n 0)) n
 
--- a scan that has met a digit, and one that has met a minus only
-abbrev inDigits : Bool → ℕ → Scan
-inDigits m n = record { seen = true; digit = true; negative = m; bad = false; worth = n }
+-- a scan that has met so many digits, and one that has met a minus only
+abbrev inDigits : Bool → ℕ → ℕ → Scan
+inDigits m c n = record { seen = true; digits = c; negative = m; bad = false; worth = n }
 
 abbrev atMinus : Scan
-atMinus = record { seen = true; digit = false; negative = true; bad = false; worth = 0 }
+atMinus = record { seen = true; digits = 0; negative = true; bad = false; worth = 0 }
 
 bad-held : (s : Scan) → s .bad ≡ true → heldOf s ≡ unfit
 unfolding heldOf
@@ -51,16 +55,65 @@ unfolding numberHeld digitsFit
 unfit-first m b [] h = rw h
 unfit-first m b (c ∷ l) h = rw h
 
--- no minus before 0 where there is no 0
-no-zero : (m : Bool) (n : ℕ) → (n ≡ 0 → ⊥) → (m && eqb n 0) ≡ false
-no-zero true n some = ne-eqb n 0 some
-no-zero false n some = refl
+-- ---- So many digits that do not begin with 0 are worth so much at least, others less
 
--- a digit other than 0 is worth something at its place
-placed-some : (i d : ℕ) → i < 7 → 1 ≤ d → placeAt i * d ≡ 0 → ⊥
-placed-some i d h k e =
-    let some : 1 ≤ placeAt i = rw (place-power i h) (one-le-pow i 10 (omega arith)) in
-    omega (arith, e, mul-le-mul some k)
+-- digits are worth less than one more place
+digits-below : (l : List ℕ) → length l ≤ 6 → every isDigit l ≡ true → byPlaces l < placeAt (length l)
+unfolding every byPlaces
+digits-below [] h e = omega arith
+digits-below (b ∷ l) h e =
+    let d = and-left (isDigit b) (every isDigit l) e in
+    let r = digit-range b d in
+    let rest = digits-below l (omega arith) (and-right (isDigit b) (every isDigit l) e) in
+    let same : placeAt (length l) ≤ placeAt (length l) = omega arith in
+    let digit : b - 48 ≤ 9 = omega arith in
+    rw (place-tenfold (length l) (omega arith)) (omega (arith, mul-le-mul same digit))
+
+-- the first of two digits or more
+module _ (b : ℕ) (l : List ℕ) (d : isDigit b ≡ true) (short : length l ≤ 6) (all : every isDigit l ≡ true) where
+  abbrev p : ℕ
+  p = placeAt (length l)
+
+  first-tells : leb p (p * (b - 48) + byPlaces l) ≡ not (eqb b 48)
+  first-tells = go (eqb b 48) refl
+    where
+      go : (t : Bool) → eqb b 48 ≡ t → leb p (p * (b - 48) + byPlaces l) ≡ not t
+      go true e =
+          let same = eqb-true b 48 e in
+          let none : b - 48 ≡ 0 = omega arith in
+          let zero = ap (λ (k : ℕ). p * k) none in
+          lt-leb p (p * (b - 48) + byPlaces l) (omega (arith, zero, digits-below l short all))
+      go false e =
+          let r = digit-range b d in
+          let other = eqb-false b 48 e in
+          let some : 1 ≤ b - 48 = omega arith in
+          let same : p ≤ p = omega arith in
+          le-leb p (p * (b - 48) + byPlaces l) (omega (arith, mul-le-mul same some))
+
+-- where all are digits, what they are worth tells whether the first is 0
+told : (m : Bool) (b : ℕ) (l : List ℕ) → isDigit b ≡ true → length l ≤ 6 →
+    cond (every isDigit l) (digitsHeld m (suc (length l)) (placeAt (length l) * (b - 48) + byPlaces l)) unfit ≡
+    numberHeld m (b ∷ l)
+unfolding numberHeld byPlaces digitsFit every
+told m b [] d h =
+    let n = placeAt 0 * (b - 48) + 0 in
+    ap (λ (t : Bool). heldAs m (t && not (m && eqb n 0)) n) (le-leb 0 n (omega arith) ∙ sym d)
+told m b (c ∷ l) d h = go (every isDigit (c ∷ l)) refl
+  where
+    p : ℕ
+    p = placeAt (length (c ∷ l))
+
+    n : ℕ
+    n = p * (b - 48) + byPlaces (c ∷ l)
+
+    zero-or-not : every isDigit (c ∷ l) ≡ true → leb p n ≡ (isDigit b && (not (eqb b 48) && true))
+    zero-or-not e = first-tells b (c ∷ l) d h e ∙ rw (d, and-true (not (eqb b 48))) refl
+
+    go : (t : Bool) → every isDigit (c ∷ l) ≡ t →
+        cond t (digitsHeld m (suc (length (c ∷ l))) n) unfit ≡
+        heldAs m ((isDigit b && (not (eqb b 48) && t)) && not (m && eqb n 0)) n
+    go true e = ap (λ (t : Bool). heldAs m (t && not (m && eqb n 0)) n) (zero-or-not e)
+    go false e = simp (d, and-false)
 
 module _ (signed : Bool) where
   bad-stays : (s : Scan) (l : List ℕ) → s .bad ≡ true → scanned signed s l .bad ≡ true
@@ -71,12 +124,12 @@ module _ (signed : Bool) where
   bad-ends : (s : Scan) (l : List ℕ) → s .bad ≡ true → heldOf (scanned signed s l) ≡ unfit
   bad-ends s l h = bad-held (scanned signed s l) (bad-stays s l h)
 
-  digit-step : (p : ℕ) (s : Scan) (b : ℕ) → isDigit b ≡ true → s .bad ≡ false → (s .digit && eqb (s .worth) 0) ≡ false →
-      stepped signed p s b ≡ inDigits (s .negative) (s .worth + p * (b - 48))
+  digit-step : (p : ℕ) (s : Scan) (b : ℕ) → isDigit b ≡ true → s .bad ≡ false →
+      stepped signed p s b ≡ inDigits (s .negative) (s .digits + 1) (s .worth + p * (b - 48))
   unfolding stepped byteWorth
-  digit-step p s b d fine first =
+  digit-step p s b d fine =
       let r = digit-range b d in
-      simp (d, ne-eqb b 32 (omega arith), ne-eqb b 45 (omega arith), and-false, or-false, fine, first, digit-worth b d)
+      simp (d, ne-eqb b 32 (omega arith), ne-eqb b 45 (omega arith), and-false, or-false, fine, digit-worth b d)
 
   -- a byte that is no digit, after another that is no blank
   astray : (p : ℕ) (s : Scan) (b : ℕ) → isDigit b ≡ false → s .seen ≡ true → stepped signed p s b .bad ≡ true
@@ -100,68 +153,41 @@ module _ (signed : Bool) where
   unfolding stepped
   neither p b e m d = simp (d, e, m)
 
-  from-digits : (m : Bool) (n : ℕ) (l : List ℕ) → (n ≡ 0 → ⊥) →
-      heldOf (scanned signed (inDigits m n) l) ≡
-      cond (every isDigit l) (fitting m (n + byPlaces l)) unfit
+  from-digits : (m : Bool) (c n : ℕ) (l : List ℕ) →
+      heldOf (scanned signed (inDigits m c n) l) ≡
+      cond (every isDigit l) (digitsHeld m (c + length l) (n + byPlaces l)) unfit
   unfolding scanned heldOf signedWorth every byPlaces
-  from-digits m n [] some =
+  from-digits m c n [] =
+      let count : c + 0 ≡ c = omega arith in
       let same : n + 0 ≡ n = omega arith in
-      simp (no-zero m n some, same)
-  from-digits m n (b ∷ l) some = go (isDigit b) refl (from-digits m (n + p * (b - 48)) l (λ z. some (omega arith)))
+      rw (count, same)
+  from-digits m c n (b ∷ l) = go (isDigit b) refl (from-digits m (c + 1) (n + p * (b - 48)) l)
     where
       p : ℕ
       p = placeAt (length l)
 
       go : (t : Bool) → isDigit b ≡ t →
-          heldOf (scanned signed (inDigits m (n + p * (b - 48))) l) ≡
-          cond (every isDigit l) (fitting m ((n + p * (b - 48)) + byPlaces l)) unfit →
-          heldOf (scanned signed (stepped signed p (inDigits m n) b) l) ≡
-          cond (t && every isDigit l) (fitting m (n + (p * (b - 48) + byPlaces l))) unfit
+          heldOf (scanned signed (inDigits m (c + 1) (n + p * (b - 48))) l) ≡
+          cond (every isDigit l) (digitsHeld m (c + 1 + length l) ((n + p * (b - 48)) + byPlaces l)) unfit →
+          heldOf (scanned signed (stepped signed p (inDigits m c n) b) l) ≡
+          cond (t && every isDigit l) (digitsHeld m (c + suc (length l)) (n + (p * (b - 48) + byPlaces l))) unfit
       go true d below =
+          let count : c + 1 + length l ≡ c + suc (length l) = omega arith in
           let same : (n + p * (b - 48)) + byPlaces l ≡ n + (p * (b - 48) + byPlaces l) = omega arith in
-          ap (λ (s : Scan). heldOf (scanned signed s l)) (digit-step p (inDigits m n) b d refl (ne-eqb n 0 some))
+          ap (λ (s : Scan). heldOf (scanned signed s l)) (digit-step p (inDigits m c n) b d refl)
           ∙ below
-          ∙ ap (λ (k : ℕ). cond (every isDigit l) (fitting m k) unfit) same
-      go false d below = bad-ends (stepped signed p (inDigits m n) b) l (astray p (inDigits m n) b d refl)
+          ∙ ap₂ (λ (i k : ℕ). cond (every isDigit l) (digitsHeld m i k) unfit) count same
+      go false d below = bad-ends (stepped signed p (inDigits m c n) b) l (astray p (inDigits m c n) b d refl)
 
   -- from the first digit on
-  nonzero-first : (m : Bool) (b : ℕ) (l : List ℕ) → isDigit b ≡ true → (b ≡ 48 → ⊥) →
-      digitsFit (b ∷ l) ≡ every isDigit l
-  unfolding digitsFit every
-  nonzero-first m b [] d some = d
-  nonzero-first m b (c ∷ l) d some = simp (d, ne-eqb b 48 some)
-
-  -- a single 0, or one with bytes after it
-  zero-first : (m : Bool) (l : List ℕ) → heldOf (scanned signed (inDigits m 0) l) ≡ numberHeld m (48 ∷ l)
-  unfolding scanned stepped heldOf signedWorth numberHeld digitsFit byPlaces
-  zero-first true [] = refl
-  zero-first false [] = refl
-  zero-first m (c ∷ l) = bad-ends (stepped signed (placeAt (length l)) (inDigits m 0) c) l refl
-
   first-digit : (m : Bool) (b : ℕ) (l : List ℕ) → length l ≤ 6 → isDigit b ≡ true →
-      heldOf (scanned signed (inDigits m (placeAt (length l) * (b - 48))) l) ≡ numberHeld m (b ∷ l)
-  unfolding numberHeld byPlaces
-  first-digit m b l short d = go (eqb b 48) refl
-    where
-      others : (e : Bool) (n : ℕ) → (n ≡ 0 → ⊥) →
-          cond e (fitting m n) unfit ≡ heldAs m (e && not (m && eqb n 0)) n
-      others true n some = simp (no-zero m n some)
-      others false n some = refl
-
-      n : ℕ
-      n = placeAt (length l) * (b - 48)
-
-      go : (t : Bool) → eqb b 48 ≡ t → heldOf (scanned signed (inDigits m n) l) ≡ numberHeld m (b ∷ l)
-      go true e =
-          let zero : placeAt (length l) * 0 ≡ 0 = omega arith in
-          rw (eqb-true b 48 e) (ap (λ (k : ℕ). heldOf (scanned signed (inDigits m k) l)) zero ∙ zero-first m l)
-      go false e =
-          let r = digit-range b d in
-          let other = eqb-false b 48 e in
-          let some : n ≡ 0 → ⊥ = placed-some (length l) (b - 48) (omega arith) (omega arith) in
-          from-digits m n l some
-          ∙ simp (nonzero-first m b l d other)
-          (others (every isDigit l) (n + byPlaces l) (λ z. some (omega arith)))
+      heldOf (scanned signed (inDigits m 1 (placeAt (length l) * (b - 48))) l) ≡ numberHeld m (b ∷ l)
+  first-digit m b l short d =
+      let n = placeAt (length l) * (b - 48) in
+      let count : 1 + length l ≡ suc (length l) = omega arith in
+      from-digits m 1 n l
+      ∙ ap (λ (c : ℕ). cond (every isDigit l) (digitsHeld m c (n + byPlaces l)) unfit) count
+      ∙ told m b l d short
 
   from-minus : (l : List ℕ) → length l ≤ 7 → heldOf (scanned signed atMinus l) ≡ numberHeld true l
   unfolding scanned heldOf numberHeld digitsFit
@@ -174,7 +200,7 @@ module _ (signed : Bool) where
       go : (t : Bool) → isDigit b ≡ t → heldOf (scanned signed (stepped signed p atMinus b) l) ≡ numberHeld true (b ∷ l)
       go true d =
           let same : 0 + p * (b - 48) ≡ p * (b - 48) = omega arith in
-          ap (λ (s : Scan). heldOf (scanned signed s l)) (digit-step p atMinus b d refl refl ∙ ap (inDigits true) same)
+          ap (λ (s : Scan). heldOf (scanned signed s l)) (digit-step p atMinus b d refl ∙ ap (inDigits true 1) same)
           ∙ first-digit true b l (omega arith) d
       go false d = bad-ends (stepped signed p atMinus b) l (astray p atMinus b d refl) ∙ sym (unfit-first true b l d)
 
@@ -194,7 +220,7 @@ module _ (signed : Bool) where
           ap (λ (s : Scan). heldOf (scanned signed s l)) (minus-step p b m) ∙ from-minus l (omega arith)
       go false m true d =
           let same : 0 + p * (b - 48) ≡ p * (b - 48) = omega arith in
-          ap (λ (s : Scan). heldOf (scanned signed s l)) (digit-step p start b d refl refl ∙ ap (inDigits false) same)
+          ap (λ (s : Scan). heldOf (scanned signed s l)) (digit-step p start b d refl ∙ ap (inDigits false 1) same)
           ∙ first-digit false b l short d
       go false m false d =
           bad-ends (stepped signed p start b) l (neither p b other m d) ∙ sym (unfit-first false b l d)
@@ -233,6 +259,7 @@ module _ (signed : Bool) where
   scan-number l short f =
       let same = scan-holds l short in
       let s = scanned signed start l in
-      let fits : (not (s .bad) && (s .digit && not (s .negative && eqb (s .worth) 0))) ≡ true =
+      let worth = s .worth in
+      let fits : (not (s .bad) && (leb (leastOf (s .digits)) worth && not (s .negative && eqb worth 0))) ≡ true =
       ap (λ (c : Column). c .fits) same ∙ f in
       simp (fits, f) at (ap (λ (c : Column). c .number) same)

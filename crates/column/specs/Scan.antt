@@ -2,11 +2,12 @@
 use Prim.Native.Nat.{ℕ, _+_, _*_, _-_, _%_}
 use mathlib.Core.Bool.{Bool, false, cond, _&&_, _||_, not}
 use mathlib.Core.List.{List, [], _∷_}
-use lib.Dec.{eqb}
+use lib.Dec.{leb, eqb}
 use lib.IntN.{ℤ, pos, negℤ}
-use lib.ListN.{length, take, drop}
+use lib.ListN.{length, getD, take, drop}
+use mir.Val.{boolByte}
 use Rattle.rules.specs.File.{blank, minus, isDigit}
-use Rattle.file_laws.specs.Places.{placeAt}
+use Rattle.file_laws.specs.Places.{placeAt, placeValues}
 use Rattle.column.specs.declared.Column.{Column}
 use Rattle.column.specs.declared.Scan.{Scan}
 
@@ -18,21 +19,26 @@ upTo bytes i e = take (e - i) (drop i bytes)
 unfoldable pub byteWorth : Bool → ℕ → ℕ
 byteWorth isMinus b = cond isMinus 0 (b % 16)
 
+-- the least that so many digits are worth which write a number: 0 is one digit, others do not begin with 0, and what
+-- stands for no digits no scan is worth
+abbrev pub leasts : List ℕ
+leasts = 20000000 ∷ 0 ∷ drop 1 placeValues
+
+abbrev pub leastOf : ℕ → ℕ
+leastOf digits = getD leasts digits 0
+
 -- nothing known yet
 abbrev pub start : Scan
-start = record { seen = false; digit = false; negative = false; bad = false; worth = 0 }
+start = record { seen = false; digits = 0; negative = false; bad = false; worth = 0 }
 
--- one byte more, of this place value: a blank or a minus stands only where no other byte stood before it, a digit not
--- after a single 0
+-- one byte more, of this place value: a blank or a minus stands only where no other byte stood before it
 unfoldable pub stepped : Bool → ℕ → Scan → ℕ → Scan
 stepped signed place s b =
     record {
       seen = not (eqb b blank);
-      digit = isDigit b;
+      digits = s .digits + boolByte (isDigit b);
       negative = s .negative || (signed && eqb b minus);
-      bad = s .bad
-          || ((s .digit && eqb (s .worth) 0) ||
-          (not (isDigit b) && (s .seen || not (eqb b blank || (signed && eqb b minus)))));
+      bad = s .bad || (not (isDigit b) && (s .seen || not (eqb b blank || (signed && eqb b minus))));
       worth = s .worth + place * byteWorth (signed && eqb b minus) b;
     }
 
@@ -48,5 +54,5 @@ signedWorth s = cond (s .negative) (negℤ (pos (s .worth))) (pos (s .worth))
 -- a column that is scanned so
 unfoldable pub heldOf : Scan → Column
 heldOf s =
-    let fits = not (s .bad) && (s .digit && not (s .negative && eqb (s .worth) 0)) in
+    let fits = not (s .bad) && (leb (leastOf (s .digits)) (s .worth) && not (s .negative && eqb (s .worth) 0)) in
     record { fits = fits; number = cond fits (signedWorth s) (pos 0) }

@@ -7,7 +7,7 @@ ghost use lib.ListN.{length};
 ghost use Rattle.rules.specs.File.{columns, columnFits, columnNumber, isSigned, columnBytes, rowBytes};
 ghost use Rattle.file_laws.specs.Places.{placeAt};
 ghost use Rattle.column.specs.Column.{columnHeld};
-ghost use Rattle.column.specs.Scan.{upTo, byteWorth, stepped, start, scanned, signedWorth, heldOf};
+ghost use Rattle.column.specs.Scan.{upTo, byteWorth, leastOf, stepped, start, scanned, signedWorth, heldOf};
 
 // What a column holds: whether it is formed as a number, and the number (0 where it isn't).
 pub struct Column {
@@ -19,8 +19,8 @@ pub struct Column {
 struct Scan {
     // The last byte is no blank.
     seen: bool,
-    // The last byte is a digit.
-    digit: bool,
+    // How many of them are digits.
+    digits: u32,
     // A minus is among them.
     negative: bool,
     // One of them stands where it must not.
@@ -39,6 +39,17 @@ fn place_value(i: usize) -> u32
     PLACES[i]
 }
 
+// The least that so many digits are worth which write a number: 0 is one digit, others do not begin with 0. No scan is
+// worth what stands for no digits.
+const LEAST: [u32; 8] = [20000000, 0, 10, 100, 1000, 10000, 100000, 1000000];
+
+fn least_of(digits: usize) -> u32
+    requires { ⌜ digits < 8 ⌝ }
+    ensures { λ r. ⌜ r ≡ leastOf digits ⌝ }
+{
+    LEAST[digits]
+}
+
 // What a byte is worth as a digit: a blank and a minus nothing.
 fn byte_worth(byte: u8, minus: bool) -> u32
     ensures { λ r. ⌜ r ≡ byteWorth minus byte ⌝ }
@@ -51,19 +62,18 @@ fn byte_worth(byte: u8, minus: bool) -> u32
 
 // One byte more, of this place value.
 fn step(s: Scan, byte: u8, signed: bool, place: u32) -> Scan
-    requires { ⌜ (s .worth < 20000000) × (place ≤ 1000000) ⌝ }
+    requires { ⌜ (s .worth < 20000000) × (s .digits < 7) × (place ≤ 1000000) ⌝ }
     ensures { λ r. ⌜ r ≡ stepped signed place s byte ⌝ }
 {
     let blank = byte == b' ';
     let minus = signed & (byte == b'-');
     let digit = (b'0' <= byte) & (byte <= b'9');
-    let after_zero = s.digit & (s.worth == 0);
     let astray = !digit & (s.seen | !(blank | minus));
     Scan {
         seen: !blank,
-        digit: digit,
+        digits: s.digits + digit as u32,
         negative: s.negative | minus,
-        bad: s.bad | (after_zero | astray),
+        bad: s.bad | astray,
         worth: s.worth + place * byte_worth(byte, minus),
     }
 }
@@ -72,11 +82,11 @@ fn step(s: Scan, byte: u8, signed: bool, place: u32) -> Scan
 fn scan_from(bytes: &[u8], at: usize, end: usize, signed: bool) -> Scan
     requires { ⌜ (at ≤ end) × (end ≤ at + 7) × (end ≤ length (now bytes)) ⌝ }
     ensures { λ r. ⌜ r ≡ scanned signed start (upTo (now (bytes .entry)) at end) ⌝ }
-    ensures { λ r. ⌜ r .worth < 20000000 ⌝ }
+    ensures { λ r. ⌜ (r .worth < 20000000) × (r .digits < 8) ⌝ }
 {
     let mut s = Scan {
         seen: false,
-        digit: false,
+        digits: 0,
         negative: false,
         bad: false,
         worth: 0,
@@ -103,10 +113,11 @@ fn signed_worth(s: Scan) -> i32
 
 // What a column holds by its scan. A minus never stands before 0.
 fn held(s: Scan) -> Column
-    requires { ⌜ s .worth < 20000000 ⌝ }
+    requires { ⌜ (s .worth < 20000000) × (s .digits < 8) ⌝ }
     ensures { λ r. ⌜ r ≡ heldOf s ⌝ }
 {
-    if !(!s.bad & (s.digit & !(s.negative & (s.worth == 0)))) {
+    let least = least_of(s.digits as usize);
+    if !(!s.bad & ((least <= s.worth) & !(s.negative & (s.worth == 0)))) {
         return Column {
             fits: false,
             number: 0,

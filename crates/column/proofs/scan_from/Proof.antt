@@ -9,15 +9,16 @@ use lib.ListN.{length, getD}
 use borrow.Author.Needs.{needs}
 use Rattle.file_laws.specs.Places.{placeAt}
 use Rattle.column.specs.declared.Scan.{Scan}
+use Rattle.rules.specs.File.{isDigit}
 use Rattle.column.specs.Scan.{upTo, byteWorth, stepped, start, scanned}
 use Rattle.column.proofs.Bytes.{none, next, length-upTo, worth-small, place-small, left-most, left-some}
-use Rattle.column.proofs.Bytes.{worth-grows}
+use Rattle.column.proofs.Bytes.{one-most, worth-grows}
 use Rattle.column.proofs.scan_from.Statement.{statement}
 use Rattle.column.proofs.scan_from.Tie as tie
 
 abbrev Inv-loop : tie.InvT-loop
 Inv-loop bytes at end signed s₀ i₀ s i =
-    (at ≤ i) × (i ≤ end) × (s .worth + 2 * 10 ^ (end - i) ≤ 20000000)
+    (at ≤ i) × (i ≤ end) × (s .worth + 2 * 10 ^ (end - i) ≤ 20000000) × (s .digits ≤ i - at)
     × (scanned signed start (upTo bytes at end) ≡ scanned signed s (upTo bytes i end))
 
 abbrev μ-loop : tie.MeasureT-loop
@@ -30,7 +31,7 @@ given c = c .before .before
 loop-holds : tie.Need-loop-holds Inv-loop μ-loop
 loop-holds c =
     let s = c .before .args in
-    (search needs, search needs, omega (arith, left-most (s .end - s .at) (omega arith)), refl)
+    (search needs, search needs, omega (arith, left-most (s .end - s .at) (omega arith)), search needs, refl)
 
 sub-place-value : tie.Need-sub-place-value Inv-loop μ-loop
 sub-place-value c = search needs
@@ -51,6 +52,7 @@ step-requires c κs =
     let s = given at .args in
     let place = c .before .place-value in (
       left-some (l .s .worth) (s .end - l .i) (l .inv .2),
+      omega arith,
       rw (place .ensures) (place-small (s .end - 1 - l .i) (omega arith)),
     )
 
@@ -80,11 +82,13 @@ loop-again c =
     let before : l .s .worth + 2 * 10 ^ suc left ≤ 20000000 =
     subst (λ (r : ℕ). l .s .worth + 2 * 10 ^ r ≤ 20000000) k (l .inv .2) in
     let grown = worth-grows (l .s .worth) (byteWorth m b) left (omega arith) before (worth-small m b) in
+    let counted = ap (λ (x : Scan). x .digits) stepped-is in
     let worth = ap (λ (x : Scan). x .worth) stepped-is in (
       search needs,
       search needs,
       rw (fewer, worth) grown,
-      l .inv .3
+      rw counted (omega (arith, one-most (isDigit b), l .inv .3)),
+      l .inv .4
           ∙ ap (scanned (s .signed) (l .s)) (next bytes (l .i) (s .end) (omega arith) (omega arith))
           ∙ ap
           (λ (n : ℕ). scanned (s .signed) (stepped (s .signed) (placeAt n) (l .s) b) (upTo bytes (l .i + 1) (s .end)))
@@ -98,8 +102,10 @@ returns c =
     let l = c .before .loop in
     let s = c .before .before .before .args in
     let e : l .i ≡ s .end = omega arith in
-    let z : upTo (s .bytes .now) (l .i) (s .end) ≡ [] = rw e (none (s .bytes .now) (s .end)) in
-    (sym (l .inv .3 ∙ ap (scanned (s .signed) (l .s)) z), left-some (l .s .worth) (s .end - l .i) (l .inv .2))
+    let z : upTo (s .bytes .now) (l .i) (s .end) ≡ [] = rw e (none (s .bytes .now) (s .end)) in (
+      sym (l .inv .4 ∙ ap (scanned (s .signed) (l .s)) z),
+      (left-some (l .s .worth) (s .end - l .i) (l .inv .2), omega (arith, l .inv .3)),
+    )
 
 pub scan-from-spec : {M : Type 1} → statement M
 scan-from-spec =
