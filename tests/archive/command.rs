@@ -463,34 +463,18 @@ fn shades_within_tolerances() {
         drift: 3,
         ..STEEP
     };
+    let list = |spread, asked: Asked| beside_the_model(&folder, (3_000, 2_000), spread, asked);
     let (two, three) = (FieldTolerance(2), TrimTolerance(3));
+    list(STEEP, query(64, 100, 60).possibly(two, three));
+    list(near, query(64, 100, 8).surely(two, three));
+    list(drifting, query(64, 16, 9).surely(two, three));
+    list(drifting, query(64, 1, 2).possibly(two, three));
+    let new = query(64, 7, 10).on(Card::New);
+    list(near_with_l, new.surely(two, three));
+    let weighted = new.weights(FieldWeight(2), TrimWeight(3));
+    list(near_with_l, weighted.possibly(two, three));
     let most = (FieldTolerance(500), TrimTolerance(500));
-    let rows = (3_000, 2_000);
-    beside_the_model(
-        &folder,
-        rows,
-        STEEP,
-        query(64, 100, 60).possibly(two, three),
-    );
-    beside_the_model(&folder, rows, near, query(64, 100, 8).surely(two, three));
-    beside_the_model(&folder, rows, drifting, query(64, 16, 9).surely(two, three));
-    beside_the_model(
-        &folder,
-        rows,
-        drifting,
-        query(64, 1, 2).possibly(two, three),
-    );
-    let new = query(64, 7, 10).surely(two, three).on(Card::New);
-    beside_the_model(&folder, rows, near_with_l, new);
-    let weighted = query(64, 7, 3).weights(FieldWeight(2), TrimWeight(3));
-    let new = weighted.possibly(two, three).on(Card::New);
-    beside_the_model(&folder, rows, near_with_l, new);
-    beside_the_model(
-        &folder,
-        rows,
-        STEEP,
-        query(9, 100, 2_000).surely(most.0, most.1),
-    );
+    list(STEEP, query(9, 100, 2_000).surely(most.0, most.1));
 }
 
 #[test]
@@ -818,6 +802,8 @@ fn options_that_are_none() {
         "F T 1 1 5 --surely --surely",
         "F T 1 1 5 --surely 1",
         "F T 1 1 5 --possibly",
+        "--possibly T 1 1 5",
+        "F --possibly 1 1 5",
         "F T 1 1 --tolerance 1,1",
         "F T 1 1 --surely",
         "--surely",

@@ -25,64 +25,49 @@ pub struct Session {
     pub depth: (u32, u32),
 }
 
-/// So many pairs of places are tried for two tables, and not more.
-const MOST_PLACES: u64 = 20_000;
-
 pub struct Tables<'a> {
     pub asked: Asked,
     pub field: &'a [i32],
     pub trim: &'a [i32],
-    /// Whether two rows are near enough: the first field row and each trim row, then the next field row.
-    near: Vec<bool>,
-    /// Whether rows of one shade are.
-    alike_are_near: bool,
 }
 
-impl<'a> Tables<'a> {
-    /// Shades are judged by all their places where these are few, else by the ends of these.
-    pub fn new(asked: impl Into<Asked>, field: &'a [i32], trim: &'a [i32]) -> Tables<'a> {
-        let asked = asked.into();
-        if Tables::are_few_places(asked, field, trim) {
-            Tables::judged_by(asked, field, trim, |x, y| near_by_places(&asked, x, y))
-        } else {
-            Tables::judged_by(asked, field, trim, |x, y| near_by_ends(&asked, x, y))
-        }
-    }
+/// So many pairs of places are tried for two tables, and not more.
+const MOST_PLACES: u64 = 20_000;
 
-    /// Shades are judged so.
-    pub fn judged_by(
-        asked: Asked,
-        field: &'a [i32],
-        trim: &'a [i32],
-        near: impl Fn(&[i32], &[i32]) -> bool,
-    ) -> Tables<'a> {
-        let wide = wide(asked.field_card);
-        let alike = vec![0; wide];
-        let alike_are_near = near(&alike, &alike);
-        let near = field.chunks(wide).flat_map(|x| trim.chunks(wide).map(move |y| (x, y))).map(|(x, y)| near(x, y));
-        Tables { asked, field, trim, near: near.collect(), alike_are_near }
-    }
-
-    /// Whether there are few pairs of places, some row having more than one place.
-    pub fn are_few_places(asked: Asked, field: &[i32], trim: &[i32]) -> bool {
-        let wide = wide(asked.field_card);
-        let rows = (field.len() / wide) as u64 * (trim.len() / wide) as u64;
-        let places = pairs_of_places(&asked);
-        places > 1 && rows.max(1) * places <= MOST_PLACES
-    }
-
-    /// Nothing can qualify where rows of one shade do not.
-    pub fn meets_nothing(&self) -> bool {
-        !self.alike_are_near
-    }
-
+impl<'t> Tables<'t> {
     /// How many numbers a row has: both tables are on one card.
     pub fn wide(&self) -> usize {
         wide(self.asked.field_card)
     }
 
-    fn rows<'b>(&self, t: &'b [i32]) -> impl Iterator<Item = &'b [i32]> {
+    fn rows<'a>(&self, t: &'a [i32]) -> impl Iterator<Item = &'a [i32]> {
         t.chunks(self.wide())
+    }
+
+    /// The field row and the trim row of a pair that the tables have.
+    pub fn rows_of(&self, pair: &Pair) -> (&'t [i32], &'t [i32]) {
+        let row = |t: &'t [i32], i: u32| t.chunks(self.wide()).nth(i as usize - 1).unwrap();
+        (row(self.field, pair.field), row(self.trim, pair.trim))
+    }
+
+    /// Nothing can qualify where rows of one shade do not.
+    pub fn meets_nothing(&self) -> bool {
+        let alike = &[0; 5][..self.wide()];
+        !near_by_ends(&self.asked, alike, alike)
+    }
+
+    /// Whether the places of all shades are few enough to try each with each. They say then of every two rows, and of
+    /// rows of one shade, what is judged here by the ends of them.
+    pub fn judged_by_places(&self) -> bool {
+        let (m, n) = self.counts();
+        let rows = (m as u64 * n as u64).max(1);
+        if rows * pairs_of_places(&self.asked) > MOST_PLACES {
+            return false;
+        }
+        let agree = |x: &[i32], y: &[i32]| near_by_places(&self.asked, x, y) == near_by_ends(&self.asked, x, y);
+        let alike = &[0; 5][..self.wide()];
+        assert!(agree(alike, alike) && self.rows(self.field).all(|x| self.rows(self.trim).all(|y| agree(x, y))));
+        true
     }
 
     /// The weighted sum of a field score and a trim score.
@@ -91,33 +76,23 @@ impl<'a> Tables<'a> {
     }
 
     /// The live ones of the first n rows, with their places.
-    fn live<'b>(&self, t: &'b [i32], n: usize) -> impl Iterator<Item = (usize, &'b [i32])> {
+    fn live<'a>(&self, t: &'a [i32], n: usize) -> impl Iterator<Item = (usize, &'a [i32])> {
         self.rows(t).take(n).enumerate().filter(|(_, row)| !withdrawn(row))
     }
 
-    /// All qualifying pairs of the first p field rows and q trim rows, row by row.
-    fn qualifying(&self, p: usize, q: usize) -> Vec<Pair> {
-        let (mut all, (_, n)) = (Vec::new(), self.counts());
+    /// All qualifying pairs of the first p field rows and q trim rows, highest sum first.
+    pub fn pairs(&self, p: usize, q: usize) -> Vec<Pair> {
+        let mut all = Vec::new();
         for (i, x) in self.live(self.field, p) {
-            for (j, y) in self.live(self.trim, q).filter(|(j, _)| self.near[i * n + j]) {
-                let sum = self.sum(x[1], y[1]);
-                all.push(Pair { sum, field: i as u32 + 1, trim: j as u32 + 1 });
+            for (j, y) in self.live(self.trim, q) {
+                if near_by_ends(&self.asked, x, y) {
+                    let sum = self.sum(x[1], y[1]);
+                    all.push(Pair { sum, field: i as u32 + 1, trim: j as u32 + 1 });
+                }
             }
         }
-        all
-    }
-
-    /// The same, highest sum first.
-    pub fn pairs(&self, p: usize, q: usize) -> Vec<Pair> {
-        let mut all = self.qualifying(p, q);
         all.sort_by_key(|p| std::cmp::Reverse(p.sum));
         all
-    }
-
-    /// The field row and the trim row of a pair that the tables have.
-    pub fn rows_of(&self, pair: &Pair) -> (&'a [i32], &'a [i32]) {
-        let row = |t: &'a [i32], i: u32| t.chunks(self.wide()).nth(i as usize - 1).unwrap();
-        (row(self.field, pair.field), row(self.trim, pair.trim))
     }
 
     pub fn counts(&self) -> (usize, usize) {
@@ -136,6 +111,11 @@ impl<'a> Tables<'a> {
 
     /// Whether reading (p, q) is sure of k, by the closed form.
     pub fn sure(&self, p: usize, q: usize) -> bool {
+        self.sure_among(|| self.pairs(p, q), p, q)
+    }
+
+    /// The same by the qualifying pairs of this reading or of a longer one, which are asked for only where they decide.
+    fn sure_among<P: AsRef<[Pair]>>(&self, pairs: impl FnOnce() -> P, p: usize, q: usize) -> bool {
         let (field_ends, trim_ends) = (self.ends_within(self.field, p), self.ends_within(self.trim, q));
         let is_empty = self.is_empty_by(self.field, p) || self.is_empty_by(self.trim, q);
         if self.meets_nothing() || is_empty || (field_ends && trim_ends) {
@@ -149,14 +129,15 @@ impl<'a> Tables<'a> {
         let trim_part = if trim_ends { 0 } else { unread(0, q - 1) };
         let field_part = if field_ends { 0 } else { unread(p - 1, 0) };
         let ceiling = trim_part.max(field_part);
-        let secured = self.qualifying(p, q).iter().filter(|pair| pair.sum >= ceiling).count();
-        secured >= self.asked.query.k as usize
+        let secured = |pair: &&Pair| pair.field as usize <= p && pair.trim as usize <= q && pair.sum >= ceiling;
+        pairs().as_ref().iter().filter(secured).count() >= self.asked.query.k as usize
     }
 
     /// The least max(p, q) of a sure reading: more rows keep a reading sure.
     pub fn least_sure(&self) -> usize {
         let (m, n) = self.counts();
-        (0..).find(|&d| self.sure(d.min(m), d.min(n))).unwrap()
+        let all = self.pairs(m, n);
+        (0..).find(|&d| self.sure_among(|| &all, d.min(m), d.min(n))).unwrap()
     }
 
     /// The row limit against a sure reading of that max(p, q).
@@ -178,7 +159,7 @@ impl<'a> Tables<'a> {
             if withdrawn(x) || withdrawn(y) {
                 return Some(Fault::Withdrawn);
             }
-            if !self.near[(i - 1) * n + j - 1] {
+            if !near_by_ends(&self.asked, x, y) {
                 return Some(Fault::FarApart);
             }
             if pair.sum != self.sum(x[1], y[1]) {

@@ -7,7 +7,7 @@ use furzeladle_tests::cases::{asked, card, scored, scored_on, table, tie_by_weig
 use furzeladle_tests::judge::{self, Fault, Tables};
 use furzeladle_tests::lent;
 use furzeladle_tests::model::{self, Opening, Reach, Record, Said};
-use furzeladle_tests::places::near_by_places;
+use furzeladle_tests::places::{near_by_ends, near_by_places};
 use std::collections::HashMap;
 
 const CASES: u64 = 120_000;
@@ -133,7 +133,7 @@ impl Totals {
         let (rows, others) = (tables.field.chunks(tables.wide()), tables.trim.chunks(tables.wide()));
         let fewer = rows.clone().any(|x| others.clone().any(|y| lost(x, y)));
         self.with_tolerances += 1;
-        self.judged_by_places += u32::from(Tables::are_few_places(tables.asked, tables.field, tables.trim));
+        self.judged_by_places += u32::from(tables.judged_by_places());
         self.by_tolerance_alone += u32::from(given.iter().any(|pair| gained(tables.rows_of(pair))));
         self.fewer_surely += u32::from(fewer && !tables.meets_nothing());
         self.settled_at_opening += u32::from(tables.meets_nothing());
@@ -275,7 +275,7 @@ fn sessions_beside_the_double_loop() {
     for seed in 0..CASES {
         let mut dice = Dice::new(seed + 1);
         let (asked, field, trim) = some_tables(&mut dice);
-        let tables = Tables::new(asked, &field, &trim);
+        let tables = Tables { asked, field: &field, trim: &trim };
         let orders = [Order::TakeAfterEachRead, Order::ReadsThenTakes, Order::TakesWhilePossible, Order::Random];
         let result = play(&mut dice, &tables, orders[seed as usize % 4], &mut totals);
         let sure = tables.least_sure();
@@ -399,64 +399,36 @@ fn extensions(card: Card, t: &[i32], ended: bool, top: i32, shades: &[i32], most
     all
 }
 
-/// Tables in two shades whose scores are at most a top.
-struct Tiny<'a> {
-    tables: Tables<'a>,
-    top: i32,
-    shades: [i32; 2],
-    near: Near,
+/// Whether all legal tables that begin with these rows have the same list: by extensions, not by the closed form.
+fn sure_by_extensions(tables: &Tables, p: usize, q: usize, top: i32, shades: &[i32]) -> bool {
+    let (m, n) = tables.counts();
+    if m == 0 || n == 0 {
+        return true;
+    }
+    let (wide, card) = (tables.wide(), tables.asked.field_card);
+    let (f, t) = (&tables.field[..wide * p], &tables.trim[..wide * q]);
+    let list = |f: &[i32], t: &[i32]| {
+        let longer = Tables { asked: tables.asked, field: f, trim: t };
+        let mut sums: Vec<u32> = longer.pairs(f.len() / wide, t.len() / wide).iter().map(|p| p.sum).collect();
+        sums.truncate(tables.asked.query.k as usize);
+        sums
+    };
+    let sums = list(f, t);
+    [(2, 1), (1, 2)].iter().all(|&(more, less)| {
+        let fields = extensions(card, f, p == m, top, shades, more);
+        let trims = extensions(card, t, q == n, top, shades, less);
+        fields.iter().all(|x| trims.iter().all(|y| list(x, y) == sums))
+    })
 }
 
-/// Whether rows of each of two shades are near to rows of each.
-type Near = [[bool; 2]; 2];
-
-/// The same by all places of both shades.
-fn near_shades(asked: &Asked, shades: [i32; 2]) -> Near {
+/// Whether rows of each of two shades are near to rows of each, by all their places.
+fn near_shades(asked: Asked, shades: [i32; 2]) -> [[bool; 2]; 2] {
     let row = |shade: i32| {
         let mut row = vec![0; model::wide(asked.field_card)];
         row[shade_at(asked.field_card)] = shade;
         row
     };
-    shades.map(|x| shades.map(|y| near_by_places(asked, &row(x), &row(y))))
-}
-
-/// Of two rows in these shades.
-fn are_near(near: Near, card: Card, shades: [i32; 2], x: &[i32], y: &[i32]) -> bool {
-    let which = |row: &[i32]| usize::from(row[shade_at(card)] == shades[1]);
-    near[which(x)][which(y)]
-}
-
-impl<'a> Tiny<'a> {
-    fn new(asked: Asked, field: &'a [i32], trim: &'a [i32], top: i32, shades: [i32; 2]) -> Tiny<'a> {
-        let near = near_shades(&asked, shades);
-        let tables = Tables::judged_by(asked, field, trim, |x, y| are_near(near, asked.field_card, shades, x, y));
-        Tiny { tables, top, shades, near }
-    }
-
-    /// The sums of two tables' list.
-    fn list(&self, f: &[i32], t: &[i32]) -> Vec<u32> {
-        let (asked, wide) = (self.tables.asked, self.tables.wide());
-        let near = |x: &[i32], y: &[i32]| are_near(self.near, asked.field_card, self.shades, x, y);
-        let tables = Tables::judged_by(asked, f, t, near);
-        let pairs = tables.pairs(f.len() / wide, t.len() / wide);
-        pairs.iter().take(asked.query.k as usize).map(|pair| pair.sum).collect()
-    }
-
-    /// Whether all legal tables that begin with these rows have the same list: by extensions, not by the closed form.
-    fn sure_by_extensions(&self, p: usize, q: usize) -> bool {
-        let (m, n) = self.tables.counts();
-        if m == 0 || n == 0 {
-            return true;
-        }
-        let (wide, card) = (self.tables.wide(), self.tables.asked.field_card);
-        let (f, t) = (&self.tables.field[..wide * p], &self.tables.trim[..wide * q]);
-        let sums = self.list(f, t);
-        [(2, 1), (1, 2)].iter().all(|&(more, less)| {
-            let fields = extensions(card, f, p == m, self.top, &self.shades, more);
-            let trims = extensions(card, t, q == n, self.top, &self.shades, less);
-            fields.iter().all(|x| trims.iter().all(|y| self.list(x, y) == sums))
-        })
-    }
+    shades.map(|x| shades.map(|y| near_by_places(&asked, &row(x), &row(y))))
 }
 
 /// A tiny table from a seed.
@@ -493,32 +465,36 @@ struct TinyTotals {
 }
 
 impl TinyTotals {
-    /// Every reading of the tables, judged by extensions, and the session's depths by each that is sure.
-    fn readings(&mut self, tiny: &Tiny, result: &judge::Session, seed: u64) {
-        let ((m, n), mut least) = (tiny.tables.counts(), usize::MAX);
+    /// Every reading of two tables, judged by extensions: the session's depths by each that is sure.
+    fn readings(&mut self, tables: &Tables, result: &judge::Session, (top, shades): (i32, [i32; 2]), seed: u64) {
+        let ((m, n), mut least) = (tables.counts(), usize::MAX);
         for (p, q) in (0..=m).flat_map(|p| (0..=n).map(move |q| (p, q))) {
-            let sure = tiny.sure_by_extensions(p, q);
-            assert_eq!(sure, tiny.tables.sure(p, q), "seed {seed}, reading ({p}, {q})");
+            let sure = sure_by_extensions(tables, p, q, top, &shades);
+            assert_eq!(sure, tables.sure(p, q), "seed {seed}, reading ({p}, {q})");
             self.readings += 1;
             if sure {
                 self.sure += 1;
                 least = least.min(p.max(q));
-                let limit = tiny.tables.limit(p.max(q));
+                let limit = tables.limit(p.max(q));
                 assert!(result.depth.0 <= limit && result.depth.1 <= limit, "seed {seed}, reading ({p}, {q})");
             }
         }
-        assert_eq!(least, tiny.tables.least_sure());
-        assert_eq!(tiny.tables.judge(result, tiny.tables.limit(least)), None, "seed {seed}");
-        self.exact += u32::from(result.depth.0.max(result.depth.1) == tiny.tables.limit(least));
+        assert_eq!(least, tables.least_sure());
+        assert_eq!(tables.judge(result, tables.limit(least)), None, "seed {seed}");
+        assert!(!tables.meets_nothing() || result.depth == (0, 0), "seed {seed}");
+        self.exact += u32::from(result.depth.0.max(result.depth.1) == tables.limit(least));
     }
 
-    /// Whether tolerances make other shades near, fewer, or none.
-    fn count_shades(&mut self, tiny: &Tiny) {
-        let asked = tiny.tables.asked;
-        let known = near_shades(&asked.possibly(FieldTolerance(0), TrimTolerance(0)), tiny.shades);
-        let beyond_all = tiny.near == [[false; 2]; 2];
-        self.gained += u32::from(!known[0][1] && tiny.near[0][1]);
-        self.lost += u32::from(known[0][1] && !tiny.near[0][1] && !beyond_all);
+    /// Whether tolerances make other shades near, fewer, or none: by all places, which the extensions' rows have too.
+    fn shades(&mut self, asked: Asked, shades: [i32; 2], seed: u64) {
+        let near = near_shades(asked, shades);
+        let rows = shades.map(|shade| next_rows(asked.field_card, Some(0), 0, &[shade]).concat());
+        let by_ends = [0, 1].map(|i| [0, 1].map(|j| near_by_ends(&asked, &rows[i], &rows[j])));
+        assert_eq!(near, by_ends, "seed {seed}");
+        let known = near_shades(asked.possibly(FieldTolerance(0), TrimTolerance(0)), shades);
+        let beyond_all = near == [[false; 2]; 2];
+        self.gained += u32::from(!known[0][1] && near[0][1]);
+        self.lost += u32::from(known[0][1] && !near[0][1] && !beyond_all);
         self.beyond_all += u32::from(beyond_all);
     }
 }
@@ -531,11 +507,10 @@ fn tiny_tables_against_every_sure_reading() {
         let (top, card) = (dice.between(1, 2), card(&mut dice));
         let (shades, plateau) = (dice.pick(&[[0, 7], [0, 3], [0, 2]]), dice.one_in(3));
         let [field, trim] = [(); 2].map(|()| tiny_table(&mut dice, card, top, plateau, shades));
-        let tiny = Tiny::new(tiny_asked(&mut dice, card), &field, &trim, top, shades);
-        let result = play(&mut dice, &tiny.tables, Order::Random, &mut Totals::default());
-        assert!(!tiny.tables.meets_nothing() || result.depth == (0, 0), "seed {seed}");
-        totals.readings(&tiny, &result, seed);
-        totals.count_shades(&tiny);
+        let tables = Tables { asked: tiny_asked(&mut dice, card), field: &field, trim: &trim };
+        let result = play(&mut dice, &tables, Order::Random, &mut Totals::default());
+        totals.readings(&tables, &result, (top, shades), seed);
+        totals.shades(tables.asked, shades, seed);
     }
     println!("{TINY} tiny sessions: {totals:?}");
     assert!(totals.sure > 20_000 && totals.readings - totals.sure > 20_000 && totals.exact > 2_000);
@@ -548,7 +523,7 @@ fn the_judge_reports_wrong_sessions() {
     let field = [1, 9, 0, 0, 2, 8, 0, 0, 3, 1, 50, 0];
     let trim = [1, 7, 0, 0, 2, 5, 0, 0, 3, 2, 50, 0];
     let query = Query { k: 3, block: 2, radius: 5 };
-    let tables = Tables::new(query, &field, &trim);
+    let tables = Tables { asked: query.into(), field: &field, trim: &trim };
     let pair = |sum, field, trim| Pair { sum, field, trim };
     let right = vec![pair(16, 1, 1), pair(15, 2, 1), pair(14, 1, 2)];
     let session = |given: &[Pair], finished, depth| judge::Session { given: given.to_vec(), finished, depth };
@@ -574,16 +549,16 @@ fn the_judge_reports_wrong_sessions() {
     let mut shorter = trim;
     shorter[5] = 0;
     shorter[9] = 0;
-    let withdrawn = Tables::new(query, &field, &shorter);
+    let withdrawn = Tables { trim: &shorter, ..tables };
     assert_eq!(withdrawn.judge(&session(&right[..2], true, (2, 2)), 3), None);
     assert_eq!(withdrawn.judge(&session(&right, true, (2, 2)), 3), Some(Fault::Withdrawn));
     assert_eq!(withdrawn.judge(&session(&right[..1], true, (2, 2)), 3), Some(Fault::FinishedEarly));
-    let tables = Tables::new(query.weights(FieldWeight(1), TrimWeight(3)), &field, &trim);
+    let tables = Tables { asked: query.weights(FieldWeight(1), TrimWeight(3)), ..tables };
     let weighted = [pair(30, 1, 1), pair(29, 2, 1), pair(24, 1, 2)];
     assert_eq!(tables.judge(&session(&weighted, true, (2, 3)), 3), None);
     assert_eq!(tables.judge(&session(&right, true, (2, 3)), 3), Some(Fault::WrongSum));
     let (light, dark) = ([1, 9, 0, 0, 6, 2, 8, 0, 0, 0], [1, 7, 0, 0, 0]);
-    let tables = Tables::new(query.on(Card::New), &light, &dark);
+    let tables = Tables { asked: query.on(Card::New), field: &light, trim: &dark };
     assert_eq!(tables.judge(&session(&[pair(15, 2, 1)], true, (2, 1)), 3), None);
     assert_eq!(tables.judge(&session(&[pair(16, 1, 1)], true, (2, 1)), 3), Some(Fault::FarApart));
 }
@@ -595,7 +570,8 @@ fn the_judge_minds_tolerances() {
     let query = Query { k: 2, block: 1, radius: 5 };
     let pairs = [Pair { sum: 16, field: 1, trim: 1 }, Pair { sum: 15, field: 2, trim: 1 }];
     let session = |given: &[Pair], depth| judge::Session { given: given.to_vec(), finished: true, depth };
-    let fault = |asked: Asked, session: judge::Session, limit| Tables::new(asked, &field, &trim).judge(&session, limit);
+    let tables = |asked: Asked| Tables { asked, field: &field, trim: &trim };
+    let fault = |asked: Asked, session: judge::Session, limit| tables(asked).judge(&session, limit);
     let (none, one) = (FieldTolerance(0), TrimTolerance(1));
     let known = query.possibly(none, TrimTolerance(0));
     assert_eq!(fault(known, session(&pairs[1..], (2, 1)), 2), None);
@@ -607,7 +583,7 @@ fn the_judge_minds_tolerances() {
     assert_eq!(fault(query.surely(none, one), session(&pairs[1..], (2, 1)), 2), Some(Fault::FarApart));
     // equal places may lie 4 and 4 apart: nothing is read
     let beyond = query.surely(FieldTolerance(3), one);
-    let sure = |asked: Asked| Tables::new(asked, &field, &trim).least_sure();
+    let sure = |asked: Asked| tables(asked).least_sure();
     assert_eq!((sure(beyond), sure(query.surely(none, one)), sure(known)), (0, 2, 2));
     assert_eq!(fault(beyond, session(&[], (0, 0)), 0), None);
     assert_eq!(fault(beyond, session(&[], (1, 0)), 0), Some(Fault::TooDeep));
@@ -809,7 +785,7 @@ fn a_withdrawn_first_field_row() {
 fn sure_readings_by_hand() {
     let sure = |field: &[i32], trim: &[i32], p, q| {
         let (field, trim) = (scored(field), scored(trim));
-        Tables::new(over(2, 1), &field, &trim).sure(p, q)
+        Tables { asked: over(2, 1).into(), field: &field, trim: &trim }.sure(p, q)
     };
     let (gone, live) = ([0, 0], [7, 6]);
     assert!(!sure(&gone, &live, 0, 0) && sure(&gone, &live, 1, 0) && !sure(&gone, &live, 0, 1));
@@ -826,7 +802,7 @@ fn sure_readings_by_hand() {
 fn sure_readings_where_nothing_qualifies() {
     let (field, trim) = (scored(&[9, 8]), scored(&[7, 6]));
     let readings = |asked: Asked| {
-        let tables = Tables::new(asked, &field, &trim);
+        let tables = Tables { asked, field: &field, trim: &trim };
         (0..9).map(|i| tables.sure(i / 3, i % 3)).collect::<Vec<_>>()
     };
     let query = Query { k: 1, block: 1, radius: 8 };
