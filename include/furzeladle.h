@@ -30,7 +30,8 @@ enum furzeladle_refusal {
     FURZELADLE_KIND = 10,
     FURZELADLE_SHORT_SLICE = 11,
     FURZELADLE_WEIGHT = 12,
-    FURZELADLE_CARDS = 15
+    FURZELADLE_CARDS = 15,
+    FURZELADLE_TOLERANCE = 16
 };
 
 /* The kinds of tables and of strict files. On the old card a shade is a and b, on the new one a, b and L. */
@@ -76,19 +77,30 @@ int32_t furzeladle_load(const uint8_t *bytes, size_t len, int32_t kind, int32_t 
  * table counts as read out, and as empty if it is the first row. The whole block still counts in the depth.
  *
  * A query is `query_len` numbers: k (1 to 64), block (1 to 1,024), radius (0 to 40,000); then, if they are lent, the
- * field weight and the trim weight (1 to 9 each), and behind them the kinds of the field table (1 or 3) and of the trim
- * table (2 or 4). A weight that is not lent is 1, a kind that is not lent the old card's: k, block and radius alone ask
- * for weights 1 and 1 over tables of kinds 1 and 2. A pair's sum is field weight × score of its field row + trim weight
- * × score of its trim row, at most 179,982.
+ * field weight and the trim weight (1 to 9 each), the kinds of the field table (1 or 3) and of the trim table (2 or 4),
+ * and behind them the field tolerance and the trim tolerance (0 to 500 each) and the meaning. A weight that is not lent
+ * is 1, a kind the old card's, a tolerance 0: k, block and radius alone ask for weights 1 and 1 over tables of kinds 1
+ * and 2 whose shades are known. A pair's sum is field weight × score of its field row + trim weight × score of its trim
+ * row, at most 179,982.
  *
- * How many numbers it has at least, with both weights, and with both kinds. FURZELADLE_QUERY_MOST is from before there
- * were kinds and stands: who lends a query of that size asks about the old card, as ever. */
-enum { FURZELADLE_QUERY_LEAST = 3, FURZELADLE_QUERY_MOST = 5, FURZELADLE_QUERY_ALL = 7 };
+ * With tolerances a shade may lie anywhere within its table's, on every coordinate. A pair qualifies possibly if some
+ * such places of its two shades lie within the radius, surely if all do. The meaning FURZELADLE_POSSIBLY asks for the
+ * first, every other number for the second; without tolerances they are the same. A surely query that no two shades
+ * can meet is settled as it opens: nothing is read, and the list is empty.
+ *
+ * How many numbers it has at least, with both weights, and in all. FURZELADLE_QUERY_MOST is from before there were
+ * kinds and stands: who lends a query of that size asks about the old card, as ever. FURZELADLE_QUERY_ALL grew from 7:
+ * zeros behind the kinds ask for what was asked without them. */
+enum { FURZELADLE_QUERY_LEAST = 3, FURZELADLE_QUERY_MOST = 5, FURZELADLE_QUERY_ALL = 10 };
+
+/* What is made of tolerances. */
+enum furzeladle_meaning { FURZELADLE_POSSIBLY = 0, FURZELADLE_SURELY = 1 };
 
 /* A session's record is FURZELADLE_RECORD_SIZE numbers that belong to the caller. It may be kept, copied, stored and
- * taken up again later. Any numbers may come in: a record that no session can have is refused by 5. One of 206 numbers,
- * stored before there were cards, goes on once FURZELADLE_OLD_CARD is written behind them; one of 204, stored before
- * there were weights, once 1, 1 and FURZELADLE_OLD_CARD are. */
+ * taken up again later. Any numbers may come in: a record that no session can have is refused by 5. One of 207 numbers,
+ * stored before there were tolerances, goes on once three zeros are written behind them; one of 206, stored before there
+ * were cards, once FURZELADLE_OLD_CARD and three zeros are; one of 204, stored before there were weights, once 1, 1,
+ * FURZELADLE_OLD_CARD and three zeros are. */
 enum furzeladle_record {
     FURZELADLE_K = 0,           /* the query: list length, 1 to 64 */
     FURZELADLE_BLOCK_ROWS = 1,  /* block size in rows, 1 to 1,024 */
@@ -106,7 +118,10 @@ enum furzeladle_record {
     FURZELADLE_FIELD_WEIGHT = 204, /* the query's weights, 1 to 9 */
     FURZELADLE_TRIM_WEIGHT = 205,
     FURZELADLE_CARD = 206,         /* the card of both tables, 2 or 3 */
-    FURZELADLE_RECORD_SIZE = 207
+    FURZELADLE_FIELD_TOLERANCE = 207, /* the query's tolerances, 0 to 500 */
+    FURZELADLE_TRIM_TOLERANCE = 208,
+    FURZELADLE_MEANING = 209,         /* and its meaning: 0 possibly, any other number surely */
+    FURZELADLE_RECORD_SIZE = 210
 };
 
 /* The numbers of a pair and of a place, below. */
@@ -125,7 +140,7 @@ enum furzeladle_answer {
  * be seen then. A refused call changes nothing that is lent. Numbers behind those named here stay unread and unchanged.
  */
 
-/* Opens a session of a query. Refused by 1, 2, 3, 12; by 10 where a kind is not the field table's or not the trim
+/* Opens a session of a query. Refused by 1, 2, 3, 12, 16; by 10 where a kind is not the field table's or not the trim
  * table's; by 4, each table counted by its own kind's row; by 15 where the two are on different cards; in this order.
  * Then `session` is as it was, so that a record that stood there is not lost, and one that was never written holds
  * whatever the caller put there. */
@@ -152,10 +167,11 @@ int32_t furzeladle_show(const int32_t *f, size_t f_len, const int32_t *t, size_t
  *
  * `query` is as at opening. From the front of `out`: field rows read, trim rows read, block pairs joined; then six
  * numbers a pair, best first: sum, field row, trim row (from 1), field pattern number, trim pattern number, squared
- * distance. The answer is how many pairs there are (0 to 64), or minus the refusal: first 11, fewer than
- * FURZELADLE_QUERY_LEAST numbers of a query; 1, 2, 3, 12, 10, 4, 15 at opening; 6 or 7 of a row that was read; and 11
- * for the place of the answer comes last, fewer than FURZELADLE_QUERY_SIZE lent. Refused, `out` is as it was; accepted,
- * so are the numbers behind the last pair. Rows that were not read were not looked at.
+ * distance (of the shades as the tables have them, whatever the tolerances). The answer is how many pairs there are (0
+ * to 64), or minus the refusal: first 11, fewer than FURZELADLE_QUERY_LEAST numbers of a query; 1, 2, 3, 12, 16, 10, 4,
+ * 15 at opening; 6 or 7 of a row that was read; and 11 for the place of the answer comes last, fewer than
+ * FURZELADLE_QUERY_SIZE lent. Refused, `out` is as it was; accepted, so are the numbers behind the last pair. Rows that
+ * were not read were not looked at.
  *
  * Who lends FURZELADLE_ROOTS_SIZE numbers or more gets each pair's distance as well, from number FURZELADLE_ROOTS on,
  * behind the places of 64 pairs: two numbers a pair, the root of the squared distance and the remainder (below). */
@@ -164,8 +180,8 @@ enum { FURZELADLE_QUERY_SIZE = 387, FURZELADLE_ROOTS = 387, FURZELADLE_ROOTS_SIZ
 int32_t furzeladle_query(const uint32_t *query, size_t query_len, const int32_t *f, size_t f_len, const int32_t *t,
                          size_t t_len, uint64_t *out, size_t out_len);
 
-/* The same query, its listing as the pairing program prints it, weights and kinds left out: how many bytes, or minus
- * the refusal. 11 for the place of the answer, last, is fewer than FURZELADLE_LISTING_SIZE bytes lent. */
+/* The same query, its listing as the pairing program prints it, k, block and radius alone at its head: how many bytes,
+ * or minus the refusal. 11 for the place of the answer, last, is fewer than FURZELADLE_LISTING_SIZE bytes lent. */
 enum { FURZELADLE_LISTING_SIZE = 2668 };
 
 int32_t furzeladle_listing(const uint32_t *query, size_t query_len, const int32_t *f, size_t f_len, const int32_t *t,

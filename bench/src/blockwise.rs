@@ -3,8 +3,8 @@ use crate::checks::{call_fits, rows_legal};
 use crate::held::Held;
 use crate::outcome::Outcome;
 use crate::rectangle::Rectangle;
-use crate::rows::{count, live_end, near, part, score, square};
-use furzeladle::{Asked, Pair, Query};
+use crate::rows::{count, live_end, near, near_faded, part, score, square, Faded};
+use furzeladle::{Asked, Meaning, Pair, Query};
 
 /// Which checks the join makes.
 #[derive(Clone, Copy, PartialEq)]
@@ -20,6 +20,9 @@ pub struct Join<'a, const W: usize> {
     pub query: Query,
     /// Of the field table, then of the trim table.
     pub weights: [u32; 2],
+    pub tolerances: [u32; 2],
+    pub meaning: Meaning,
+    faded: Option<Faded>,
     pub tables: [&'a [i32]; 2],
     /// The number of a shade's coordinates.
     pub card: u32,
@@ -38,6 +41,9 @@ impl<'a, const W: usize> Join<'a, W> {
         Join {
             query: asked.query,
             weights: [asked.field_weight.0, asked.trim_weight.0],
+            tolerances: [asked.field_tolerance.0, asked.trim_tolerance.0],
+            meaning: asked.meaning,
+            faded: Faded::of(asked),
             tables: [field, trim],
             card: W as u32 - 2,
             rows: [count::<W>(field), count::<W>(trim)],
@@ -74,6 +80,17 @@ impl<'a, const W: usize> Join<'a, W> {
         empty(0) || empty(1)
     }
 
+    /// Both tolerances added.
+    fn tolerance(&self) -> u32 {
+        self.tolerances[0] + self.tolerances[1]
+    }
+
+    /// A surely query that not even equal shades meet.
+    pub fn nothing_qualifies(&self) -> bool {
+        let (t, r) = (self.tolerance(), self.query.radius);
+        self.meaning == Meaning::Surely && self.card * t * t > r * r
+    }
+
     fn secured(&self, sum: u32) -> bool {
         let part = |i: usize| {
             if self.read_out(i) {
@@ -89,7 +106,8 @@ impl<'a, const W: usize> Join<'a, W> {
 
     fn settled(&self) -> bool {
         let lowest = self.held.pairs().last();
-        self.a_table_is_empty()
+        self.nothing_qualifies()
+            || self.a_table_is_empty()
             || (self.read_out(0) && self.read_out(1))
             || self.out == self.query.k
             || (self.held.is_full() && lowest.is_some_and(|p| self.secured(p.sum)))
@@ -106,15 +124,20 @@ impl<'a, const W: usize> Join<'a, W> {
         usize::from((drop(1), self.depths[1]) < (drop(0), self.depths[0]))
     }
 
-    /// Joins live field rows and trim rows, each from one number to before another.
-    fn join(&mut self, [f, f_end]: [u32; 2], [t, t_end]: [u32; 2]) {
-        let square = square(self.query);
+    /// Joins live field rows and trim rows, each from one number to before another, where this test passes.
+    #[inline]
+    fn join_by(
+        &mut self,
+        [f, f_end]: [u32; 2],
+        [t, t_end]: [u32; 2],
+        near: impl Fn(&[i32], &[i32]) -> bool,
+    ) {
         let [v, w] = self.weights.map(|weight| weight as i32);
         let x = part::<W>(self.tables[0], f, f_end);
         let y = part::<W>(self.tables[1], t, t_end);
         for (i, r) in x.chunks_exact(W).enumerate() {
             for (j, s) in y.chunks_exact(W).enumerate() {
-                if near::<W>(r, s, square) {
+                if near(r, s) {
                     let sum = (v * r[1] + w * s[1]) as u32;
                     let (field, trim) = (f + i as u32 + 1, t + j as u32 + 1);
                     self.held.put(Pair { sum, field, trim });
@@ -125,6 +148,15 @@ impl<'a, const W: usize> Join<'a, W> {
         self.tests += u64::from(f_end - f) * u64::from(t_end - t);
     }
 
+    /// Joins them by the query's test, chosen once.
+    fn join(&mut self, f: [u32; 2], t: [u32; 2]) {
+        let square = square(self.query);
+        match self.faded {
+            None => self.join_by(f, t, |r, s| near::<W>(r, s, square)),
+            Some(faded) => self.join_by(f, t, |r, s| near_faded::<W>(r, s, square, faded)),
+        }
+    }
+
     /// Meets the blocks already read of the other table with rows of a new block. Where the live rows end is found once
     /// for each table; a block pair without any is joined all the same, unless it is low or far.
     fn meet(&mut self, new: usize, from: u32, to: u32) {
@@ -132,13 +164,13 @@ impl<'a, const W: usize> Join<'a, W> {
         let new_end = live_end::<W>(self.tables[new], from, to);
         let old_end = live_end::<W>(self.tables[old], 0, self.depths[old]);
         let sides = Rectangle::of::<W>(part::<W>(self.tables[new], from, to));
-        let square = square(self.query);
+        let (square, tolerance) = (square(self.query), self.tolerance() as i32);
         let mut start = 0;
         while start < self.depths[old] {
             let end = (start + self.query.block).min(self.depths[old]);
             let first = self.worth(new, from) + self.worth(old, start);
             let block = part::<W>(self.tables[old], start, end);
-            if first as i32 >= self.held.bound() && !sides.is_far::<W>(block, square) {
+            if first as i32 >= self.held.bound() && !sides.is_far::<W>(block, square, tolerance) {
                 let (here, there) = ([from, new_end], [start, end.min(old_end).max(start)]);
                 let (f, t) = if new == 0 {
                     (here, there)

@@ -31,6 +31,7 @@ fn query_fits<const W: usize>(join: &Join<W>) -> bool {
         && (1..=1_024).contains(&q.block)
         && q.radius <= 40_000
         && join.weights.iter().all(|w| (1..=9).contains(w))
+        && join.tolerances.iter().all(|t| *t <= 500)
 }
 
 fn depth_fits(block: u32, rows: u32, depth: u32) -> bool {
@@ -68,6 +69,7 @@ fn record_fits<const W: usize>(join: &Join<W>) -> bool {
         && held_fits(join)
         && mark_fits(join)
         && join.joined <= blocks(join.depths[0]) * blocks(join.depths[1])
+        && (join.depths == [0; 2] || !join.nothing_qualifies())
 }
 
 fn table_fits<const W: usize>(t: &[i32], rows: u32, depth: u32) -> bool {

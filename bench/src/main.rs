@@ -26,6 +26,7 @@ mod suite;
 mod sure;
 mod sweep;
 mod tables;
+mod tolerances;
 
 /// Measures a section and prints its tables.
 fn section(section: &suite::Section, seeds: u64) -> Vec<Measured> {
@@ -82,17 +83,20 @@ fn main() {
         ["files"] => files::run(),
         ["calls"] => calls::run(),
         ["roots"] => roots::run(),
+        ["tolerances"] => tolerances::run(),
         ["short", plot_to] => queries(false, 3, plot_to),
         ["full", plot_to] => queries(true, 5, plot_to),
         _ => {
-            eprintln!("usage: bench/run [short|full|files|calls|roots]");
+            eprintln!("usage: bench/run [short|full|files|calls|roots|tolerances]");
             eprintln!(
-                "   or: bench/run profile CONTENDER RADIUS K BLOCK RUNS [new] [drifting|apart]"
+                "   or: bench/run profile CONTENDER RADIUS K BLOCK RUNS [new] [drifting|apart] [surely|possibly T]"
             );
             std::process::exit(2);
         }
     }
     if matches!(words[0], "short" | "full") {
+        println!("\n## Tolerances\n");
+        tolerances::run();
         println!("\n## Files of 65,535 rows\n");
         files::run();
         println!("\n## A read of a settled session\n");

@@ -21,20 +21,20 @@ impl Rectangle {
         sides
     }
 
-    /// The square of how far apart two lie.
+    /// The square of how far apart two lie, each gap lowered by the tolerances.
     #[inline]
-    fn square_to<const W: usize>(&self, other: &Rectangle) -> i32 {
+    fn square_to<const W: usize>(&self, other: &Rectangle, tolerance: i32) -> i32 {
         let gap = |i: usize| {
             let (above, below) = (other.low[i] - self.high[i], self.low[i] - other.high[i]);
-            above.max(below).max(0)
+            (above.max(below) - tolerance).max(0)
         };
         (0..W - 2).map(|i| gap(i) * gap(i)).sum()
     }
 
     /// Whether a block lies farther off than the radius, whose square is given. Where its first row does not, it does not.
     #[inline]
-    pub fn is_far<const W: usize>(&self, block: &[i32], square: i32) -> bool {
-        let far = |rows: &[i32]| self.square_to::<W>(&Rectangle::of::<W>(rows)) > square;
+    pub fn is_far<const W: usize>(&self, block: &[i32], square: i32, tolerance: i32) -> bool {
+        let far = |rows: &[i32]| self.square_to::<W>(&Rectangle::of::<W>(rows), tolerance) > square;
         far(&block[..W]) && (block.len() == W || far(block))
     }
 }

@@ -32,10 +32,14 @@ fn schoolbook(n: u64) -> u64 {
 fn numbers(bits: u32) -> Vec<u64> {
     let mut state = u64::from(bits);
     let mut next = || {
-        state = state.wrapping_mul(6364136223846793005).wrapping_add(1442695040888963407);
+        state = state
+            .wrapping_mul(6364136223846793005)
+            .wrapping_add(1442695040888963407);
         state ^ (state >> 29)
     };
-    (0..NUMBERS).map(|_| (next() | 1 << 63) >> (64 - bits)).collect()
+    (0..NUMBERS)
+        .map(|_| (next() | 1 << 63) >> (64 - bits))
+        .collect()
 }
 
 /// Nanoseconds of one of many roots, the least of several rounds, each by the one and the others in turn.
@@ -67,6 +71,10 @@ pub fn run() {
     println!("|---|---|---|---|");
     for bits in [8, 12, 16, 20, 26, 31, 32, 33, 48, 64] {
         let [ours, std, school] = ns_a_root(&numbers(bits));
-        println!("| {bits} | {ours:.1} | {:.2} | {:.2} |", ours / std, ours / school);
+        println!(
+            "| {bits} | {ours:.1} | {:.2} | {:.2} |",
+            ours / std,
+            ours / school
+        );
     }
 }

@@ -1,6 +1,6 @@
 //! Rows of a table as the baselines read them, numbered from 0 here. W is how many numbers a row has: 4, or 5 on the
 //! new card.
-use furzeladle::Query;
+use furzeladle::{Asked, Meaning, Query};
 
 pub fn count<const W: usize>(t: &[i32]) -> u32 {
     (t.len() / W) as u32
@@ -33,5 +33,31 @@ pub fn square(query: Query) -> i32 {
 #[inline]
 pub fn near<const W: usize>(x: &[i32], y: &[i32], square: i32) -> bool {
     let gap = |i: usize| x[i] - y[i];
+    (2..W).map(|i| gap(i) * gap(i)).sum::<i32>() <= square
+}
+
+/// How much a coordinate's difference is raised, then lowered, before it counts: by both tolerances added.
+#[derive(Clone, Copy)]
+pub struct Faded {
+    pub more: i32,
+    pub less: i32,
+}
+
+impl Faded {
+    /// None where there are no tolerances.
+    pub fn of(asked: Asked) -> Option<Faded> {
+        let t = (asked.field_tolerance.0 + asked.trim_tolerance.0) as i32;
+        let (more, less) = match asked.meaning {
+            Meaning::Surely => (t, 0),
+            Meaning::Possibly => (0, t),
+        };
+        (t > 0).then_some(Faded { more, less })
+    }
+}
+
+/// The same with tolerances.
+#[inline]
+pub fn near_faded<const W: usize>(x: &[i32], y: &[i32], square: i32, faded: Faded) -> bool {
+    let gap = |i: usize| ((x[i] - y[i]).abs() + faded.more - faded.less).max(0);
     (2..W).map(|i| gap(i) * gap(i)).sum::<i32>() <= square
 }

@@ -1,6 +1,6 @@
-//! The archive's command: beside the pairing program's stored cases, beside its own with weights, and beyond 512 rows
-//! and on the new card beside the model.
-use furzeladle::{Asked, Card, FieldWeight, Query, TrimWeight};
+//! The archive's command: beside the pairing program's stored cases, beside its own with weights and with tolerances,
+//! and beyond 512 rows and on the new card beside the model.
+use furzeladle::{Asked, Card, FieldTolerance, FieldWeight, Query, TrimTolerance, TrimWeight};
 use furzeladle_tests::cases::{table, Dice, Light, Spread};
 use furzeladle_tests::model::{self, Opening, Said};
 use furzeladle_tests::{file, spelled};
@@ -169,23 +169,23 @@ fn files(case: &Path) -> [PathBuf; 2] {
     ["FIELD.TAB", "TRIM.TAB"].map(|name| case.join(name))
 }
 
-/// A case of the program. Weights 1 and 1, given as well, change nothing.
+/// A case of the program. Weights 1 and 1, or tolerances 0 and 0, given as well, change nothing.
 fn stored_case(case: &Path) -> Used {
     let files = files(case);
     let numbers = query_numbers(&fs::read(case.join("stdin")).unwrap());
     let (Some(numbers), true) = (numbers, files.iter().all(|f| f.exists())) else {
         return Used::NotForTheCommand;
     };
-    let ones = [numbers.as_slice(), &["1", "1"].map(String::from)].concat();
-    assert_eq!(
-        pair(&files[0], &files[1], &ones),
-        pair(&files[0], &files[1], &numbers)
-    );
+    let alone = pair(&files[0], &files[1], &numbers);
+    for more in [["1", "1"], ["--tolerance", "0,0"]] {
+        let given = [numbers.as_slice(), &more.map(String::from)].concat();
+        assert_eq!(pair(&files[0], &files[1], &given), alone);
+    }
     answered(case, &numbers)
 }
 
-/// A case with weights, whose numbers stand in args.
-fn weighted_case(case: &Path) -> Used {
+/// A case with weights or tolerances, which stand in args with its other numbers.
+fn case_with_arguments(case: &Path) -> Used {
     let numbers = fs::read_to_string(case.join("args")).unwrap();
     let numbers: Vec<String> = numbers.split_whitespace().map(String::from).collect();
     answered(case, &numbers)
@@ -246,12 +246,30 @@ fn stored_cases() {
 
 #[test]
 fn stored_cases_with_weights() {
-    let used = all_of("weights", weighted_case);
+    let used = all_of("weights", case_with_arguments);
     let count = |wanted| used.iter().filter(|u| **u == wanted).count();
     assert!(count(Used::Listed) >= 8 && count(Used::Refused) >= 3);
     let [ones, program] = ["weights/ones", "cases/ties-plateau"]
         .map(|case| fs::read(tests().join(case).join("stdout")).unwrap());
     assert_eq!(ones, program);
+}
+
+#[test]
+fn stored_cases_with_tolerances() {
+    let used = all_of("tolerances", case_with_arguments);
+    let count = |wanted| used.iter().filter(|u| **u == wanted).count();
+    assert!(count(Used::Listed) >= 20 && count(Used::Refused) >= 5);
+    let stdout = |case: &str| fs::read(tests().join(case).join("stdout")).unwrap();
+    for (faded, program) in [
+        ("zeros", "ties-plateau"),
+        ("zeros-surely", "ties-plateau"),
+        ("surely-alone", "worked"),
+    ] {
+        assert_eq!(
+            stdout(&format!("tolerances/{faded}")),
+            stdout(&format!("cases/{program}"))
+        );
+    }
 }
 
 /// A folder of this test's own, gone when it ends.
@@ -289,10 +307,18 @@ fn rows<const N: usize>(t: &[i32]) -> Vec<[i32; N]> {
     t.chunks(N).map(|row| row.try_into().unwrap()).collect()
 }
 
-/// The command's numbers: three and the weights.
+/// The command's numbers: three and the weights; and its options, where they are not the defaults.
 fn numbers(asked: Asked) -> Vec<String> {
     let lent = Opening::from(asked).numbers();
-    lent[..5].iter().map(|n| n.to_string()).collect()
+    let mut given: Vec<String> = lent[..5].iter().map(|n| n.to_string()).collect();
+    let [t, u, meaning] = [7, 8, 9].map(|at| lent[at]);
+    if [t, u] != [0, 0] {
+        given.extend(["--tolerance".to_string(), format!("{t},{u}")]);
+    }
+    if meaning == 1 {
+        given.push("--surely".to_string());
+    }
+    given
 }
 
 fn query(k: u32, block: u32, radius: u32) -> Query {
@@ -418,6 +444,37 @@ fn drifting_shades() {
     beside_the_model(&folder, (3_000, 2_000), drifting, weighted);
     let new = query(64, 16, 0).on(Card::New);
     beside_the_model(&folder, (3_000, 2_000), by_light, new);
+}
+
+/// Tolerances over many rows, on both cards, with either meaning and with weights.
+#[test]
+fn shades_within_tolerances() {
+    let folder = Folder::new("tolerances");
+    let near = Spread {
+        shades: 60,
+        ..STEEP
+    };
+    let near_with_l = Spread {
+        shades: 60,
+        ..STEEP_WITH_L
+    };
+    let drifting = Spread {
+        shades: 200,
+        drift: 3,
+        ..STEEP
+    };
+    let list = |spread, asked: Asked| beside_the_model(&folder, (3_000, 2_000), spread, asked);
+    let (two, three) = (FieldTolerance(2), TrimTolerance(3));
+    list(STEEP, query(64, 100, 60).possibly(two, three));
+    list(near, query(64, 100, 8).surely(two, three));
+    list(drifting, query(64, 16, 9).surely(two, three));
+    list(drifting, query(64, 1, 2).possibly(two, three));
+    let new = query(64, 7, 10).on(Card::New);
+    list(near_with_l, new.surely(two, three));
+    let weighted = new.weights(FieldWeight(2), TrimWeight(3));
+    list(near_with_l, weighted.possibly(two, three));
+    let most = (FieldTolerance(500), TrimTolerance(500));
+    list(STEEP, query(9, 100, 2_000).surely(most.0, most.1));
 }
 
 #[test]
@@ -656,6 +713,105 @@ fn numbers_outside_their_range() {
         words(&output),
         "furzeladle: query: refused by 12, weight: a weight outside 1 to 9\n"
     );
+}
+
+/// 16 comes after 12 and before 15, and after the files' refusals.
+#[test]
+fn tolerances_outside_their_range() {
+    let folder = Folder::new("outside");
+    let (field, trim) = (strict(1, &[1, 5, 0, 0]), strict(2, &[1, 5, 0, 0]));
+    let huge = format!("0,{}", "9".repeat(60));
+    for outside in ["501,0", "0,501", "-1,0", "0,-1", "4294967296,0", &huge] {
+        let given = ["1", "1", "0", "--tolerance", outside];
+        let output = paired(&folder, &field, &trim, &given);
+        assert_refused(&output, 16, "query: ", outside);
+        assert_eq!(
+            words(&output),
+            "furzeladle: query: refused by 16, tolerance: a tolerance outside 0 to 500\n"
+        );
+        let surely = [&given[..], &["--surely"]].concat();
+        assert_refused(&paired(&folder, &field, &trim, &surely), 16, "", outside);
+        let heavy = ["1", "1", "0", "1", "10", "--tolerance", outside];
+        assert_refused(&paired(&folder, &field, &trim, &heavy), 12, "", outside);
+        let other_card = strict(4, &[1, 5, 0, 0, 0]);
+        assert_refused(
+            &paired(&folder, &field, &other_card, &given),
+            16,
+            "",
+            outside,
+        );
+        assert_refused(
+            &paired(&folder, &trim, &trim, &given),
+            10,
+            "FIELD.TAB: ",
+            outside,
+        );
+    }
+    let most = ["1", "1", "0", "--tolerance", "500,500"];
+    assert_eq!(paired(&folder, &field, &trim, &most).status.code(), Some(0));
+}
+
+/// Options stand anywhere, and in any order; a meaning needs no tolerances.
+#[test]
+fn options_between_the_numbers() {
+    let folder = Folder::new("options");
+    let field = folder.file("FIELD.TAB", &strict(1, &[1, 5, 0, 0]));
+    let trim = folder.file("TRIM.TAB", &strict(2, &[2, 4, 3, 4]));
+    let word = |word: &str| match word {
+        "F" => field.clone().into_os_string(),
+        "T" => trim.clone().into_os_string(),
+        _ => word.into(),
+    };
+    let list = |given: &str| {
+        let output = run(&given.split(' ').map(word).collect::<Vec<_>>());
+        assert_eq!(output.status.code(), Some(0), "{given}");
+        String::from_utf8(output.stdout).unwrap()
+    };
+    let pairs = |given: &str| list(given).lines().count() - 2;
+    let wanted = list("F T 1 1 8 1 1 --tolerance 1,1 --surely");
+    assert_eq!(list("--surely --tolerance 1,1 F T 1 1 8 1 1"), wanted);
+    assert_eq!(list("F --tolerance 1,1 T 1 1 8 --surely 1 1"), wanted);
+    // 5 and 6 apart at the farthest, 1 and 2 at the nearest
+    assert_eq!(pairs("F T 1 1 8 --tolerance 1,1 --surely"), 1);
+    assert_eq!(pairs("F T 1 1 7 --tolerance 1,1 --surely"), 0);
+    assert_eq!(pairs("F T 1 1 3 --tolerance 1,1"), 1);
+    assert_eq!(pairs("F T 1 1 3 --tolerance 2,0"), 1);
+    assert_eq!(pairs("F T 1 1 2 --tolerance 0,2"), 0);
+    assert_eq!(pairs("F T 1 1 5 --surely"), 1);
+    assert_eq!(pairs("F T 1 1 5"), 1);
+}
+
+/// Options that are unknown, given twice or lack their numbers, and numbers that are missing beside them.
+#[test]
+fn options_that_are_none() {
+    for given in [
+        "F T 1 1 5 --tolerance",
+        "F T 1 1 5 --tolerance 1",
+        "F T 1 1 5 --tolerance 1 1",
+        "F T 1 1 5 --tolerance 1,",
+        "F T 1 1 5 --tolerance ,1",
+        "F T 1 1 5 --tolerance ,",
+        "F T 1 1 5 --tolerance 1,1,1",
+        "F T 1 1 5 --tolerance 1, 1",
+        "F T 1 1 5 --tolerance 1,one",
+        "F T 1 1 5 --tolerance +1,1",
+        "F T 1 1 5 --tolerance 1.5,1",
+        "F T 1 1 5 --tolerance --surely",
+        "F T 1 1 5 --tolerance=1,1",
+        "F T 1 1 5 --tolerance 1,1 --tolerance 1,1",
+        "F T 1 1 5 --surely --surely",
+        "F T 1 1 5 --surely 1",
+        "F T 1 1 5 --possibly",
+        "--possibly T 1 1 5",
+        "F --possibly 1 1 5",
+        "F T 1 1 --tolerance 1,1",
+        "F T 1 1 --surely",
+        "--surely",
+    ] {
+        let output = run(&given.split(' ').collect::<Vec<_>>());
+        assert_eq!(output.status.code(), Some(2), "{given}");
+        assert!(output.stdout.is_empty() && words(&output).starts_with("usage: furzeladle "));
+    }
 }
 
 #[test]

@@ -1,8 +1,8 @@
 /* How often a call copies the session's record: the linker hands every memcpy and memmove of the library to the
- * counters below (--wrap). A record is 832 bytes, its pair places 768, their keys 512; nothing else that is copied is
+ * counters below (--wrap). A record is 840 bytes, its pair places 768, their keys 512; nothing else that is copied is
  * as long. It prints the counts; exit status 0: some were counted, and none is above what is written here. A call
  * copies the record once as it comes in and once as it goes back, whatever it does between; laying it out flat for C,
- * where it changed, is a third copy. The counts are the same on both cards. */
+ * where it changed, is a third copy. The counts are the same on both cards, and with tolerances. */
 #include <stdio.h>
 #include <string.h>
 
@@ -35,6 +35,9 @@ static int32_t field[FURZELADLE_NEW_ROW * ROWS], trim[FURZELADLE_NEW_ROW * ROWS]
 static uint32_t field_kind, trim_kind;
 static size_t wide, len;
 
+/* The field tolerance of what they ask surely. */
+static uint32_t tolerance;
+
 static void expect(const char *call, int32_t answer, int32_t wanted, int most)
 {
     printf("%-44s %d\n", call, copies);
@@ -60,7 +63,8 @@ static void fill(int apart, int off)
 
 static int32_t open(void)
 {
-    const uint32_t query[FURZELADLE_QUERY_ALL] = {10, BLOCK, 5, 1, 1, field_kind, trim_kind};
+    const uint32_t query[FURZELADLE_QUERY_ALL] = {
+        10, BLOCK, 5, 1, 1, field_kind, trim_kind, tolerance, 0, FURZELADLE_SURELY};
     return furzeladle_open(query, FURZELADLE_QUERY_ALL, field, len, trim, len, record, FURZELADLE_RECORD_SIZE);
 }
 
@@ -113,14 +117,23 @@ static void calls(void)
     expect("read: refused by 5", read(len), -FURZELADLE_RECORD, 2);
 }
 
+/* On a card, without a tolerance, with one, and with one that leaves nothing to qualify. */
+static void on_card(uint32_t field, uint32_t trim, size_t row)
+{
+    field_kind = field, trim_kind = trim;
+    wide = row, len = wide * ROWS;
+    for (tolerance = 0; tolerance <= 1; tolerance++)
+        calls();
+    tolerance = 500;
+    reads(3, 0, 0);
+    expect("read: settled as it opened", read(len), FURZELADLE_SETTLED, 2);
+    expect("take: finished", take(), FURZELADLE_FINISHED, 2);
+}
+
 int main(void)
 {
-    field_kind = FURZELADLE_FIELD, trim_kind = FURZELADLE_TRIM;
-    wide = FURZELADLE_OLD_ROW, len = wide * ROWS;
-    calls();
-    field_kind = FURZELADLE_NEW_FIELD, trim_kind = FURZELADLE_NEW_TRIM;
-    wide = FURZELADLE_NEW_ROW, len = wide * ROWS;
-    calls();
+    on_card(FURZELADLE_FIELD, FURZELADLE_TRIM, FURZELADLE_OLD_ROW);
+    on_card(FURZELADLE_NEW_FIELD, FURZELADLE_NEW_TRIM, FURZELADLE_NEW_ROW);
     if (all == 0) {
         printf("no copy was counted\n");
         failures++;

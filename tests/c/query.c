@@ -1,5 +1,5 @@
-/* furzeladle_query from C: the rules' worked query, at other weights and on the new card too, the refusals that a whole
- * query can give, the roots, and what is left alone. */
+/* furzeladle_query from C: the rules' worked query, at other weights, with tolerances and on the new card too, the
+ * refusals that a whole query can give, the roots, and what is left alone. */
 #include "furzeladle.h"
 
 #include <stdio.h>
@@ -92,6 +92,78 @@ static void cards(void) {
     expect("cards", on_cards(3, 2, 20, 20, out), -FURZELADLE_CARDS);
     expect("cards, without rows", on_cards(3, 2, 25, 0, out), -FURZELADLE_CARDS);
     expect("left alone", memcmp(out, worked, sizeof worked), 0);
+}
+
+/* The worked query at a radius with tolerances and a meaning: so many of its ten numbers are lent. */
+static int32_t fade(uint32_t radius, uint32_t u, uint32_t v, uint32_t meaning, size_t count, uint64_t *out) {
+    const uint32_t q[FURZELADLE_QUERY_ALL] = {2, 1, radius, 1, 1, FURZELADLE_FIELD, FURZELADLE_TRIM, u, v, meaning};
+    return furzeladle_query(q, count, F, 20, T, 20, out, FURZELADLE_QUERY_SIZE);
+}
+
+/* The two pairs lie 3 and 4 apart, and 0 and 5: their squares stay 25, whatever the tolerances. Two others are of equal
+ * shades. */
+static void tolerances(void) {
+    static const uint64_t worked[15] = {4, 4, 2, 140, 1, 2, 101, 202, 25, 110, 2, 3, 102, 203, 25};
+    static const uint64_t equal[15] = {5, 5, 2, 80, 3, 4, 103, 204, 0, 55, 4, 5, 104, 205, 0};
+    static const uint32_t by_two[3][2] = {{1, 1}, {2, 0}, {0, 2}};
+    uint64_t out[FURZELADLE_QUERY_SIZE];
+
+    for (int i = 0; i < 3; i++) {
+        const uint32_t u = by_two[i][0], v = by_two[i][1];
+        expect("possibly", fade(3, u, v, FURZELADLE_POSSIBLY, 10, out), 2);
+        expect("its pairs", memcmp(out, worked, sizeof worked), 0);
+        expect("not possibly", fade(2, u, v, FURZELADLE_POSSIBLY, 10, out), 2);
+        expect("its pairs", memcmp(out, equal, sizeof equal), 0);
+        expect("surely", fade(8, u, v, FURZELADLE_SURELY, 10, out), 2);
+        expect("its pairs", memcmp(out, worked, sizeof worked), 0);
+        expect("not surely", fade(7, u, v, 7, 10, out), 2);
+        expect("its pairs", memcmp(out + 3, equal + 3, sizeof equal - 3 * sizeof *equal), 0);
+        expect("no meaning", fade(3, u, v, 7, 9, out), 2);
+        expect("is possibly", memcmp(out, worked, sizeof worked), 0);
+    }
+    for (size_t count = FURZELADLE_QUERY_LEAST; count <= FURZELADLE_QUERY_ALL; count++) {
+        memset(out, 0xab, sizeof out);
+        expect("zeros behind", fade(5, 0, 0, 0, count, out), 2);
+        expect("as three numbers", memcmp(out, worked, sizeof worked), 0);
+    }
+    expect("surely without", fade(5, 0, 0, FURZELADLE_SURELY, 10, out), 2);
+    expect("as possibly", memcmp(out, worked, sizeof worked), 0);
+}
+
+/* Surely 5 and 5 lie within 8, and 5, 5 and 5 do not: on the new card nothing is read. */
+static void beyond_all_shades(void) {
+    static const char listing[] = "     2     1     8\n     0     0           0\n";
+    static const uint64_t nothing[3] = {0, 0, 0};
+    uint32_t q[FURZELADLE_QUERY_ALL] = {2, 1, 8, 1, 1, FURZELADLE_NEW_FIELD, FURZELADLE_NEW_TRIM, 2, 3, 1};
+    uint64_t out[FURZELADLE_QUERY_SIZE];
+    uint8_t text[FURZELADLE_LISTING_SIZE];
+
+    expect("old card", fade(8, 2, 3, FURZELADLE_SURELY, 10, out), 2);
+    expect("its sum", (long)out[3], 80);
+    expect("new card", furzeladle_query(q, 10, NEW_F, 25, NEW_T, 25, out, FURZELADLE_QUERY_SIZE), 0);
+    expect("nothing read", memcmp(out, nothing, sizeof nothing), 0);
+    expect("listing", furzeladle_listing(q, 10, NEW_F, 25, NEW_T, 25, text, sizeof text), (long)strlen(listing));
+    expect("text", memcmp(text, listing, strlen(listing)), 0);
+    q[9] = FURZELADLE_POSSIBLY;
+    expect("possibly", furzeladle_query(q, 10, NEW_F, 25, NEW_T, 25, out, FURZELADLE_QUERY_SIZE), 2);
+    expect("its sum", (long)out[3], 140);
+}
+
+/* 16 after 12 and before 10, 4 and 15, by both exports. */
+static void tolerances_refused(void) {
+    static const uint32_t bad[4][2] = {{501, 0}, {0, 501}, {UINT32_MAX, 0}, {UINT32_MAX, 1}};
+    static const uint32_t kinds[4][2] = {{1, 2}, {2, 2}, {1, 3}, {3, 2}};
+    uint64_t out[FURZELADLE_QUERY_SIZE];
+    uint8_t text[FURZELADLE_LISTING_SIZE];
+    for (int i = 0; i < 16; i++) {
+        const uint32_t *kind = kinds[i % 4], *tolerance = bad[i / 4];
+        uint32_t q[FURZELADLE_QUERY_ALL] = {2, 1, 5, 1, 1, kind[0], kind[1], tolerance[0], tolerance[1], 1};
+        expect("tolerance", furzeladle_query(q, 10, F, 20, T, 20, out, 0), -FURZELADLE_TOLERANCE);
+        expect("tolerance", furzeladle_listing(q, 10, F, 19, T, 20, text, 0), -FURZELADLE_TOLERANCE);
+        q[3] = 0;
+        expect("after 12", furzeladle_query(q, 10, F, 19, T, 20, out, 0), -FURZELADLE_WEIGHT);
+    }
+    expect("500", fade(5, 500, 500, FURZELADLE_POSSIBLY, 10, out), 2);
 }
 
 /* L alone at both ends of its range: 10,000 apart. */
@@ -204,6 +276,9 @@ int main(void) {
     expect("text behind", text[strlen(listing)], 'x');
     weights();
     cards();
+    tolerances();
+    beyond_all_shades();
+    tolerances_refused();
     lightness();
     highest();
     roots();

@@ -1,5 +1,6 @@
-/* The rules' worked query through the C functions, at other weights and on the new card too, a withdrawn first row, and
- * calls that must be refused. Exit status 0: all as it must be. */
+/* The rules' worked query through the C functions, at other weights, with tolerances and on the new card too, a
+ * withdrawn first row, a query that nothing can meet, and calls that must be refused. Exit status 0: all as it must be.
+ */
 #include <stdio.h>
 #include <string.h>
 
@@ -68,6 +69,18 @@ static void worked(void)
     expect("field depth", s[FURZELADLE_FIELD_DEPTH], 4);
     expect("trim depth", s[FURZELADLE_TRIM_DEPTH], 4);
     expect("joined", s[FURZELADLE_JOINED], 2);
+}
+
+/* A query that lends all its numbers: k 2, block 1, both weights 1. */
+struct asked {
+    uint32_t numbers[FURZELADLE_QUERY_ALL];
+};
+
+static struct asked ask(uint32_t radius, int is_new, uint32_t by_field, uint32_t by_trim, uint32_t meaning)
+{
+    const uint32_t more = is_new ? FURZELADLE_NEW_FIELD - FURZELADLE_FIELD : 0;
+    return (struct asked){
+        {2, 1, radius, 1, 1, FURZELADLE_FIELD + more, FURZELADLE_TRIM + more, by_field, by_trim, meaning}};
 }
 
 /* A refused read and take: the number, and nothing changed. */
@@ -161,6 +174,46 @@ static void listed(const char *what, const uint32_t *numbers, size_t count, cons
     expect(what, s[FURZELADLE_FIELD_DEPTH], wanted[2]);
     expect(what, s[FURZELADLE_TRIM_DEPTH], wanted[3]);
     expect(what, s[FURZELADLE_JOINED], wanted[4]);
+}
+
+/* The worked query's first pair lies 3 and 4 apart, its second 0 and 5: at tolerances of 2 together 1 and 2, 0 and 3 at
+ * the nearest, 5 and 6, 2 and 7 at the farthest. Two other pairs are of equal shades. */
+static void tolerant(void)
+{
+    const uint32_t by_two[3][2] = {{1, 1}, {2, 0}, {0, 2}};
+    const uint32_t plainly[5] = {140, 110, 4, 4, 2}, equal[5] = {80, 55, 5, 5, 2}, equal_near[5] = {80, 55, 5, 5, 5};
+    int i;
+
+    for (i = 0; i < 3; i++) {
+        const uint32_t u = by_two[i][0], v = by_two[i][1];
+        listed("possibly", ask(3, 0, u, v, FURZELADLE_POSSIBLY).numbers, FURZELADLE_QUERY_ALL, plainly);
+        listed("not possibly", ask(2, 0, u, v, FURZELADLE_POSSIBLY).numbers, FURZELADLE_QUERY_ALL, equal);
+        listed("surely", ask(8, 0, u, v, FURZELADLE_SURELY).numbers, FURZELADLE_QUERY_ALL, plainly);
+        listed("not surely", ask(7, 0, u, v, FURZELADLE_SURELY).numbers, FURZELADLE_QUERY_ALL, equal_near);
+        listed("surely, by 7", ask(7, 0, u, v, 7).numbers, FURZELADLE_QUERY_ALL, equal_near);
+        listed("no meaning", ask(3, 0, u, v, 7).numbers, FURZELADLE_QUERY_ALL - 1, plainly);
+    }
+    listed("field tolerance alone", ask(3, 0, 2, 500, 7).numbers, 8, plainly);
+    listed("and not enough", ask(3, 0, 1, 500, 7).numbers, 8, equal);
+    listed("surely without", ask(5, 0, 0, 0, FURZELADLE_SURELY).numbers, FURZELADLE_QUERY_ALL, plainly);
+}
+
+/* Who lends the numbers from before there were tolerances, or zeros behind them, opens the same session. */
+static void without_tolerances(void)
+{
+    const struct asked all = ask(5, 0, 0, 0, FURZELADLE_POSSIBLY);
+    uint32_t wanted[SIZE], s[SIZE];
+    size_t count;
+
+    furzeladle_open(query, FURZELADLE_QUERY_LEAST, field, 20, trim, 20, wanted, SIZE);
+    expect("field tolerance", wanted[FURZELADLE_FIELD_TOLERANCE], 0);
+    expect("trim tolerance", wanted[FURZELADLE_TRIM_TOLERANCE], 0);
+    expect("meaning", wanted[FURZELADLE_MEANING], FURZELADLE_POSSIBLY);
+    for (count = FURZELADLE_QUERY_LEAST; count <= FURZELADLE_QUERY_ALL; count++) {
+        memset(s, 0x55, sizeof s);
+        expect("open", furzeladle_open(all.numbers, count, field, 20, trim, 20, s, SIZE), FURZELADLE_DONE);
+        expect("the same record", memcmp(s, wanted, sizeof s), 0);
+    }
 }
 
 /* A weight that is not lent is 1, and a kind that is not lent the old card's. */
@@ -289,7 +342,7 @@ static void kinds_refused(void)
     expect("are five", other[FURZELADLE_FIELD_ROWS], 5);
 }
 
-/* The 206 numbers of a record from before there were cards, and the old card behind them. */
+/* The 206 numbers of a record from before there were cards, and the old card and three zeros behind them. */
 static void stored_before_cards(void)
 {
     uint32_t s[SIZE], stored[SIZE] = {0}, pair[3];
@@ -302,6 +355,116 @@ static void stored_before_cards(void)
     stored[FURZELADLE_CARD] = FURZELADLE_OLD_CARD;
     expect("goes on", takes(stored, pair), FURZELADLE_GIVEN);
     expect_pair("its pair", pair, 140, 1, 2);
+}
+
+/* The 207 numbers of a record from before there were tolerances, and three zeros behind them. */
+static void stored_before_tolerances(void)
+{
+    uint32_t s[SIZE], stored[SIZE], pair[3];
+
+    furzeladle_open(query, 3, field, 20, trim, 20, s, SIZE);
+    while (reads(s) == FURZELADLE_DONE)
+        ;
+    memset(stored, 0x55, sizeof stored);
+    memcpy(stored, s, FURZELADLE_FIELD_TOLERANCE * sizeof *s);
+    expect("no tolerances", takes(stored, pair), -FURZELADLE_RECORD);
+    memset(stored + FURZELADLE_FIELD_TOLERANCE, 0, 3 * sizeof *s);
+    expect("the same record", memcmp(stored, s, sizeof s), 0);
+    expect("goes on", takes(stored, pair), FURZELADLE_GIVEN);
+    expect_pair("its pair", pair, 140, 1, 2);
+}
+
+/* Tolerances and meaning in a record: kept apart, 5 where one is above 500, any meaning but 0 is surely. */
+static void tolerances_in_a_record(void)
+{
+    const struct asked faded = ask(8, 0, 2, 0, FURZELADLE_SURELY);
+    uint32_t good[SIZE], s[SIZE], pair[3];
+    int i;
+
+    furzeladle_open(faded.numbers, FURZELADLE_QUERY_ALL, field, 20, trim, 20, good, SIZE);
+    for (i = 0; i < 5; i++)
+        expect("read", reads(good), FURZELADLE_DONE);
+    expect("field tolerance", good[FURZELADLE_FIELD_TOLERANCE], 2);
+    expect("trim tolerance", good[FURZELADLE_TRIM_TOLERANCE], 0);
+    expect("meaning", good[FURZELADLE_MEANING], FURZELADLE_SURELY);
+    for (i = FURZELADLE_FIELD_TOLERANCE; i <= FURZELADLE_TRIM_TOLERANCE; i++) {
+        memcpy(s, good, sizeof s);
+        s[i] = 501;
+        refused("tolerance 501", s, field, 20, -FURZELADLE_RECORD);
+        s[i] = 0xffffffff;
+        refused("greatest number", s, field, 20, -FURZELADLE_RECORD);
+        s[i] = 500;
+        refused("rows read, and nothing can qualify", s, field, 20, -FURZELADLE_RECORD);
+        s[FURZELADLE_MEANING] = FURZELADLE_POSSIBLY;
+        expect("possibly", reads(s), FURZELADLE_DONE);
+    }
+    memcpy(s, good, sizeof s);
+    s[FURZELADLE_MEANING] = 7;
+    refused("nothing changes", s, field, 16, -FURZELADLE_TABLE_SIZE);
+    expect("a pair", takes(s, pair), FURZELADLE_GIVEN);
+    expect_pair("the first", pair, 140, 1, 2);
+    expect("surely", s[FURZELADLE_MEANING], FURZELADLE_SURELY);
+    s[FURZELADLE_MEANING] = 7;
+    expect("not yet", takes(s, pair), FURZELADLE_NOT_YET);
+    expect("left alone", s[FURZELADLE_MEANING], 7);
+    expect("a block", reads(s), FURZELADLE_DONE);
+    expect("surely", s[FURZELADLE_MEANING], FURZELADLE_SURELY);
+}
+
+/* Tolerances 2 and 3 at radius 8: equal shades may lie 5 apart in each coordinate, which surely is too far for three of
+ * them and not for two. */
+static void settled_at_opening(void)
+{
+    const struct asked old = ask(8, 0, 2, 3, FURZELADLE_SURELY), beyond = ask(8, 1, 2, 3, FURZELADLE_SURELY);
+    const struct asked possibly = ask(8, 1, 2, 3, FURZELADLE_POSSIBLY), farther = ask(9, 1, 2, 3, FURZELADLE_SURELY);
+    uint32_t s[SIZE], before[SIZE], pair[3] = {7, 7, 7}, place[3] = {7, 7, 7};
+
+    expect("old card", furzeladle_open(old.numbers, 10, field, 20, trim, 20, s, SIZE), FURZELADLE_DONE);
+    expect("is read", reads(s), FURZELADLE_DONE);
+    expect("possibly", furzeladle_open(possibly.numbers, 10, new_field, 25, new_trim, 25, s, SIZE), FURZELADLE_DONE);
+    expect("is read", furzeladle_read(new_field, 25, new_trim, 25, s, SIZE), FURZELADLE_DONE);
+    expect("radius 9", furzeladle_open(farther.numbers, 10, new_field, 25, new_trim, 25, s, SIZE), FURZELADLE_DONE);
+    expect("is read", furzeladle_read(new_field, 25, new_trim, 25, s, SIZE), FURZELADLE_DONE);
+    expect("new card", furzeladle_open(beyond.numbers, 10, new_field, 25, new_trim, 25, s, SIZE), FURZELADLE_DONE);
+    memcpy(before, s, sizeof s);
+    expect("settled", furzeladle_read(new_field, 25, new_trim, 25, s, SIZE), FURZELADLE_SETTLED);
+    expect("finished", furzeladle_take(new_field, 25, new_trim, 25, s, SIZE, pair, 3), FURZELADLE_FINISHED);
+    expect("show", furzeladle_show(new_field, 25, new_trim, 25, s, SIZE, place, 3), FURZELADLE_DONE);
+    expect_pair("no rows", place, 0, 0, 0);
+    expect_pair("no pair", pair, 7, 7, 7);
+    expect("4 first", furzeladle_read(new_field, 20, new_trim, 25, s, SIZE), -FURZELADLE_TABLE_SIZE);
+    expect("nothing changed", memcmp(s, before, sizeof s), 0);
+    s[FURZELADLE_FIELD_DEPTH] = s[FURZELADLE_LAST] = 1;
+    expect("a row read", furzeladle_read(new_field, 25, new_trim, 25, s, SIZE), -FURZELADLE_RECORD);
+    expect("before 4", furzeladle_take(new_field, 20, new_trim, 25, s, SIZE, pair, 3), -FURZELADLE_RECORD);
+    s[FURZELADLE_MEANING] = FURZELADLE_POSSIBLY;
+    expect("possibly", furzeladle_read(new_field, 25, new_trim, 25, s, SIZE), FURZELADLE_DONE);
+}
+
+/* 16 after 12 and before 10, 4 and 15; nothing changes. */
+static void tolerances_refused(void)
+{
+    const uint32_t bad[5][2] = {{501, 0}, {0, 501}, {0xffffffff, 0}, {0, 0xffffffff}, {0xffffffff, 1}};
+    uint32_t s[SIZE] = {0}, zeros[SIZE] = {0}, other[SIZE];
+    int i;
+
+    for (i = 0; i < 5; i++) {
+        struct asked q = ask(5, 0, bad[i][0], bad[i][1], FURZELADLE_SURELY);
+        expect("tolerance", furzeladle_open(q.numbers, 10, field, 20, trim, 20, s, SIZE), -FURZELADLE_TOLERANCE);
+        expect("before 4", furzeladle_open(q.numbers, 10, field, 19, trim, 20, s, SIZE), -FURZELADLE_TOLERANCE);
+        expect("not lent", furzeladle_open(q.numbers, 7, field, 20, trim, 20, other, SIZE), FURZELADLE_DONE);
+        q.numbers[5] = FURZELADLE_NEW_FIELD;
+        expect("before 15", furzeladle_open(q.numbers, 10, field, 20, trim, 20, s, SIZE), -FURZELADLE_TOLERANCE);
+        q.numbers[5] = FURZELADLE_TRIM;
+        expect("before 10", furzeladle_open(q.numbers, 10, field, 20, trim, 20, s, SIZE), -FURZELADLE_TOLERANCE);
+        q.numbers[4] = 10;
+        expect("after 12", furzeladle_open(q.numbers, 10, field, 20, trim, 20, s, SIZE), -FURZELADLE_WEIGHT);
+    }
+    struct asked most = ask(5, 0, 500, 500, FURZELADLE_POSSIBLY);
+    expect("500", furzeladle_open(most.numbers, 10, field, 20, trim, 20, other, SIZE), FURZELADLE_DONE);
+    most.numbers[6] = FURZELADLE_FIELD;
+    expect("then 10", furzeladle_open(most.numbers, 10, field, 19, trim, 20, s, SIZE), -FURZELADLE_KIND);
+    expect("left alone", memcmp(s, zeros, sizeof s), 0);
 }
 
 /* 12 after 3 and before 4; nothing changes. */
@@ -322,13 +485,19 @@ static void weights_refused(void)
     expect("left alone", memcmp(s, zeros, sizeof s), 0);
 }
 
-/* A field table that begins with a withdrawn row is settled after one block, and no trim is read. */
+/* A field table that begins with a withdrawn row is settled after one block, and no trim is read. Where nothing can
+ * qualify that block isn't read either. */
 static void withdrawn(void)
 {
     const int32_t gone[12] = {101, 0, 0, 0, 102, 0, 400, 0, 103, 0, 3, 4};
     const uint32_t by_two[3] = {2, 2, 5}, first_block[3] = {1, 1, 2};
+    const struct asked beyond = ask(5, 0, 2, 2, FURZELADLE_SURELY);
     uint32_t s[SIZE], pair[3] = {7, 7, 7}, place[3];
 
+    expect("open", furzeladle_open(beyond.numbers, 10, gone, 12, trim, 20, s, SIZE), FURZELADLE_DONE);
+    expect("settled", furzeladle_read(gone, 12, trim, 20, s, SIZE), FURZELADLE_SETTLED);
+    expect("finished", furzeladle_take(gone, 12, trim, 20, s, SIZE, pair, 3), FURZELADLE_FINISHED);
+    expect("no field read", s[FURZELADLE_FIELD_DEPTH], 0);
     expect("open", furzeladle_open(by_two, 3, gone, 12, trim, 20, s, SIZE), FURZELADLE_DONE);
     expect("not empty yet", furzeladle_take(gone, 12, trim, 20, s, SIZE, pair, 3), FURZELADLE_NOT_YET);
     expect("one block", furzeladle_read(gone, 12, trim, 20, s, SIZE), FURZELADLE_DONE);
@@ -372,6 +541,12 @@ int main(void)
     refused_on_the_new_card();
     kinds_refused();
     stored_before_cards();
+    tolerant();
+    without_tolerances();
+    stored_before_tolerances();
+    tolerances_in_a_record();
+    settled_at_opening();
+    tolerances_refused();
     withdrawn();
     survives();
     damaged();

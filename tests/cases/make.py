@@ -1,13 +1,14 @@
 #!/usr/bin/env python3
 """Writes the stored cases of the pairing program: a folder each, with FIELD.TAB, TRIM.TAB (absent: not there), stdin and
-the stdout that the program must give. The program takes no weights, so that cases with them are the archive's command's:
-folders in tests/weights, with args (k, block, radius, field weight, trim weight) in place of stdin; a refusal stands there
-as the program would print it. The expected bytes come from the model below, written from the rules alone; it shares
-nothing with the program.
+the stdout that the program must give. The program takes no weights and no tolerances, so that cases with them are the
+archive's command's: folders in tests/weights and in tests/tolerances, with args (what the command is given behind the
+files) in place of stdin; a refusal stands there as the program would print it. The expected bytes come from the model
+below, written from the rules alone; it shares nothing with the program.
 
-usage: tests/cases/make.py            writes the folders, beside itself and in tests/weights
+usage: tests/cases/make.py            writes the folders, beside itself, in tests/weights and in tests/tolerances
        tests/cases/make.py --check    compares them with what stands there
 """
+import itertools
 import math
 import os
 import re
@@ -15,6 +16,7 @@ import sys
 
 HERE = os.path.dirname(os.path.abspath(__file__))
 WEIGHTS = os.path.join(os.path.dirname(HERE), "weights")
+TOLERANCES = os.path.join(os.path.dirname(HERE), "tolerances")
 
 
 # ---- The model: the rules' strict file, session and listing
@@ -92,19 +94,47 @@ def withdrawn(x):
     return x[1] == 0
 
 
-def qualifies(x, y, radius):
-    return not withdrawn(x) and not withdrawn(y) and distance(x, y) <= radius * radius
-
-
 def sides(rows):
     """The lowest and highest of each coordinate of a block's rows, withdrawn ones too."""
     return [(min(xs), max(xs)) for xs in zip(*(row[2:] for row in rows))]
 
 
-def far_apart(x, y, radius):
-    """Whether the rectangles of two blocks lie farther apart than the radius."""
-    gaps = [max(0, low - top, bottom - high) for (low, high), (bottom, top) in zip(sides(x), sides(y))]
-    return sum(gap * gap for gap in gaps) > radius * radius
+def places(x, tolerance):
+    """All whole-number places of a row's shade within a tolerance on every coordinate."""
+    return itertools.product(*(range(p - tolerance, p + tolerance + 1) for p in x[2:]))
+
+
+class Shades:
+    """What a query asks of two shades: how near they must be, within both tables' tolerances, surely or possibly."""
+
+    def __init__(self, radius, by_field=0, by_trim=0, surely=False):
+        self.radius, self.by_field, self.by_trim, self.surely = radius, by_field, by_trim, surely
+        self.t = by_field + by_trim
+
+    def within(self, apart):
+        return sum(d * d for d in apart) <= self.radius * self.radius
+
+    def near(self, x, y):
+        """Two rows, by the farthest or the nearest places of their shades."""
+        apart = [abs(p - q) for p, q in zip(x[2:], y[2:])]
+        return self.within(d + self.t for d in apart) if self.surely else self.within(max(0, d - self.t) for d in apart)
+
+    def near_by_places(self, x, y):
+        """The same by all places: "Surely means for all places within both tolerances; possibly means for some"."""
+        both = itertools.product(places(x, self.by_field), places(y, self.by_trim))
+        return (all if self.surely else any)(self.within(map(int.__sub__, p, q)) for p, q in both)
+
+    def qualifies(self, x, y):
+        return not withdrawn(x) and not withdrawn(y) and self.near(x, y)
+
+    def meet_nothing(self, coordinates):
+        """Whether not even equal shades are surely near."""
+        return self.surely and not self.within([self.t] * coordinates)
+
+    def far_apart(self, x, y):
+        """Whether the rectangles of two blocks lie farther apart than the radius, each gap lowered."""
+        gaps = [max(0, low - top, bottom - high) for (low, high), (bottom, top) in zip(sides(x), sides(y))]
+        return not self.within(max(0, gap - self.t) for gap in gaps)
 
 
 def read_out(t, depth):
@@ -122,24 +152,24 @@ def rank(pair):
 
 
 def columns(raw):
-    """The program's input: k, block and radius; its weights are 1 and 1."""
+    """The program's input: k, block and radius; its weights are 1 and 1, its tolerances 0."""
     if len(raw) != 19:
         raise Refused(8)
     numbers = [column(raw[i:i + 6], False) for i in (0, 6, 12)]
     if raw[18:19] != b"\n":
         raise Refused(9)
-    return numbers + [1, 1]
+    return numbers + [1, 1, 0, 0, False]
 
 
 def arguments(raw):
-    """The command's five numbers."""
-    return [int(n) for n in raw.split()]
+    """The command's three or five numbers, and its options: two tolerances, and whether pairs must qualify surely."""
+    m = re.fullmatch(r"(\d+) (\d+) (\d+)(?: (\d+) (\d+))?(?: --tolerance (\d+),(\d+))?( --surely)?\n", raw.decode())
+    k, block, radius, wf, wt, by_field, by_trim, surely = m.groups()
+    return [int(n) for n in (k, block, radius, wf or 1, wt or 1, by_field or 0, by_trim or 0)] + [bool(surely)]
 
 
-def query(field, trim, raw, numbers):
-    field_kind, trim_kind = read_as(field, 1), read_as(trim, 2)
-    f, t = load(field, field_kind), load(trim, trim_kind)
-    k, block, radius, wf, wt = numbers(raw)
+def check(k, block, radius, wf, wt, by_field, by_trim, surely):
+    """The refusals of a query's numbers, in their order."""
     if not 1 <= k <= 64:
         raise Refused(1)
     if not 1 <= block <= 1024:
@@ -148,8 +178,20 @@ def query(field, trim, raw, numbers):
         raise Refused(3)
     if not (1 <= wf <= 9 and 1 <= wt <= 9):
         raise Refused(12)
+    if by_field > 500 or by_trim > 500:
+        raise Refused(16)
+
+
+def query(field, trim, raw, numbers):
+    field_kind, trim_kind = read_as(field, 1), read_as(trim, 2)
+    f, t = load(field, field_kind), load(trim, trim_kind)
+    asked = numbers(raw)
+    check(*asked)
+    k, block, radius, wf, wt, by_field, by_trim, surely = asked
     if on_new_card(field_kind) != on_new_card(trim_kind):
         raise Refused(15)
+    shades = Shades(radius, by_field, by_trim, surely)
+    coordinates = 3 if on_new_card(field_kind) else 2
 
     def total(x, y):
         """The sum of a field row and a trim row."""
@@ -169,7 +211,7 @@ def query(field, trim, raw, numbers):
         return all(pair[0] >= part for part in parts)
 
     def settled():
-        if empty(f, df) or empty(t, dt) or (read_out(f, df) and read_out(t, dt)):
+        if shades.meet_nothing(coordinates) or empty(f, df) or empty(t, dt) or (read_out(f, df) and read_out(t, dt)):
             return True
         return len(held) == k and all(map(secured, held))
 
@@ -195,13 +237,13 @@ def query(field, trim, raw, numbers):
             x, y = (new, old) if side == "f" else (old, new)
             if len(held) == k and total(f[x[0]], t[y[0]]) < held[-1][0]:
                 continue
-            if far_apart(f[slice(*x)], t[slice(*y)], radius):
-                assert not any(qualifies(p, q, radius) for p in f[slice(*x)] for q in t[slice(*y)])
+            if shades.far_apart(f[slice(*x)], t[slice(*y)]):
+                assert not any(shades.qualifies(p, q) for p in f[slice(*x)] for q in t[slice(*y)])
                 continue
             joined += 1
             for i in range(*x):
                 for j in range(*y):
-                    if qualifies(f[i], t[j], radius):
+                    if shades.qualifies(f[i], t[j]):
                         held.append((total(f[i], t[j]), i + 1, j + 1))
             held.sort(key=rank)
             del held[k:]
@@ -214,8 +256,11 @@ def query(field, trim, raw, numbers):
         text += "%6d%6d%6d%6d%8d%8d\n" % (i + 1, its_sum, x[0], y[0], *whole_root(square))
     # when it is settled every held pair is secured, so takes bring out all that is held
     assert all(map(secured, held))
-    # and it is the k highest of all sums
-    every = sorted((-total(x, y) for x in f for y in t if qualifies(x, y, radius)))
+    # and it is the k highest of all sums, by all places of the shades where that is not too long
+    few = len(f) * len(t) * ((2 * by_field + 1) * (2 * by_trim + 1)) ** coordinates <= 100000
+    near = shades.near_by_places if few else shades.near
+    live = [[x for x in rows if not withdrawn(x)] for rows in (f, t)]
+    every = sorted((-total(x, y) for x in live[0] for y in live[1] if near(x, y)))
     assert [-p[0] for p in held] == every[:k], "the model disagrees with the plain double loop"
     return text + "%6d%6d%12d\n" % (df, dt, joined)
 
@@ -244,6 +289,11 @@ def ask(k, block, radius):
 
 def weigh(*numbers):
     return b"%d %d %d %d %d\n" % numbers
+
+
+def fade(k, block, radius, by_field, by_trim, surely=False, weights=()):
+    numbers = b" ".join(b"%d" % n for n in (k, block, radius, *weights))
+    return numbers + b" --tolerance %d,%d" % (by_field, by_trim) + (b" --surely" if surely else b"") + b"\n"
 
 
 class Dice:
@@ -677,7 +727,7 @@ def weighted_cases():
     # cases of the program: one as it is there, and one where a drop of trim scores counts nine times
     program = {name: (field, trim, raw) for name, field, trim, raw in cases()}
     field, trim, raw = program["ties-plateau"]
-    yield "ones", field, trim, weigh(*columns(raw))
+    yield "ones", field, trim, weigh(*columns(raw)[:5])
     field, trim, raw = program["scores-apart"]
     yield "drops-by-weights", field, trim, weigh(*columns(raw)[:4], 9)
     dice = Dice(8)
@@ -697,9 +747,67 @@ def weighted_cases():
     yield "no-12-before-15", F, NT, weigh(2, 1, 5, 1, 10)
 
 
+def tolerance_cases():
+    # the two pairs lie 3 and 4 apart, and 0 and 5: 1 and 2, 0 and 3 at the nearest; 5 and 6, 2 and 7 at the farthest
+    yield "possibly", F, T, fade(2, 1, 3, 1, 1)
+    yield "possibly-beyond", F, T, fade(2, 1, 2, 2, 0)
+    yield "surely", F, T, fade(2, 1, 8, 0, 2, surely=True)
+    yield "surely-beyond", F, T, fade(2, 1, 7, 1, 1, surely=True)
+    # without tolerances both meanings give the program's listings
+    field, trim, raw = {name: files for name, *files in cases()}["ties-plateau"]
+    yield "zeros", field, trim, fade(*columns(raw)[:3], 0, 0)
+    yield "zeros-surely", field, trim, fade(*columns(raw)[:3], 0, 0, surely=True)
+    yield "surely-alone", F, T, b"2 1 5 --surely\n"
+    # equal shades may lie 5 apart in each coordinate: surely 50 is within 8, and 75 is not
+    yield "old-card-is-read", F, T, fade(2, 1, 8, 2, 3, surely=True)
+    yield "card-settled-at-opening", NF, NT, fade(2, 1, 8, 2, 3, surely=True)
+    yield "card-possibly", NF, NT, fade(2, 1, 8, 2, 3)
+    # a withdrawn first row is not read there
+    yield "withdrawn-not-read", scored(1, 0, 0, 0), scored(2, 7, 6), fade(2, 2, 7, 3, 2, surely=True)
+    yield "withdrawn-is-read", scored(1, 0, 0, 0), scored(2, 7, 6), fade(2, 2, 8, 3, 2, surely=True)
+    yield from faded_far_cases()
+    # the greatest tolerances and the farthest shades: 26,500, 26,500 and 11,000 make 39,057 and a rest
+    corners = light(3, (-12800, -12800, 0)), light(4, (12700, 12700, 10000))
+    yield "card-corners-surely", *corners, fade(1, 1, 39058, 500, 500, surely=True)
+    yield "card-corners-surely-beyond", *corners, fade(1, 1, 39057, 500, 500, surely=True)
+    # with weights, and with withdrawn rows at the end
+    dice = Dice(13)
+    gone = [(300 + i, 0, 0, 0) for i in range(5)]
+    rows = [dice.rows(40, 300, 20) + gone for _ in range(2)]
+    for name, surely in ("possibly", False), ("surely", True):
+        yield "weights-" + name, table(1, rows[0]), table(2, rows[1]), fade(12, 3, 7, 1, 2, surely, weights=(2, 7))
+    rows = [dice.new_rows(40, 300, 20, 20) for _ in range(2)]
+    for name, surely in ("possibly", False), ("surely", True):
+        yield "card-weights-" + name, table(3, rows[0]), table(4, rows[1]), fade(12, 3, 9, 1, 1, surely, weights=(7, 2))
+    yield "no-16-field", F, T, fade(2, 1, 5, 501, 0)
+    yield "no-16-trim", F, T, fade(2, 1, 5, 0, 501, surely=True)
+    yield "no-12-before-16", F, T, fade(2, 1, 5, 501, 501, weights=(1, 10))
+    yield "no-16-before-15", NF, T, fade(2, 1, 5, 501, 0)
+    # the command's files are read before its query is looked at
+    yield "no-10-before-16", table(2, FIELDS), T, fade(2, 1, 5, 501, 0)
+
+
+def faded_far_cases():
+    """Listings whose last number tells which gaps between blocks were lowered by the tolerances, here 3 together."""
+    centre = (-10, 10), (10, -10)
+    # one way alone: at 8 a gap counts as 5, at 9 as 6; both ways: 3 and 4 are 5, 4 and 4 are more; one below 3 is none
+    gaps = (8, 0), (9, 0), (0, 8), (0, 9), (6, 7), (7, 6), (7, 7), (8, 2), (1, 8), (8, 3), (8, 4)
+    trims = [(10 + a + more, -10 - b - more) for a, b in gaps for more in (0, 9)]
+    for name, surely in ("", False), ("-surely", True):
+        yield "far" + name, placed(1, *centre), placed(2, *trims), fade(64, 2, 5, 1, 2, surely)
+    # L too; 2 together, because 3 are surely too much for three coordinates
+    gaps = (0, 0, 7), (0, 0, 8), (1, 1, 7), (5, 0, 6), (6, 0, 6), (4, 3, 6)
+    trims = [(10 + a + more, 10 + b + more, 5010 + x + more) for a, b, x in gaps for more in (0, 9)]
+    for name, surely in ("", False), ("-surely", True):
+        yield "far-card" + name, placed(3, (-10, -10, 4990), (10, 10, 5010)), placed(4, *trims), \
+            fade(64, 2, 5, 1, 1, surely)
+
+
 def stored():
     """Folder and files of every case."""
-    for home, name_of_input, numbers, all_cases in (HERE, "stdin", columns, cases()), (WEIGHTS, "args", arguments, weighted_cases()):
+    for home, name_of_input, numbers, all_cases in (
+            (HERE, "stdin", columns, cases()), (WEIGHTS, "args", arguments, weighted_cases()),
+            (TOLERANCES, "args", arguments, tolerance_cases())):
         for name, field, trim, raw in all_cases:
             files = {"FIELD.TAB": field, "TRIM.TAB": trim, name_of_input: raw, "stdout": printed(field, trim, raw, numbers)}
             # a name says its refusal, and was chosen without the model

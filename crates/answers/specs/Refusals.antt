@@ -13,15 +13,15 @@ use Rattle.rules.specs.Session.{twoTables, opened, zeros, settled}
 use Rattle.rules.specs.Read.{readBlock}
 use Rattle.rules.specs.Take.{firstHeld, movedOut, givesPair, finished}
 use Rattle.rules.specs.Numbers.{listLength, blockSize, radiusRange, weightRange, tableSize, badRecord, rowLimit}
-use Rattle.rules.specs.Numbers.{rowOrder, wrongKind, otherCard, IsRefusal, first, said, refusal}
-use Rattle.rules.specs.Calls.{step, between, isCard, queryCode, sizeCode, sameSizeCode, rowCode, rowsCode, recordFits}
-use Rattle.rules.specs.Calls.{recordCode, lentCode, callCode, newBlockCodeBy, newBlockCode, kindCode, cardsCode}
-use Rattle.rules.specs.Calls.{openCode, openCall, readCallBy, readCall, takeCallBy, takeCall}
+use Rattle.rules.specs.Numbers.{rowOrder, wrongKind, otherCard, toleranceRange, IsRefusal, first, said, refusal}
+use Rattle.rules.specs.Calls.{step, between, mostTolerance, isCard, queryCode, sizeCode, sameSizeCode, rowCode}
+use Rattle.rules.specs.Calls.{rowsCode, recordFits, recordCode, lentCode, callCode, newBlockCodeBy, newBlockCode}
+use Rattle.rules.specs.Calls.{kindCode, cardsCode, openCode, openCall, readCallBy, readCall, takeCallBy, takeCall}
 use Rattle.rules.specs.Checks.{unless-refusal, first-refusal}
 
 -- ---- The codes
 
--- of two, three, five and six checks
+-- of two, three, five, six and seven checks
 first-of-two : (c d : ℕ) → IsRefusal c → IsRefusal d → IsRefusal (first (c ∷ d ∷ []))
 first-of-two c d h k = first-refusal c (d ∷ []) h k
 
@@ -38,15 +38,22 @@ first-of-six : (c d e f g i : ℕ) → IsRefusal c → IsRefusal d → IsRefusal
 first-of-six c d e f g i h k l m n o =
     first-refusal c (d ∷ e ∷ f ∷ g ∷ i ∷ []) h (first-of-five d e f g i k l m n o)
 
+first-of-seven : (c d e f g i j : ℕ) → IsRefusal c → IsRefusal d → IsRefusal e → IsRefusal f → IsRefusal g
+    → IsRefusal i → IsRefusal j → IsRefusal (first (c ∷ d ∷ e ∷ f ∷ g ∷ i ∷ j ∷ []))
+first-of-seven c d e f g i j h k l m n o p =
+    first-refusal c (d ∷ e ∷ f ∷ g ∷ i ∷ j ∷ []) h (first-of-six d e f g i j k l m n o p)
+
 query-refusal : (q : Query) → IsRefusal (queryCode q)
 unfolding queryCode
 query-refusal q =
-    first-of-five _ _ _ _ _
+    first-of-seven _ _ _ _ _ _ _
     (unless-refusal (between 1 64 (q .k)) listLength (omega arith))
     (unless-refusal (between 1 1024 (q .block)) blockSize (omega arith))
     (unless-refusal (leb (q .radius) 40000) radiusRange (omega arith))
     (unless-refusal (between 1 9 (q .weights .field .0)) weightRange (omega arith))
     (unless-refusal (between 1 9 (q .weights .trim .0)) weightRange (omega arith))
+    (unless-refusal (leb (q .tolerances .field .0) mostTolerance) toleranceRange (omega arith))
+    (unless-refusal (leb (q .tolerances .trim .0) mostTolerance) toleranceRange (omega arith))
 
 size-refusal : (t : Table) → IsRefusal (sizeCode t)
 unfolding sizeCode

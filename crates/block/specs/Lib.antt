@@ -4,3 +4,4 @@ pub mod Twin
 pub mod Near
 pub mod Full
 pub mod Small
+pub mod Candidate

@@ -38,15 +38,15 @@ pub above-live : (rows : Table) → Below rows → (i j : ℕ) → i ≤ j → j
 above-live rows below i j h k e = fails (withdrawn (row rows i)) (λ f. clash (below i j h k f) e)
 
 -- rows beyond the live ones of x, and of y, qualify with none
-module _ (radius : ℕ) (x y : Table) (n : ℕ) where
+module _ (q : Query) (x y : Table) (n : ℕ) where
   pub none-beyond-first : Live x n → (i j : ℕ) → n ≤ i → i < rowCount x
-      → rowsQualify radius (row x i) (row y j) ≡ false
+      → rowsQualify q (row x i) (row y j) ≡ false
   none-beyond-first l i j h k =
-      fails (rowsQualify radius (row x i) (row y j))
-      (λ e. clash (l .beyond i h k) (rows-qualify-out radius (row x i) (row y j) e .0))
+      fails (rowsQualify q (row x i) (row y j))
+      (λ e. clash (l .beyond i h k) (rows-qualify-out q (row x i) (row y j) e .0))
 
   pub none-beyond-second : Live y n → (i j : ℕ) → n ≤ j → j < rowCount y
-      → rowsQualify radius (row x i) (row y j) ≡ false
+      → rowsQualify q (row x i) (row y j) ≡ false
   none-beyond-second l i j h k =
-      fails (rowsQualify radius (row x i) (row y j))
-      (λ e. clash (l .beyond j h k) (rows-qualify-out radius (row x i) (row y j) e .1))
+      fails (rowsQualify q (row x i) (row y j))
+      (λ e. clash (l .beyond j h k) (rows-qualify-out q (row x i) (row y j) e .1))

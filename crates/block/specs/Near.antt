@@ -1,5 +1,5 @@
 -- Rows of which none lies near, and the next that does. Assumes nothing.
-use mathlib.Core.Path.{_≡_, refl, sym, ap, subst, _∙_}
+use mathlib.Core.Path.{_≡_, refl, sym, subst}
 use mathlib.Core.Bool.{Bool, true, false}
 use Prim.Native.Nat.{ℕ, _+_, _≤_, _<_}
 use native.Mathlib.Omega.{arith}
@@ -26,14 +26,19 @@ pub record NextNear (w : Terms) (x : Table) (i : ℕ) (y : Table) (n j r : ℕ) 
   pub none-before : NoneNear w x i y j r
   pub found : r < n → w .near (row x i) (row y r) ≡ true
 
+-- what holds of rows j to before r, and of row r
+pub row-more : (P : ℕ → Type 0) (j r : ℕ) → ((k : ℕ) → j ≤ k → k < r → P k) → P r
+    → (k : ℕ) → j ≤ k → k < r + 1 → P k
+row-more P j r all here k h l = go (eqb k r) refl
+  where
+    go : (t : Bool) → eqb k r ≡ t → P k
+    go true e = subst P (sym (eqb-true k r e)) here
+    go false e = let n = eqb-false k r e in all k h (omega (arith, l, n))
+
 module _ (w : Terms) (x : Table) (i : ℕ) (y : Table) (j r : ℕ) (none : NoneNear w x i y j r) where
   -- one row more that does not lie near
   pub none-more : w .near (row x i) (row y r) ≡ false → NoneNear w x i y j (r + 1)
-  none-more here k h l = go (eqb k r) refl
-    where
-      go : (t : Bool) → eqb k r ≡ t → w .near (row x i) (row y k) ≡ false
-      go true e = ap (λ (b : ℕ). w .near (row x i) (row y b)) (eqb-true k r e) ∙ here
-      go false e = let n = eqb-false k r e in none k h (omega (arith, l, n))
+  none-more = row-more (λ k. w .near (row x i) (row y k) ≡ false) j r none
 
   -- more rows of which none does
   pub none-on : (s : ℕ) → NoneNear w x i y r s → NoneNear w x i y j s

@@ -105,7 +105,7 @@ pub fn kept(step: Step, s: Session, code: u32) -> u32 {
 const NONE: u32 = 40;
 
 // Kinds of harm to a record.
-pub const HARMS: u32 = 27;
+pub const HARMS: u32 = 30;
 
 // A record that 5 refuses, made of one that it does not. The first pair place is harmed whether a pair is held there or
 // none is; a harm that needs a longer block, a second row or a held pair is another where there is none.
@@ -138,6 +138,9 @@ pub fn harmed(s: Session, kind: u32) -> Session {
         23 => r.rows.card = 0,
         24 => r.rows.card = 1,
         25 => r.rows.card = 4,
+        26 => r.query.tolerances.field.0 = 501,
+        27 => r.query.tolerances.trim.0 = 501,
+        28 => return harmed_meaning(s),
         _ => r.pairs[63] = pair(20000, 0, 0),
     }
     r
@@ -151,6 +154,14 @@ fn harmed_depth(s: Session) -> Session {
     } else {
         r.joined = 1099511627776;
     }
+    r
+}
+
+// Rows are read of a query that nothing can meet; where none is, a tolerance is too high.
+fn harmed_meaning(s: Session) -> Session {
+    let mut r = s;
+    r.query = openings::surely(judge::when(has_read(s.depth), 500, 501), 0, s.query);
+    r.query.radius = 0;
     r
 }
 
@@ -203,7 +214,12 @@ fn resized(l: Lent, of_field: bool, kind: u32) -> Lent {
     r
 }
 
-// The record is on the other card: the slices do not fit it, unless both are empty.
+fn has_read(d: Counts) -> bool {
+    (0 < d.field.0) | (0 < d.trim.0)
+}
+
+// The record is on the other card: the slices do not fit it, unless both are empty; nor does a record with rows read,
+// where nothing can meet the query there.
 fn harmed_card(l: Lent, s: Session, is_read: bool) -> u32 {
     if (l.fields == 0) & (l.trims == 0) {
         return NONE;
@@ -211,7 +227,8 @@ fn harmed_card(l: Lent, s: Session, is_read: bool) -> u32 {
     let other = wrapping_sub_u32(5, l.card);
     let mut h = s;
     h.rows.card = other;
-    let code = kept(call(l, h, is_read), h, 4);
+    let none = has_read(s.depth) & plain::none_qualify(s.query, other);
+    let code = kept(call(l, h, is_read), h, judge::when(none, 5, 4));
     judge::when(shown(l, h) == 0, code, 0)
 }
 
@@ -312,8 +329,8 @@ pub fn some(c: Case, m: &Sums, l: Lent, s: Session, seed: u64, place: u64) -> u3
         3 => harmed_range(l, s, of_field, kind, row, is_read),
         4 | 5 => harmed_order(l, s, of_field, row, is_read),
         6 => harmed_block(c, m, l, s, kind),
-        7 => openings::harmed(l, s.query, kind % 11),
-        8 => openings::unlike(l, s.query, kind % 24),
+        7 => openings::harmed(l, s.query, kind % 14),
+        8 => openings::unlike(l, s.query, kind % 28),
         _ => harmed_card(l, s, is_read),
     }
 }

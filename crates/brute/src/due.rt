@@ -38,10 +38,11 @@ pub fn number(a: Answer) -> u32 {
     }
 }
 
-// A query over two tables, how many rows they have and how many of these stand above a withdrawn one, and the most rows
-// that it may read of one.
+// A query over two tables, whether no shades can meet it, how many rows the tables have and how many of these stand
+// above a withdrawn one, and the most rows that it may read of one.
 pub struct Case {
     pub query: Query,
+    pub none: bool,
     pub rows: Counts,
     pub live: Counts,
     pub limit: u32,
@@ -82,11 +83,11 @@ fn is_empty(rows: u32, live: u32, depth: u32) -> bool {
     (rows == 0) | ((live == 0) & (0 < depth))
 }
 
-// Whether a table is empty, or both are read out.
+// Whether nothing can qualify, a table is empty, or both are read out.
 fn all_read(c: Case, d: Counts) -> bool {
     let field = is_empty(c.rows.field.0, c.live.field.0, d.field.0);
     let trim = is_empty(c.rows.trim.0, c.live.trim.0, d.trim.0);
-    (field | trim) | (field_out(c, d) & trim_out(c, d))
+    (c.none | (field | trim)) | (field_out(c, d) & trim_out(c, d))
 }
 
 // How many of the pairs read no pair with an unread row can outdo.
@@ -131,9 +132,10 @@ fn least_sure(c: Case, m: &Sums) -> u32 {
     least
 }
 
-pub fn case_of(query: Query, rows: Counts, live: Counts, m: &Sums) -> Case {
+pub fn case_of(query: Query, card: u32, rows: Counts, live: Counts, m: &Sums) -> Case {
     let mut c = Case {
         query,
+        none: plain::none_qualify(query, card),
         rows,
         live,
         limit: 0,

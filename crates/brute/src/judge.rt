@@ -4,7 +4,9 @@ use crate::due::Case;
 use crate::plain;
 use crate::plain::Sums;
 use rules::Counts;
+use rules::Meaning;
 use rules::Pair;
+use rules::Query;
 use rules::Session;
 use rules::TwoTables;
 use std::num::wrapping_add_u32;
@@ -86,6 +88,29 @@ fn same_tables(a: TwoTables, b: TwoTables) -> bool {
     rows & (a.card == b.card)
 }
 
+fn is_surely(m: Meaning) -> bool {
+    match m {
+        Meaning::Surely => true,
+        Meaning::Possibly => false,
+    }
+}
+
+fn same_tolerances(a: Query, b: Query) -> bool {
+    let field = a.tolerances.field.0 == b.tolerances.field.0;
+    let trim = a.tolerances.trim.0 == b.tolerances.trim.0;
+    let m = a.meaning;
+    let n = b.meaning;
+    (field & trim) & (is_surely(m) == is_surely(n))
+}
+
+fn same_query(a: Query, b: Query) -> bool {
+    let sizes = (a.block == b.block) & (a.radius == b.radius);
+    let v = a.weights;
+    let w = b.weights;
+    let weights = (v.field.0 == w.field.0) & (v.trim.0 == w.trim.0);
+    ((a.k == b.k) & (sizes & weights)) & same_tolerances(a, b)
+}
+
 fn same_pair(a: Pair, b: Pair) -> bool {
     (a.sum == b.sum) & ((a.field == b.field) & (a.trim == b.trim))
 }
@@ -102,11 +127,7 @@ fn same_pairs(a: [Pair; 64], b: [Pair; 64]) -> bool {
 pub fn differs(a: Session, b: Session) -> u32 {
     let p = a.pairs;
     let q = b.pairs;
-    let sizes = (a.query.block == b.query.block) & (a.query.radius == b.query.radius);
-    let v = a.query.weights;
-    let w = b.query.weights;
-    let weights = (v.field.0 == w.field.0) & (v.trim.0 == w.trim.0);
-    let query = (a.query.k == b.query.k) & (sizes & weights);
+    let query = same_query(a.query, b.query);
     let kept = query & (same_tables(a.rows, b.rows) & (a.out == b.out));
     let read = same_counts(a.depth, b.depth) & (a.last == b.last);
     let held = (a.held == b.held) & same_pairs(p, q);

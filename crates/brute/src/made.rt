@@ -3,8 +3,12 @@
 use crate::dice;
 use crate::plain;
 use crate::plain::Table;
+use rules::FieldTolerance;
 use rules::FieldWeight;
+use rules::Meaning;
 use rules::Query;
+use rules::Tolerances;
+use rules::TrimTolerance;
 use rules::TrimWeight;
 use rules::Weights;
 use std::num::wrapping_add_u32;
@@ -62,6 +66,23 @@ fn radius(seed: u64, card: u32) -> u32 {
     }
 }
 
+// Small ones, so that every place within them can be looked at; often none.
+fn tolerances(seed: u64) -> Tolerances {
+    let field = dice::pick(seed, 16, [0, 0, 0, 0, 0, 1, 1, 2]);
+    let trim = dice::pick(seed, 17, [0, 0, 0, 0, 0, 1, 1, 2]);
+    Tolerances {
+        field: FieldTolerance(field),
+        trim: TrimTolerance(trim),
+    }
+}
+
+fn meaning(seed: u64) -> Meaning {
+    if dice::one_in(seed, 18, 2) {
+        return Meaning::Surely;
+    }
+    Meaning::Possibly
+}
+
 // Equal weights often, so that ties are; and some that make ties of unlike scores.
 pub fn query(seed: u64, card: u32) -> Query {
     let field = dice::pick(seed, 12, [1, 1, 1, 1, 2, 3, 9, 9]);
@@ -75,6 +96,8 @@ pub fn query(seed: u64, card: u32) -> Query {
         block: dice::pick(seed, 7, [1, 1, 2, 2, 3, 4, 4, 1024]),
         radius: radius(seed, card),
         weights,
+        tolerances: tolerances(seed),
+        meaning: meaning(seed),
     }
 }
 

@@ -1,5 +1,6 @@
 // The session against a plain double loop, over tables made from seeds. Prints totals; the comparer is tried first.
 use crate::due::Case;
+use crate::plain::Decided;
 use libc::STDOUT_FILENO;
 use rules::Counts;
 
@@ -26,12 +27,13 @@ fn case(seed: u64, tally: &mut [u64; 48]) {
         plain::live(card, &field, rows.field.0),
         plain::live(card, &trim, rows.trim.0),
     );
-    let c = due::case_of(query, rows, live, &sums);
+    let c = due::case_of(query, card, rows, live, &sums);
     let lent = calls::first_rows(card, field, trim, rows);
     let seen = play::whole(c, &sums, lent, seed, tally);
     counted(c, seen.said, seen.fault, seen.session.depth, tally);
-    let apart = plain::kept_apart(query, card, &field, &trim, rows);
-    counted_on(card, apart, tally);
+    let decided = plain::deciders(query, card, &field, &trim, rows);
+    counted_on(card, decided, tally);
+    tally::count_if(tally, c.none, tally::UNSATISFIABLE);
     let far = plain::far_blocks(&sums, seen.session.depth);
     counted_far(far, seen.session.joined, tally);
 }
@@ -42,11 +44,12 @@ fn counted_far(far: u32, joined: u64, tally: &mut [u64; 48]) {
     tally::count_if(tally, (0 < far) & (0 < joined), tally::FAR_AND_JOINED);
 }
 
-// By card, and by how many pairs L alone keeps apart.
-fn counted_on(card: u32, apart: u32, tally: &mut [u64; 48]) {
+// By card, and by what decides of pairs.
+fn counted_on(card: u32, decided: Decided, tally: &mut [u64; 48]) {
     tally::count_if(tally, card == 2, tally::OLD_CARD);
     tally::count_if(tally, card == 3, tally::NEW_CARD);
-    tally::count_if(tally, 0 < apart, tally::BY_LIGHT);
+    tally::count_if(tally, 0 < decided.by_light, tally::BY_LIGHT);
+    tally::count_if(tally, 0 < decided.by_tolerance, tally::BY_TOLERANCE);
 }
 
 fn counted(c: Case, said: u32, fault: u32, d: Counts, tally: &mut [u64; 48]) {
@@ -88,6 +91,16 @@ fn totals(a: [u64; 48]) {
     line(a, tally::OLD_CARD, b"on the old card: ");
     line(a, tally::NEW_CARD, b"on the new card: ");
     line(a, tally::BY_LIGHT, b"with pairs that L alone keeps apart: ");
+    line(
+        a,
+        tally::BY_TOLERANCE,
+        b"with pairs that tolerances decide: ",
+    );
+    line(
+        a,
+        tally::UNSATISFIABLE,
+        b"with a query that nothing can meet: ",
+    );
     line(a, tally::FAR, b"with block pairs too far apart: ");
     line(
         a,
@@ -127,6 +140,7 @@ fn refusals(a: [u64; 48]) {
     refused(a, 10);
     refused(a, 12);
     refused(a, 15);
+    refused(a, 16);
     line(a, 0, b"not refused so, or changed: ");
 }
 

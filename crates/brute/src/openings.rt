@@ -6,10 +6,14 @@ use crate::calls::kinds;
 use crate::due;
 use crate::judge;
 use crate::plain;
+use rules::FieldTolerance;
 use rules::FieldWeight;
 use rules::Kinds;
+use rules::Meaning;
 use rules::Query;
 use rules::Session;
+use rules::Tolerances;
+use rules::TrimTolerance;
 use rules::TrimWeight;
 use rules::Weights;
 
@@ -29,17 +33,40 @@ fn weighing(field: u32, trim: u32, q: Query) -> Query {
     r
 }
 
-// A query of weights 1 and 1.
+// A surely query with these tolerances.
+pub fn surely(field: u32, trim: u32, q: Query) -> Query {
+    let tolerances = Tolerances {
+        field: FieldTolerance(field),
+        trim: TrimTolerance(trim),
+    };
+    let weights = q.weights;
+    Query {
+        k: q.k,
+        block: q.block,
+        radius: q.radius,
+        weights,
+        tolerances,
+        meaning: Meaning::Surely,
+    }
+}
+
+// A query of weights 1 and 1, and tolerances 0 and 0.
 pub fn query(k: u32, block: u32, radius: u32) -> Query {
     let weights = Weights {
         field: FieldWeight(1),
         trim: TrimWeight(1),
+    };
+    let tolerances = Tolerances {
+        field: FieldTolerance(0),
+        trim: TrimTolerance(0),
     };
     Query {
         k,
         block,
         radius,
         weights,
+        tolerances,
+        meaning: Meaning::Possibly,
     }
 }
 
@@ -79,7 +106,10 @@ pub fn harmed(l: Lent, q: Query, kind: u32) -> u32 {
         7 => opening(l, weighing(1, 0, q), 12),
         8 => opening(sized(l, l.fields, 7), q, 4),
         9 => opening(sized(l, other, l.trims), q, 4),
-        _ => opening(sized(l, l.fields, other), q, 4),
+        10 => opening(sized(l, l.fields, other), q, 4),
+        11 => opening(l, surely(501, 0, q), 16),
+        12 => opening(sized(l, 7, l.trims), surely(0, 501, q), 16),
+        _ => opening(l, surely(501, 501, weighing(1, 10, q)), 12),
     }
 }
 
@@ -98,6 +128,7 @@ pub fn unlike(l: Lent, q: Query, kind: u32) -> u32 {
         1 => told(l, no_trim, q, 10),
         2 => told(sized(l, 7, l.trims), no_trim, q, 10),
         3 => told(l, no_field, weighing(1, 10, q), 12),
+        4 => told(l, no_trim, surely(0, 501, q), 16),
         _ => two_cards(l, q, kind % 8),
     }
 }

@@ -2,6 +2,7 @@
 // trim row, and ranks the pairs. Rows are numbered from 1.
 use rules::Counts;
 use rules::FieldRows;
+use rules::Meaning;
 use rules::Pair;
 use rules::Query;
 use rules::TrimRows;
@@ -116,13 +117,83 @@ pub fn live(card: u32, t: &Table, rows: u32) -> u32 {
     n
 }
 
-// Whether a pair qualifies.
-fn qualifies(query: Query, x: Row, y: Row) -> bool {
-    let gone = (x.score == 20000) | (y.score == 20000);
+// Whether two shades lie within the radius, as they stand.
+fn near(query: Query, x: Row, y: Row) -> bool {
     let a = square(apart(x.a, y.a));
     let b = square(apart(x.b, y.b));
     let light = square(apart(x.light, y.light));
-    !gone & (wrapping_add_u64(wrapping_add_u64(a, b), light) <= square(query.radius))
+    wrapping_add_u64(wrapping_add_u64(a, b), light) <= square(query.radius)
+}
+
+// How many places a shade of 2 or 3 coordinates may have within a tolerance of 0, 1 or 2.
+const PLACES: [u32; 6] = [1, 9, 25, 1, 27, 125];
+
+fn place_count(card: u32, tolerance: u32) -> u32 {
+    PLACES[(3 * (card % 2) + tolerance % 3) as usize]
+}
+
+fn moved(x: u32, tolerance: u32, by: u32) -> u32 {
+    wrapping_sub_u32(wrapping_add_u32(x, by), tolerance)
+}
+
+// One of these places, by its number.
+fn place_at(card: u32, tolerance: u32, x: Row, i: u32) -> Row {
+    let n = 2 * (tolerance % 3) + 1;
+    let mut p = x;
+    p.a = moved(x.a, tolerance, i % n);
+    p.b = moved(x.b, tolerance, i / n % n);
+    if card == 3 {
+        p.light = moved(x.light, tolerance, i / n / n % n);
+    }
+    p
+}
+
+// Near how many places of the trim shade y the shade x lies.
+fn near_places(query: Query, card: u32, x: Row, y: Row) -> u32 {
+    let tolerance = query.tolerances.trim.0;
+    let most = place_count(card, tolerance);
+    let mut n = 0;
+    for j in 0..most {
+        let here = near(query, x, place_at(card, tolerance, y, j));
+        n = wrapping_add_u32(n, here as u32);
+    }
+    n
+}
+
+// Whether two shades qualify: surely, for all places within both tolerances; possibly, for some.
+fn shades_qualify(query: Query, card: u32, x: Row, y: Row) -> bool {
+    let tolerance = query.tolerances.field.0;
+    let places = place_count(card, tolerance);
+    let most = place_count(card, query.tolerances.trim.0);
+    let mut some = false;
+    let mut all = true;
+    for i in 0..places {
+        let n = near_places(query, card, place_at(card, tolerance, x, i), y);
+        some = some | (0 < n);
+        all = all & (n == most);
+    }
+    let meaning = query.meaning;
+    match meaning {
+        Meaning::Surely => all,
+        Meaning::Possibly => some,
+    }
+}
+
+// Whether not even a shade and its like qualify.
+pub fn none_qualify(query: Query, card: u32) -> bool {
+    let x = Row {
+        score: 1,
+        a: 20000,
+        b: 20000,
+        light: 20000,
+    };
+    !shades_qualify(query, card, x, x)
+}
+
+// Whether a pair qualifies.
+fn qualifies(query: Query, card: u32, x: Row, y: Row) -> bool {
+    let gone = (x.score == 20000) | (y.score == 20000);
+    !gone & shades_qualify(query, card, x, y)
 }
 
 // The lowest and the highest of some numbers, raised.
@@ -166,23 +237,24 @@ struct Blocks {
     pub last: Counts,
 }
 
-// What lies between two blocks in number c, squared.
-fn gap_squared(card: u32, f: &Table, t: &Table, b: Blocks, c: u32) -> u64 {
+// What lies between two blocks in number c, less both tolerances, squared.
+fn gap_squared(query: Query, card: u32, f: &Table, t: &Table, b: Blocks, c: u32) -> u64 {
     let x = ends_of(card, f, b.first.field.0, b.last.field.0, c);
     let y = ends_of(card, t, b.first.trim.0, b.last.trim.0, c);
-    square(between(x, y))
+    let less = above(query.tolerances.field.0, between(x, y));
+    square(above(query.tolerances.trim.0, less))
 }
 
 // Whether two blocks lie too far apart for a pair.
-fn far(radius: u32, card: u32, f: &Table, t: &Table, b: Blocks) -> bool {
-    let a = gap_squared(card, f, t, b, 2);
-    let shade = wrapping_add_u64(a, gap_squared(card, f, t, b, 3));
+fn far(query: Query, card: u32, f: &Table, t: &Table, b: Blocks) -> bool {
+    let a = gap_squared(query, card, f, t, b, 2);
+    let shade = wrapping_add_u64(a, gap_squared(query, card, f, t, b, 3));
     let light = if card == 3 {
-        gap_squared(card, f, t, b, 4)
+        gap_squared(query, card, f, t, b, 4)
     } else {
         0
     };
-    square(radius) < wrapping_add_u64(shade, light)
+    square(query.radius) < wrapping_add_u64(shade, light)
 }
 
 // Whether a block begins after row c.
@@ -219,13 +291,7 @@ fn begin_far(query: Query, card: u32, f: &Table, t: &Table, first: Counts, rows:
     if !begin(query.block, first) {
         return false;
     }
-    far(
-        query.radius,
-        card,
-        f,
-        t,
-        blocks_from(query.block, first, rows),
-    )
+    far(query, card, f, t, blocks_from(query.block, first, rows))
 }
 
 // What is told of a pair beside its sum.
@@ -235,7 +301,7 @@ fn told(query: Query, card: u32, f: &Table, t: &Table, first: Counts, rows: Coun
     let y = row_at(card, t, first.trim.0);
     wrapping_add_u32(
         wrapping_add_u32(apart, apart),
-        qualifies(query, x, y) as u32,
+        qualifies(query, card, x, y) as u32,
     )
 }
 
@@ -261,24 +327,47 @@ pub fn sums(query: Query, card: u32, f: &Table, t: &Table, rows: Counts) -> Sums
     m
 }
 
-// Whether a pair is near by a and b, and L alone keeps it apart.
+// Whether two shades are near by a and b, and L alone keeps them apart.
 fn apart_by_light(query: Query, x: Row, y: Row) -> bool {
     let mut z = y;
     z.light = x.light;
-    qualifies(query, x, z) & !qualifies(query, x, y)
+    near(query, x, z) & !near(query, x, y)
 }
 
-// How many pairs of so many rows L alone keeps apart.
-pub fn kept_apart(query: Query, card: u32, f: &Table, t: &Table, rows: Counts) -> u32 {
-    let mut n = 0;
+// Whether two shades qualify or do not by the tolerances alone.
+fn by_tolerance(query: Query, card: u32, x: Row, y: Row) -> bool {
+    near(query, x, y) != shades_qualify(query, card, x, y)
+}
+
+// Of how many pairs L alone decides, and of how many the tolerances do.
+pub struct Decided {
+    pub by_light: u32,
+    pub by_tolerance: u32,
+}
+
+fn with_rows(d: Decided, query: Query, card: u32, x: Row, y: Row) -> Decided {
+    let light = apart_by_light(query, x, y) as u32;
+    let tolerance = by_tolerance(query, card, x, y) as u32;
+    Decided {
+        by_light: wrapping_add_u32(d.by_light, light),
+        by_tolerance: wrapping_add_u32(d.by_tolerance, tolerance),
+    }
+}
+
+// The same of all pairs of so many rows.
+pub fn deciders(query: Query, card: u32, f: &Table, t: &Table, rows: Counts) -> Decided {
+    let mut d = Decided {
+        by_light: 0,
+        by_tolerance: 0,
+    };
     for x in 0u32..144 {
         let i = x / 12 + 1;
         let j = x % 12 + 1;
-        let lent = (i <= rows.field.0) & (j <= rows.trim.0);
-        let by_light = apart_by_light(query, row_at(card, f, i), row_at(card, t, j));
-        n = wrapping_add_u32(n, (lent & by_light) as u32);
+        if (i <= rows.field.0) & (j <= rows.trim.0) {
+            d = with_rows(d, query, card, row_at(card, f, i), row_at(card, t, j));
+        }
     }
-    n
+    d
 }
 
 fn entry_at(m: &Sums, i: u32, j: u32) -> u32 {

@@ -1,4 +1,4 @@
-// Counters. Places 1 to 15 count refusals by their number, 20 to 25 answers by theirs, 0 calls that were not refused
+// Counters. Places 1 to 16 count refusals by their number, 20 to 25 answers by theirs, 0 calls that were not refused
 // so.
 
 pub const CASES: u32 = 30;
@@ -29,6 +29,11 @@ pub const BY_LIGHT: u32 = 41;
 pub const FAR: u32 = 42;
 
 pub const FAR_AND_JOINED: u32 = 43;
+
+// With pairs that tolerances decide; with a query that nothing can meet.
+pub const BY_TOLERANCE: u32 = 44;
+
+pub const UNSATISFIABLE: u32 = 45;
 
 pub fn count(tally: &mut [u64; 48], i: u32) {
     if i < 48 {

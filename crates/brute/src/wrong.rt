@@ -19,6 +19,7 @@ use crate::play;
 use libc::STDOUT_FILENO;
 use rules::Answer;
 use rules::Pair;
+use rules::Query;
 use rules::Session;
 use rules::Step;
 use std::num::wrapping_add_u32;
@@ -50,19 +51,18 @@ fn tables() -> Lent {
     calls::first_rows(2, table(2, 9, 8, 1), table(2, 7, 5, 2), plain::counts(3, 3))
 }
 
-fn sums(card: u32) -> Sums {
-    let f = table(card, 9, 8, 1);
-    let t = table(card, 7, 5, 2);
-    plain::sums(openings::query(3, 2, 5), card, &f, &t, plain::counts(3, 3))
+fn query() -> Query {
+    openings::query(3, 2, 5)
 }
 
-fn case(m: &Sums) -> Case {
-    due::case_of(
-        openings::query(3, 2, 5),
-        plain::counts(3, 3),
-        plain::counts(3, 3),
-        m,
-    )
+fn sums(card: u32, q: Query) -> Sums {
+    let f = table(card, 9, 8, 1);
+    let t = table(card, 7, 5, 2);
+    plain::sums(q, card, &f, &t, plain::counts(3, 3))
+}
+
+fn case(card: u32, q: Query, m: &Sums) -> Case {
+    due::case_of(q, card, plain::counts(3, 3), plain::counts(3, 3), m)
 }
 
 // What the comparer must see at its end.
@@ -78,13 +78,13 @@ fn right() -> Seen {
 }
 
 // Says whether the comparer finds this fault on a card.
-fn finds_on(card: u32, name: &[u8], s: Seen, fault: u32) {
-    let m = sums(card);
-    line(name, judge::fault(case(&m), &m, s) == fault);
+fn finds_on(card: u32, q: Query, name: &[u8], s: Seen, fault: u32) {
+    let m = sums(card, q);
+    line(name, judge::fault(case(card, q, &m), &m, s) == fault);
 }
 
 fn finds(name: &[u8], s: Seen, fault: u32) {
-    finds_on(2, name, s, fault);
+    finds_on(2, query(), name, s, fault);
 }
 
 // The right list with another pair at a place.
@@ -111,10 +111,25 @@ fn wrong_pairs() {
 
 // On the new card, where the third rows are far from the others by L alone.
 fn wrong_light() {
-    finds_on(3, b"a right list on the new card, no fault", right(), 0);
+    let q = query();
+    finds_on(3, q, b"a right list on the new card, no fault", right(), 0);
     let mut s = right();
     s.given[1] = pair(11, 1, 3);
-    finds_on(3, b"too far apart by L alone", s, judge::TOO_FAR);
+    finds_on(3, q, b"too far apart by L alone", s, judge::TOO_FAR);
+}
+
+// With tolerances 1 and 2, where equal shades may lie 3 and 3 apart, and with 2 and 2: 4 and 4.
+fn wrong_tolerance() {
+    let q = openings::surely(1, 2, query());
+    finds_on(2, q, b"a right list of sure pairs, no fault", right(), 0);
+    let none = openings::surely(2, 2, query());
+    finds_on(
+        2,
+        none,
+        b"too far apart by the tolerances",
+        right(),
+        judge::TOO_FAR,
+    );
 }
 
 // The first n pairs of the right list, an answer, and the one that was due.
@@ -149,7 +164,7 @@ fn wrong_record() {
 
 // The record after n reads.
 fn reads(n: u32) -> Session {
-    let step = calls::open(tables(), openings::query(3, 2, 5));
+    let step = calls::open(tables(), query());
     let mut s = step.session;
     for i in 0..n {
         let next = calls::call(tables(), s, true);
@@ -173,11 +188,11 @@ fn third_record(kind: u32) -> Session {
 }
 
 fn third_read(name: &[u8], kind: u32, fault: u32) {
-    let m = sums(2);
+    let m = sums(2, query());
     let z = pair(0, 0, 0);
     let none = [z; 64];
     let r = third_record(kind);
-    let found = play::record_fault(case(&m), &m, tables(), reads(2), r, READ, none);
+    let found = play::record_fault(case(2, query(), &m), &m, tables(), reads(2), r, READ, none);
     line(name, found == fault);
 }
 
@@ -197,7 +212,7 @@ fn wrong_records() {
 // How many kinds of harm to a record are seen as a change.
 fn harms_seen(s: Session) -> u32 {
     let mut n = 0;
-    for kind in 0u32..27 {
+    for kind in 0u32..30 {
         let fault = judge::differs(s, calls::harmed(s, kind));
         n = wrapping_add_u32(n, (fault != 0) as u32);
     }
@@ -219,13 +234,14 @@ fn wrong_refusals() {
         !passes(Answer::Refused(5), 3),
     );
     let seen = harms_seen(reads(3));
-    line(b"27 kinds of harm to a record, each a change", seen == 27);
+    line(b"30 kinds of harm to a record, each a change", seen == 30);
 }
 
 pub fn all() {
     finds(b"a right list, no fault", right(), 0);
     wrong_pairs();
     wrong_light();
+    wrong_tolerance();
     wrong_answers();
     wrong_depth();
     wrong_record();

@@ -8,13 +8,13 @@ use Rattle.rules.specs.declared.Pair.{Pair}
 use Rattle.rules.specs.declared.Session.{Session}
 use Rattle.rules.specs.declared.Weights.{Weights}
 use Rattle.rules.specs.Tables.{Table}
-use Rattle.rules.specs.Session.{ceilingBy, securedBy, secured}
+use Rattle.rules.specs.Session.{exactQuery, ceilingBy, securedBy, secured}
 
 -- a session of these alone
 abbrev pub bare : ℕ → Counts → Counts → Weights → Session
 bare n rows depth weights =
     record {
-      query = record { k = 0; block = 0; radius = 0; weights = weights };
+      query = exactQuery 0 0 0 weights;
       rows = record { field = rows .field; trim = rows .trim; card = n };
       depth = depth;
       last = 0;

@@ -15,8 +15,8 @@ use Rattle.rules.specs.declared.Session.{Session}
 use Rattle.rules.specs.Tables.{ahead}
 use Rattle.rules.specs.Session.{noPair, heldPairs}
 use Rattle.rules.specs.Read.{blockCount}
-use Rattle.rules.specs.Calls.{isCard, queryCode, countsFit, pairFits, markFits, isZeros, recordFits}
-use Rattle.number_checks.specs.Grounds.{markOf, numbersFit}
+use Rattle.rules.specs.Calls.{isCard, queryCode, countsFit, pairFits, markFits, isZeros, depthsFit, recordFits}
+use Rattle.number_checks.specs.Grounds.{markOf, depthsOf, numbersFit}
 use Rattle.checks.specs.Grounds.{pairWithin, placeFits, placesFrom}
 
 module _ (depth : Counts) where
@@ -101,7 +101,7 @@ pub answer : (s : Session)
     → recordFits s
     ≡ numbersFit (s .query) (s .rows) (s .depth) (s .last) (s .out) (s .held) (s .joined) && placesFrom 0 (s .held)
     (s .depth) noPair (s .pairs)
-unfolding recordFits pairFits pairWithin markFits markOf numbersFit
+unfolding recordFits pairFits pairWithin markFits markOf depthsFit depthsOf numbersFit
 answer s =
     order (eqb (queryCode (s .query)) 0)
     (countsFit (s .query .block) (s .rows .field .0) (s .depth .field .0))
@@ -111,6 +111,6 @@ answer s =
     (every isZeros (drop (s .held) (s .pairs)))
     (leb (s .joined)
     (blockCount (s .query .block) (s .depth .field .0) * blockCount (s .query .block) (s .depth .trim .0))
-    && isCard (s .rows .card))
+    && (isCard (s .rows .card) && depthsFit s))
     ∙ ap (λ (x : Bool). numbersFit (s .query) (s .rows) (s .depth) (s .last) (s .out) (s .held) (s .joined) && x)
     (sym (places-are (s .depth) (s .held) noPair (s .pairs)))

@@ -10,7 +10,7 @@ use Rattle.rules.specs.declared.FieldRows.{FieldRows}
 use Rattle.rules.specs.declared.TrimRows.{TrimRows}
 use Rattle.rules.specs.declared.Query.{Query}
 use Rattle.rules.specs.declared.Session.{Session}
-use Rattle.rules.specs.Session.{weights}
+use Rattle.rules.specs.Session.{weights, exactQuery}
 use Rattle.demand.specs.Demand.{Call, Line, promised, isAccepted, Follows, byRules}
 use Rattle.rules.specs.Tables.{Table, oldTable}
 
@@ -25,7 +25,7 @@ rowThen score a rest = oldTable (pos 1 ∷ score ∷ a ∷ pos 0 ∷ rest .numbe
 
 -- the best pair of rows at one place, by blocks of so many rows
 abbrev pub topOne : ℕ → Query
-topOne block = record { k = 1; block = block; radius = 0; weights = weights 1 1 }
+topOne block = exactQuery 1 block 0 (weights 1 1)
 
 abbrev pub fieldRows : ℕ → FieldRows
 fieldRows n = record { 0 = n }

@@ -17,7 +17,7 @@ use Rattle.rules.specs.declared.Step.{Step}
 use Rattle.rules.specs.declared.Answer.{Answer}
 use Rattle.rules.specs.declared.Answer.the-variants.{Refused, Opened, Read, Given, Finished}
 use Rattle.rules.specs.Tables.{Table, oldTable, natOf, Row, row, rowsQualify}
-use Rattle.rules.specs.Session.{weights}
+use Rattle.rules.specs.Session.{weights, exactQuery}
 use Rattle.rules.specs.Sure.{Sure, qualifyingSums}
 use Rattle.rules.specs.Calls.{openCall}
 use Rattle.rules.specs.Run.{run}
@@ -60,7 +60,7 @@ unfolding run
 same-tables = (refl, refl)
 
 abbrev pub query : Query
-query = record { k = 2; block = 1; radius = 5; weights = weights 1 1 }
+query = exactQuery 2 1 5 (weights 1 1)
 
 abbrev pub begun : Session
 begun = openCall query fields trims .session
@@ -141,8 +141,8 @@ abbrev patternAt : ℕ → ℕ → ℤ → ℤ → Row
 patternAt number score a b = record { pattern = number; score = score; shade = a ∷ b ∷ [] }
 
 -- "Each pair brought out qualifies,"
-pub qualify : (rowsQualify 5 (patternAt 101 90 (pos 0) (pos 0)) (patternAt 202 50 (pos 3) (pos 4)) ≡ true)
-    × (rowsQualify 5 (patternAt 102 80 (pos 100) (pos 0)) (patternAt 203 30 (pos 100) (pos 5)) ≡ true)
+pub qualify : (rowsQualify query (patternAt 101 90 (pos 0) (pos 0)) (patternAt 202 50 (pos 3) (pos 4)) ≡ true)
+    × (rowsQualify query (patternAt 102 80 (pos 100) (pos 0)) (patternAt 203 30 (pos 100) (pos 5)) ≡ true)
 unfolding row
 qualify = (first-brought .qualifying .near, second-brought .qualifying .near)
 

@@ -39,8 +39,8 @@ parts-le : (z : ℤ) → plus z + minus z ≤ mag z + 1
 parts-le (pos a) = omega arith
 parts-le (negsuc a) = omega arith
 
--- a small number, less and more by the radius
-module _ (x y : ℤ) (r : ℕ) (f : mag x < 16384) (g : mag y < 16384) (few : r ≤ 40000) where
+-- a small number, less and more by r
+module _ (x y : ℤ) (r : ℕ) (f : mag x < 16384) (g : mag y < 16384) (few : r ≤ 41000) where
   lower-fits : SFits w32 (x -ℤ pos r)
   lower-fits =
       let down = moved-down x r in
@@ -53,15 +53,15 @@ module _ (x y : ℤ) (r : ℕ) (f : mag x < 16384) (g : mag y < 16384) (few : r 
       let parts = parts-le x in
       record { sfits = omega (arith, mag-in (x +ℤ pos r) 60000 (omega arith) (omega arith)) }
 
-  radius-is : toZ w32 r ≡ pos r
-  radius-is = toZ-pos w32 {n = r} (omega arith)
+  number-is : toZ w32 r ≡ pos r
+  number-is = toZ-pos w32 {n = r} (omega arith)
 
   pub sub-fits : SFits w32 (held x -ℤ toZ w32 r)
-  sub-fits = rw (held-is x f, radius-is) lower-fits
+  sub-fits = rw (held-is x f, number-is) lower-fits
 
   pub add-fits : SFits w32 (held x +ℤ toZ w32 r)
-  add-fits = rw (held-is x f, radius-is) upper-fits
+  add-fits = rw (held-is x f, number-is) upper-fits
 
   pub test-is : (leZ (held (held x -ℤ toZ w32 r)) (held y) && leZ (held y) (held (held x +ℤ toZ w32 r)))
       ≡ leb (gap x y) r
-  test-is = rw (held-is x f, held-is y g, radius-is, toZ-ofZ lower-fits, toZ-ofZ upper-fits) (beside-is x y r)
+  test-is = rw (held-is x f, held-is y g, number-is, toZ-ofZ lower-fits, toZ-ofZ upper-fits) (beside-is x y r)

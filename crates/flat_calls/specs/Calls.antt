@@ -1,12 +1,13 @@
 -- What the session's calls answer and leave in the slices that they are lent: the rules' calls over a record laid
 -- out flat. Definitions only. Assumes nothing.
 use Prim.Native.Nat.{ℕ, _+_, _-_}
-use mathlib.Core.Bool.{Bool, true, cond, _||_}
+use mathlib.Core.Bool.{Bool, true, false, cond, _||_}
 use mathlib.Core.List.{List, [], _∷_}
 use lib.Dec.{ltb, eqb}
 use lib.IntN.{ℤ}
 use lib.ListN.{length}
-use Rattle.rules.specs.declared.Answer.the-variants.{Refused}
+use Rattle.rules.specs.declared.Answer.{Answer}
+use Rattle.rules.specs.declared.Answer.the-variants.{Refused, Opened, Read, Settled, Given, NotYet, Finished}
 use Rattle.rules.specs.declared.Session.{Session}
 use Rattle.rules.specs.declared.Step.{Step}
 use Rattle.rules.specs.Numbers.{shortSlice, Said, said, signed}
@@ -24,9 +25,19 @@ tooShort least l = ltb (length l) least
 abbrev pub orShort : Bool → Step → Step
 orShort short s = cond short (step (Refused shortSlice) (s .session)) s
 
--- the record's slice after a call: an accepted call's record is laid out in it; refused, it stands as it was
+-- the answers that come with another record than the one lent
+abbrev pub isNew : Answer → Bool
+isNew (Refused n) = false
+isNew Opened = true
+isNew Read = true
+isNew Settled = false
+isNew (Given p) = true
+isNew NotYet = false
+isNew Finished = false
+
+-- the record's slice after a call: such a record is laid out in it; else it stands as it was
 unfoldable pub leftIn : List ℕ → Step → List ℕ
-leftIn l s = cond (said (s .answer) .accepted) (laidIn l (s .session)) l
+leftIn l s = cond (isNew (s .answer)) (laidIn l (s .session)) l
 
 -- the slice lent for an answer's values after it: they stand at its front, the rest as it was
 abbrev pub writtenIn : List ℕ → Said → List ℕ

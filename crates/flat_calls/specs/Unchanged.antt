@@ -1,13 +1,13 @@
--- A refused call changes no lent number, nor does one that gives back the record that it was lent; and show's three
--- numbers name the rows that the rules' show returns. Assumes nothing.
-use mathlib.Core.Path.{_≡_, refl, ap, _∙_}
+-- A refused call changes no lent number; the record that stands in the slice after a call is the call's; and show's
+-- three numbers name the rows that the rules' show returns. Assumes nothing.
+use mathlib.Core.Path.{_≡_, refl, sym, ap}
 use mathlib.Core.Bool.{Bool, true, false, cond}
 use mathlib.Core.List.{List, [], _∷_}
-use Prim.Native.Nat.{ℕ, _+_, _-_, _<_, _≤_}
+use Prim.Native.Nat.{ℕ, _+_, _-_}
 use native.Mathlib.Omega.{arith}
 use lib.Dec.{eqb}
 use lib.IntN.{ℤ}
-use lib.ListN.{length, getD}
+use lib.ListN.{length, getD, drop}
 use Rattle.lists.specs.Bools.{clash}
 use Rattle.rules.specs.declared.Answer.{Answer}
 use Rattle.rules.specs.declared.Answer.the-variants.{Refused, Opened, Read, Settled, Given, NotYet, Finished}
@@ -15,21 +15,42 @@ use Rattle.rules.specs.declared.Session.{Session}
 use Rattle.rules.specs.declared.Step.{Step}
 use Rattle.rules.specs.Numbers.{said}
 use Rattle.rules.specs.Tables.{Table, part}
+use Rattle.rules.specs.Session.{placeCount}
 use Rattle.rules.specs.Take.{lastBlock, shownRows}
 use Rattle.rules.specs.Query.{wasGiven}
 use Rattle.rules.specs.Calls.{lentCode, showCall}
-use Rattle.record_layout.specs.Flat.{joinedAt, flatSize, word, laidIn, unflatten}
-use Rattle.record_layout.specs.RoundTrip.{forth}
-use Rattle.flat_calls.specs.Calls.{leftIn, writtenIn, blockNumbers, shownNumbers}
+use Rattle.record_layout.specs.Flat.{flatSize, laidIn, unflatten}
+use Rattle.record_layout.specs.RoundTrip.{back}
+use Rattle.flat_calls.specs.Calls.{isNew, leftIn, writtenIn, blockNumbers, shownNumbers}
 
--- of every call: refused, its record's slice stands as it was
-pub refused-left : (l : List ℕ) (s : Step) → said (s .answer) .accepted ≡ false → leftIn l s ≡ l
-unfolding leftIn
-refused-left l s e = rw e
+module _ (l : List ℕ) (s : Step) where
+  pub new-left : isNew (s .answer) ≡ true → leftIn l s ≡ laidIn l (s .session)
+  unfolding leftIn
+  new-left e = rw e
 
-pub accepted-left : (l : List ℕ) (s : Step) → said (s .answer) .accepted ≡ true → leftIn l s ≡ laidIn l (s .session)
-unfolding leftIn
-accepted-left l s e = rw e
+  -- of every call: refused, its record's slice stands as it was
+  pub refused-left : said (s .answer) .accepted ≡ false → leftIn l s ≡ l
+  unfolding leftIn
+  refused-left e = go (s .answer) e
+    where
+      go : (a : Answer) → said a .accepted ≡ false → cond (isNew a) (laidIn l (s .session)) l ≡ l
+      go (Refused n) e = refl
+      go Opened e = clash refl e
+      go Read e = clash refl e
+      go Settled e = refl
+      go (Given p) e = clash refl e
+      go NotYet e = refl
+      go Finished e = refl
+
+  -- after a call that comes with another record, or gives back the one lent, its record stands in the slice
+  pub record-left : length (s .session .pairs) ≡ placeCount → (isNew (s .answer) ≡ false → s .session ≡ unflatten l)
+      → unflatten (leftIn l s) ≡ s .session
+  unfolding leftIn
+  record-left full same = go (isNew (s .answer)) refl
+    where
+      go : (b : Bool) → isNew (s .answer) ≡ b → unflatten (cond b (laidIn l (s .session)) l) ≡ s .session
+      go true e = back (s .session) (drop flatSize l) full
+      go false e = sym (same e)
 
 -- an answer that brings out no pair has no values to write
 pub nothing-written : (l : List ℕ) (a : Answer) → wasGiven a ≡ false → writtenIn l (said a) ≡ l
@@ -40,17 +61,6 @@ nothing-written l Settled e = refl
 nothing-written l (Given p) e = clash refl e
 nothing-written l NotYet e = refl
 nothing-written l Finished e = refl
-
--- The record that stands in the slice, laid out there, changes no number; the lower one of its two for the block pairs
--- joined is one of 32 bits.
-module _ (l : List ℕ) (low : getD l joinedAt 0 < word) (long : flatSize ≤ length l) where
-  pub same-left : (s : Step) → s .session ≡ unflatten l → leftIn l s ≡ l
-  unfolding leftIn
-  same-left s e = go (said (s .answer) .accepted)
-    where
-      go : (accepted : Bool) → cond accepted (laidIn l (s .session)) l ≡ l
-      go true = ap (laidIn l) e ∙ forth l long low
-      go false = refl
 
 -- what show's three numbers name: rows first to first + count - 1 of the table
 unfoldable pub named : Table → Table → List ℕ → List ℤ

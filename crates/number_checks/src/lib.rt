@@ -1,14 +1,16 @@
-// What a query's numbers are refused by, 1 to 3 and 12, and the grounds of 5 that look at numbers.
+// What a query's numbers are refused by, 1 to 3, 12 and 16, and the grounds of 5 that look at numbers.
 use rules::Counts;
 use rules::Query;
 use rules::TwoTables;
 ghost use mathlib.Core.Path.{_≡_};
 ghost use Prim.Native.Nat.{_≤_, _<_};
+ghost use lib.Dec.{leb};
 ghost use Rattle.rules.specs.Tables.{mostRows};
 ghost use Rattle.rules.specs.Read.{blockCount};
-ghost use Rattle.rules.specs.Numbers.{weightRange, unless};
-ghost use Rattle.rules.specs.Calls.{between, queryCode, countsFit};
-ghost use Rattle.number_checks.specs.Grounds.{markOf, numbersFit};
+ghost use Rattle.rules.specs.Numbers.{weightRange, toleranceRange, unless};
+ghost use Rattle.rules.specs.Calls.{between, mostTolerance, queryCode, countsFit};
+ghost use Rattle.tolerances.specs.Counted.{TolerancesFit};
+ghost use Rattle.number_checks.specs.Grounds.{markOf, depthsOf, numbersFit};
 
 // 12 where a weight is outside 1 to 9.
 fn weight_code(weight: u32) -> u32
@@ -17,7 +19,14 @@ fn weight_code(weight: u32) -> u32
     tables::unless((1 <= weight) & (weight <= 9), rules::WEIGHT_RANGE)
 }
 
-// What a query is refused by, 1, 2, 3, then 12 of either weight; 0 where it is not.
+// 16 where a tolerance is outside 0 to 500.
+fn tolerance_code(tolerance: u32) -> u32
+    ensures { λ r. ⌜ r ≡ unless (leb tolerance mostTolerance) toleranceRange ⌝ }
+{
+    tables::unless(tolerance <= rules::MOST_TOLERANCE, rules::TOLERANCE_RANGE)
+}
+
+// What a query is refused by, 1, 2, 3, then 12 of either weight and 16 of either tolerance; 0 where it is not.
 pub fn query_code(q: Query) -> u32
     ensures { λ r. ⌜ r ≡ queryCode q ⌝ }
 {
@@ -26,7 +35,11 @@ pub fn query_code(q: Query) -> u32
     let radius = tables::unless(q.radius <= 40000, rules::RADIUS_RANGE);
     let field = weight_code(q.weights.field.0);
     let trim = weight_code(q.weights.trim.0);
-    let weights = tables::first(field, trim);
+    let tolerances = tables::first(
+        tolerance_code(q.tolerances.field.0),
+        tolerance_code(q.tolerances.trim.0),
+    );
+    let weights = tables::first(field, tables::first(trim, tolerances));
     tables::first(length, tables::first(block, tables::first(radius, weights)))
 }
 
@@ -64,6 +77,14 @@ pub fn block_count(block: u32, depth: u32) -> u64
     ((depth + block - 1) / block) as u64
 }
 
+// Of a query that nothing can meet, no row is read.
+fn depths_fit(q: Query, card: u32, depth: Counts) -> bool
+    requires { ⌜ TolerancesFit q ⌝ }
+    ensures { λ r. ⌜ r ≡ depthsOf q card depth ⌝ }
+{
+    !tolerances::unsatisfiable(q, card) | ((depth.field.0 == 0) & (depth.trim.0 == 0))
+}
+
 // All grounds but those of the pair places.
 pub fn numbers_fit(
     q: Query,
@@ -89,5 +110,6 @@ pub fn numbers_fit(
     let mark = mark_fits(last, depth);
     let most = block_count(q.block, depth.field.0) * block_count(q.block, depth.trim.0);
     let card = cards::is_card(rows.card);
-    few & (mark & ((joined <= most) & card))
+    let depths = depths_fit(q, rows.card, depth);
+    few & (mark & ((joined <= most) & (card & depths)))
 }

@@ -2,12 +2,16 @@
 use rules::Answer;
 use rules::Counts;
 use rules::FieldRows;
+use rules::FieldTolerance;
 use rules::FieldWeight;
 use rules::Kinds;
+use rules::Meaning;
 use rules::Query;
 use rules::Session;
 use rules::Step;
+use rules::Tolerances;
 use rules::TrimRows;
+use rules::TrimTolerance;
 use rules::TrimWeight;
 use rules::TwoTables;
 use rules::Weights;
@@ -32,7 +36,7 @@ fn tables_code(m: u32, f: &[i32], n: u32, t: &[i32]) -> u32
     )
 }
 
-// What an opening is refused by: 1, 2, 3, 12, 10, 4, 15; 0 where it is not.
+// What an opening is refused by: 1, 2, 3, 12, 16, 10, 4, 15; 0 where it is not.
 fn open_code(q: Query, m: u32, f: &[i32], n: u32, t: &[i32]) -> u32
     ensures { λ r. ⌜ r ≡ openCode q (table m (now (f .entry))) (table n (now (t .entry))) ⌝ }
 {
@@ -69,11 +73,17 @@ fn all_zeros() -> Session
         field: FieldWeight(0),
         trim: TrimWeight(0),
     };
+    let tolerances = Tolerances {
+        field: FieldTolerance(0),
+        trim: TrimTolerance(0),
+    };
     let q = Query {
         k: 0,
         block: 0,
         radius: 0,
         weights,
+        tolerances,
+        meaning: Meaning::Possibly,
     };
     let rows = TwoTables {
         field: FieldRows(0),

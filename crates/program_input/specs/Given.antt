@@ -15,7 +15,7 @@ use Rattle.rules.specs.declared.Query.{Query}
 use Rattle.rules.specs.declared.Card.the-variants.{New}
 use Rattle.rules.specs.Tables.{coordinates, kindCoordinates, mostRows, width}
 use Rattle.rules.specs.Widths.{next-row}
-use Rattle.rules.specs.Session.{weights}
+use Rattle.rules.specs.Session.{weights, exactQuery}
 use Rattle.rules.specs.Numbers.{tableSize, unless, first, saidOf, refusal}
 use Rattle.rules.specs.File.{rowBytes, checkFile}
 use Rattle.rules.specs.Query.{peeked, programKind, mostFileBytes, programFileCode, inputCode, inputQuery}
@@ -108,10 +108,9 @@ module _ (bytes : List ℕ) (kind : ℕ) where
 
 -- ---- The input
 
--- a query of one weight for both tables
+-- a query of one weight for both tables, and no tolerance
 abbrev pub evenly : ℕ → ℕ → ℕ → ℕ → Query
-evenly k block radius weight =
-    record { k = k; block = block; radius = radius; weights = weights weight weight }
+evenly k block radius weight = exactQuery k block radius (weights weight weight)
 
 -- the refusal's number, and the query (zeros where there is one)
 unfoldable pub inputHeld : List ℕ → Input

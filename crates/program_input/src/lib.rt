@@ -1,7 +1,11 @@
 // What the pairing program is given: the bytes of a file, and of its input.
+use rules::FieldTolerance;
 use rules::FieldWeight;
 use rules::Loaded;
+use rules::Meaning;
 use rules::Query;
+use rules::Tolerances;
+use rules::TrimTolerance;
 use rules::TrimWeight;
 use rules::Weights;
 ghost use mathlib.Core.Path.{_≡_};
@@ -92,7 +96,7 @@ pub fn load_table(bytes: &[u8], kind: u32, out: &mut [i32]) -> Loaded
     file::load(bytes, wanted, out)
 }
 
-// A query of one weight for both tables.
+// A query of one weight for both tables, and no tolerance.
 fn evenly(k: u32, block: u32, radius: u32, weight: u32) -> Query
     ensures { λ r. ⌜ r ≡ evenly k block radius weight ⌝ }
 {
@@ -100,11 +104,17 @@ fn evenly(k: u32, block: u32, radius: u32, weight: u32) -> Query
         field: FieldWeight(weight),
         trim: TrimWeight(weight),
     };
+    let tolerances = Tolerances {
+        field: FieldTolerance(0),
+        trim: TrimTolerance(0),
+    };
     Query {
         k,
         block,
         radius,
         weights,
+        tolerances,
+        meaning: Meaning::Possibly,
     }
 }
 

@@ -11,7 +11,7 @@ use Rattle.lists.specs.Appends.{each-append}
 use Rattle.lists.specs.Parts.{length-map-range}
 use Rattle.rules.specs.declared.Pair.{Pair}
 use Rattle.rules.specs.Session.{noPair}
-use Rattle.record_layout.specs.Flat.{pairsAt, pairSize, pairAt, flatPair, pairIn, pairsIn}
+use Rattle.record_layout.specs.Flat.{pairsAt, pairSize, pairAt, laidAt, flatPair, pairIn, pairsIn}
 use Rattle.record_layout.specs.RoundTrip.{flat-length, pairs-end}
 
 pub plus-1 : (n : ℕ) → n + 1 ≡ suc n
@@ -33,6 +33,17 @@ module _ {A : Type 0} (xs vs l : List A) (n m : ℕ) (h : length xs ≡ n) where
 
   pub onto : take n (xs ++ drop n l) ++ vs ++ drop (n + m) (xs ++ drop n l) ≡ xs ++ vs ++ drop (n + m) l
   onto = simp (take-at xs (drop n l) n h, after)
+
+-- numbers laid from place o on, and others behind them
+pub laid-on : (o : ℕ) (x y l : List ℕ) → o ≤ length l → laidAt (o + length x) y (laidAt o x l) ≡ laidAt o (x ++ y) l
+laid-on o x y l h =
+    let n = o + length x in
+    let front = take o l in
+    let long : length (front ++ x) ≡ n = omega (arith, length-append front x, length-take-le o l h) in
+    let e : n + length y ≡ o + length (x ++ y) = omega (arith, length-append x y) in
+    onto (front ++ x) y l n (length y) long
+    ∙ ap (λ (r : List ℕ). r ++ drop (n + length y) l) (append-assoc front x y)
+    ∙ ap (λ (m : ℕ). front ++ (x ++ y) ++ drop m l) e
 
 -- the pairs of the first i places
 module _ (l : List ℕ) where

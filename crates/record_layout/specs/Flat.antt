@@ -1,16 +1,21 @@
--- The session's record laid out flat: 207 numbers of 32 bits, as include/furzeladle.h lists them. Definitions only.
+-- The session's record laid out flat: 210 numbers of 32 bits, as include/furzeladle.h lists them. Definitions only.
 -- Assumes nothing.
 use Prim.Native.Nat.{ℕ, _+_, _*_, _/_, _%_}
+use mathlib.Core.Bool.{cond}
 use mathlib.Core.List.{List, [], _∷_, _++_, map}
+use lib.Dec.{eqb}
 use lib.ListN.{length, getD, take, drop}
 use Rattle.lists.specs.Lists.{range, each}
 use Rattle.rules.specs.declared.Pair.{Pair}
 use Rattle.rules.specs.declared.Kinds.{Kinds}
+use Rattle.rules.specs.declared.Meaning.{Meaning}
+use Rattle.rules.specs.declared.Meaning.the-variants.{Possibly, Surely}
 use Rattle.rules.specs.declared.Query.{Query}
+use Rattle.rules.specs.declared.Tolerances.{Tolerances}
 use Rattle.rules.specs.declared.Weights.{Weights}
 use Rattle.rules.specs.declared.Session.{Session}
 use Rattle.rules.specs.declared.Answer.the-variants.{Given}
-use Rattle.rules.specs.Session.{placeCount, weights}
+use Rattle.rules.specs.Session.{placeCount, weights, tolerances}
 use Rattle.rules.specs.Numbers.{said}
 
 -- Where a record's numbers stand: first three of the query's
@@ -55,7 +60,8 @@ joinedHighAt = 11
 abbrev pub pairsAt : ℕ
 pairsAt = 12
 
--- a lent query: k, block, radius as in a record, then its two weights and the tables' two kinds, which need not be lent
+-- a lent query: k, block, radius as in a record, then its two weights, the tables' two kinds, its two tolerances and
+-- its meaning, which need not be lent
 abbrev pub fieldWeightInQuery : ℕ
 fieldWeightInQuery = 3
 
@@ -67,6 +73,15 @@ fieldKindInQuery = 5
 
 abbrev pub trimKindInQuery : ℕ
 trimKindInQuery = 6
+
+abbrev pub fieldToleranceInQuery : ℕ
+fieldToleranceInQuery = 7
+
+abbrev pub trimToleranceInQuery : ℕ
+trimToleranceInQuery = 8
+
+abbrev pub meaningInQuery : ℕ
+meaningInQuery = 9
 
 -- how many numbers a lent query is at least
 abbrev pub querySize : ℕ
@@ -87,13 +102,23 @@ fieldWeightAt = pairAt placeCount
 abbrev pub trimWeightAt : ℕ
 trimWeightAt = fieldWeightAt + 1
 
--- and last the tables' card, by the number of its coordinates
+-- then the tables' card, by the number of its coordinates
 abbrev pub cardAt : ℕ
 cardAt = trimWeightAt + 1
 
--- a record: 207
+-- and last the query's two tolerances and its meaning
+abbrev pub fieldToleranceAt : ℕ
+fieldToleranceAt = cardAt + 1
+
+abbrev pub trimToleranceAt : ℕ
+trimToleranceAt = fieldToleranceAt + 1
+
+abbrev pub meaningAt : ℕ
+meaningAt = trimToleranceAt + 1
+
+-- a record: 210
 abbrev pub flatSize : ℕ
-flatSize = cardAt + 1
+flatSize = meaningAt + 1
 
 -- the first number above 32 bits
 abbrev pub word : ℕ
@@ -124,9 +149,21 @@ flatHead s =
     ∷ s .joined / word
     ∷ []
 
+-- a meaning as a number
+abbrev pub meaningNumber : Meaning → ℕ
+meaningNumber Possibly = 0
+meaningNumber Surely = 1
+
 -- the numbers behind the pair places
 unfoldable pub flatTail : Session → List ℕ
-flatTail s = s .query .weights .field .0 ∷ s .query .weights .trim .0 ∷ s .rows .card ∷ []
+flatTail s =
+    s .query .weights .field .0
+    ∷ s .query .weights .trim .0
+    ∷ s .rows .card
+    ∷ s .query .tolerances .field .0
+    ∷ s .query .tolerances .trim .0
+    ∷ meaningNumber (s .query .meaning)
+    ∷ []
 
 unfoldable pub flatten : Session → List ℕ
 flatten s = flatHead s ++ each flatPair (s .pairs) ++ flatTail s
@@ -137,13 +174,28 @@ laidIn l s = flatten s ++ drop flatSize l
 
 -- The way back: number i, of a query and of a record
 
--- the query that the first three numbers are, with these weights
-unfoldable pub queryWith : List ℕ → Weights → Query
-queryWith l w = record { k = getD l kAt 0; block = getD l blockAt 0; radius = getD l radiusAt 0; weights = w }
+-- the meaning that a number is: 0 is "possibly", any other "surely"
+unfoldable pub meaningOf : ℕ → Meaning
+meaningOf n = cond (eqb n 0) Possibly Surely
 
--- a lent query: a weight that is not lent is 1
+-- the query that the first three numbers are, with these weights, tolerances and this meaning
+unfoldable pub queryWith : List ℕ → Weights → Tolerances → Meaning → Query
+queryWith l w t m =
+    record {
+      k = getD l kAt 0;
+      block = getD l blockAt 0;
+      radius = getD l radiusAt 0;
+      weights = w;
+      tolerances = t;
+      meaning = m;
+    }
+
+-- a lent query: a weight that is not lent is 1, a tolerance and the meaning 0
 unfoldable pub queryIn : List ℕ → Query
-queryIn l = queryWith l (weights (getD l fieldWeightInQuery 1) (getD l trimWeightInQuery 1))
+queryIn l =
+    queryWith l (weights (getD l fieldWeightInQuery 1) (getD l trimWeightInQuery 1))
+    (tolerances (getD l fieldToleranceInQuery 0) (getD l trimToleranceInQuery 0))
+    (meaningOf (getD l meaningInQuery 0))
 
 -- the kinds that go with it: a kind that is not lent is the old card's, 1 for field and 2 for trim
 unfoldable pub kindsIn : List ℕ → Kinds
@@ -162,7 +214,9 @@ pairsIn l n = map (pairIn l) (range 0 n)
 unfoldable pub withPairs : List ℕ → List Pair → Session
 withPairs l pairs =
     record {
-      query = queryWith l (weights (getD l fieldWeightAt 0) (getD l trimWeightAt 0));
+      query =
+          queryWith l (weights (getD l fieldWeightAt 0) (getD l trimWeightAt 0))
+          (tolerances (getD l fieldToleranceAt 0) (getD l trimToleranceAt 0)) (meaningOf (getD l meaningAt 0));
       rows =
           record {
             field = record { 0 = getD l fieldRowsAt 0 };

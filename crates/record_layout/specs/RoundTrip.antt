@@ -8,19 +8,34 @@ use lib.ListN.{length, getD, take, drop, take-append-drop}
 use lib.Seq.{drop-cons, take-suc, take-all, take-add, drop-drop, getD-append-add}
 use Rattle.lists.specs.Lists.{each, range}
 use Rattle.lists.specs.Appends.{each-append, range-end}
+use Rattle.rules.specs.declared.Meaning.{Meaning}
+use Rattle.rules.specs.declared.Meaning.the-variants.{Possibly, Surely}
 use Rattle.rules.specs.declared.Pair.{Pair}
 use Rattle.rules.specs.declared.Session.{Session}
 use Rattle.rules.specs.Session.{noPair, placeCount}
 use Rattle.record_layout.specs.Flat.{joinedAt, joinedHighAt, pairsAt, pairSize, pairAt, fieldWeightAt}
-use Rattle.record_layout.specs.Flat.{trimWeightAt, cardAt, flatSize, word, flatPair, flatHead, flatTail}
-use Rattle.record_layout.specs.Flat.{flatten, queryWith, pairIn, pairsIn, withPairs, unflatten}
+use Rattle.record_layout.specs.Flat.{trimWeightAt, cardAt, fieldToleranceAt, trimToleranceAt, meaningAt, flatSize}
+use Rattle.record_layout.specs.Flat.{word, flatPair, flatHead, meaningNumber, flatTail, flatten, meaningOf}
+use Rattle.record_layout.specs.Flat.{queryWith, pairIn, pairsIn, withPairs, unflatten}
 
 zero-add : (n : ℕ) → 0 + n ≡ n
 zero-add n = omega arith
 
 -- how many numbers stand behind the pair places
 abbrev tailSize : ℕ
-tailSize = 3
+tailSize = 6
+
+-- a meaning comes back, and a number that is one
+pub meaning-back : (m : Meaning) → meaningOf (meaningNumber m) ≡ m
+unfolding meaningOf
+meaning-back Possibly = refl
+meaning-back Surely = refl
+
+meaning-forth : (n : ℕ) → n ≤ 1 → meaningNumber (meaningOf n) ≡ n
+unfolding meaningOf
+meaning-forth zero h = refl
+meaning-forth (suc zero) h = refl
+meaning-forth (suc (suc n)) h = absurd (omega arith)
 
 -- the pair that three numbers are, from place n on
 abbrev three : List ℕ → ℕ → Pair
@@ -106,6 +121,9 @@ module _ (s : Session) (rest : List ℕ) (full : length (s .pairs) ≡ placeCoun
       let field = tail-back 0 in
       let trim = tail-back 1 in
       let card = tail-back 2 in
+      let field-tolerance = tail-back 3 in
+      let trim-tolerance = tail-back 4 in
+      let meaning = ap meaningOf (tail-back 5) ∙ meaning-back (s .query .meaning) in
       ap unflatten laid-out
       ∙ (λ i.
       record {
@@ -114,6 +132,8 @@ module _ (s : Session) (rest : List ℕ) (full : length (s .pairs) ≡ placeCoun
           block = s .query .block;
           radius = s .query .radius;
           weights = record { field = record { 0 = field i }; trim = record { 0 = trim i } };
+          tolerances = record { field = record { 0 = field-tolerance i }; trim = record { 0 = trim-tolerance i } };
+          meaning = meaning i;
         };
         rows = record { field = s .rows .field; trim = s .rows .trim; card = card i };
         depth = s .depth;
@@ -177,25 +197,29 @@ module _ (l : List ℕ) (long : flatSize ≤ length l) where
         one-from 0 11 (omega arith),
       ))
 
-  tail-forth : flatTail (unflatten l) ≡ take tailSize (drop fieldWeightAt l)
+  tail-forth : getD l meaningAt 0 ≤ 1 → flatTail (unflatten l) ≡ take tailSize (drop fieldWeightAt l)
   unfolding flatTail unflatten withPairs queryWith
-  tail-forth =
+  tail-forth h =
       rw (
-        one-from 2 fieldWeightAt (omega arith),
-        one-from 1 trimWeightAt (omega arith),
-        one-from 0 cardAt (omega arith),
+        one-from 5 fieldWeightAt (omega arith),
+        one-from 4 trimWeightAt (omega arith),
+        one-from 3 cardAt (omega arith),
+        one-from 2 fieldToleranceAt (omega arith),
+        one-from 1 trimToleranceAt (omega arith),
+        one-from 0 meaningAt (omega arith),
+        meaning-forth (getD l meaningAt 0) h,
       )
 
-  -- the record that stands in a lent slice, laid out in it, changes no number
-  pub forth : getD l joinedAt 0 < word → flatten (unflatten l) ++ drop flatSize l ≡ l
+  -- the record that stands in a lent slice, its meaning 0 or 1, laid out in it, changes no number
+  pub forth : getD l joinedAt 0 < word → getD l meaningAt 0 ≤ 1 → flatten (unflatten l) ++ drop flatSize l ≡ l
   unfolding flatten unflatten withPairs
-  forth h =
+  forth h k =
       ap (λ (r : List ℕ). r ++ each flatPair (pairsIn l placeCount) ++ flatTail (unflatten l) ++ drop flatSize l)
       (head-forth h)
       ∙ ap (λ (r : List ℕ). take pairsAt l ++ r ++ flatTail (unflatten l) ++ drop flatSize l)
       (pairs-forth placeCount (omega arith))
       ∙ ap (λ (r : List ℕ). r ++ flatTail (unflatten l) ++ drop flatSize l)
       (sym (take-add pairsAt (pairSize * placeCount) l))
-      ∙ ap (λ (r : List ℕ). take fieldWeightAt l ++ r ++ drop flatSize l) tail-forth
+      ∙ ap (λ (r : List ℕ). take fieldWeightAt l ++ r ++ drop flatSize l) (tail-forth k)
       ∙ ap (λ (r : List ℕ). r ++ drop flatSize l) (sym (take-add fieldWeightAt tailSize l))
       ∙ take-append-drop flatSize l

@@ -1,4 +1,5 @@
 // The session's record laid out flat in a lent slice of numbers, for callers in C and Rust.
+use rules::Meaning;
 use rules::PLACES;
 use rules::Pair;
 use rules::Session;
@@ -7,7 +8,7 @@ ghost use mathlib.Core.List.{[], _∷_};
 ghost use Prim.Native.Nat.{_+_, _≤_};
 ghost use lib.ListN.{length};
 ghost use Rattle.record_layout.specs.Flat.{pairSize, fieldWeightAt, flatSize, laidAt, laidIn};
-ghost use Rattle.record_layout.specs.Flat.{flatPair, flatHead, flatTail};
+ghost use Rattle.record_layout.specs.Flat.{flatPair, flatHead, meaningNumber, flatTail};
 
 // Where a record's numbers stand: first three of the query's.
 pub const K: usize = 0;
@@ -43,15 +44,22 @@ pub const FIELD_WEIGHT: usize = PAIRS + PAIR_SIZE * PLACES;
 
 pub const TRIM_WEIGHT: usize = FIELD_WEIGHT + 1;
 
-// And last the tables' card, by the number of its coordinates.
+// Then the tables' card, by the number of its coordinates.
 pub const CARD: usize = TRIM_WEIGHT + 1;
+
+// And last the query's two tolerances, and its meaning: 0 possibly, 1 surely.
+pub const FIELD_TOLERANCE: usize = CARD + 1;
+
+pub const TRIM_TOLERANCE: usize = FIELD_TOLERANCE + 1;
+
+pub const MEANING: usize = TRIM_TOLERANCE + 1;
 
 // How many numbers a lent query is at least, a pair is, and a record.
 pub const QUERY_SIZE: usize = 3;
 
 pub const PAIR_SIZE: usize = 3;
 
-pub const SIZE: usize = CARD + 1;
+pub const SIZE: usize = MEANING + 1;
 
 // The first number above 32 bits.
 pub const WORD: u64 = 4294967296;
@@ -93,16 +101,31 @@ fn put_head(out: &mut [u32], s: Session)
     put_three(out, HELD, s.held, low, high);
 }
 
-// The two weights and the card, behind the pair places.
+// A meaning as a number.
+fn meaning_number(m: Meaning) -> u32
+    ensures { λ r. ⌜ r ≡ meaningNumber m ⌝ }
+{
+    match m {
+        Meaning::Possibly => 0,
+        Meaning::Surely => 1,
+    }
+}
+
+// The two weights, the card, the two tolerances and the meaning, behind the pair places.
 fn put_tail(out: &mut [u32], s: Session)
     requires { ⌜ flatSize ≤ length (now out) ⌝ }
     ensures { λ _. ⌜ now (out .exit) ≡ laidAt fieldWeightAt (flatTail s) (now (out .entry)) ⌝ }
 {
-    let w = s.query.weights;
+    let q = s.query;
+    let m = q.meaning;
+    let meaning = meaning_number(m);
+    let w = q.weights;
+    let t = q.tolerances;
     put_three(out, FIELD_WEIGHT, w.field.0, w.trim.0, s.rows.card);
+    put_three(out, FIELD_TOLERANCE, t.field.0, t.trim.0, meaning);
 }
 
-// A record laid out in the first 207 numbers; the rest is left as it was.
+// A record laid out in the first 210 numbers; the rest is left as it was.
 pub fn pack(s: Session, out: &mut [u32])
     requires { ⌜ flatSize ≤ length (now out) ⌝ }
     ensures { λ _. ⌜ now (out .exit) ≡ laidIn (now (out .entry)) s ⌝ }

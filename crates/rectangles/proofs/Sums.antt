@@ -13,11 +13,13 @@ use lib.ListN.{getD, take}
 use mir.Syntax.{w64}
 use mir.Val.{Fits}
 use borrow.Author.Tests.{lt-ltb, le-ltb, ltb-false}
+use Rattle.rules.specs.declared.Query.{Query}
 use Rattle.rules.specs.declared.Side.{Side}
-use Rattle.rules.specs.Tables.{Table, rowCount, firstRows, squares, side, rectangle, sideGap, farApart}
+use Rattle.rules.specs.Tables.{Table, rowCount, firstRows, squares, side, rectangle}
+use Rattle.rules.specs.Tables.{tolerance, loweredGap, farApart}
 use Rattle.rules.specs.Widths.{has-rows}
 use Rattle.rules.specs.Squares.{squareAt, squares-more, squares-first, squares-all}
-use Rattle.rules.specs.Rectangles.{noSide, far-first}
+use Rattle.rules.specs.Rectangles.{noSide, apartSquare, far-first}
 use Rattle.rectangles.specs.Sides.{sideIn, sidesIn, firstSides}
 use Rattle.rectangles.specs.SideLaws.{in-length, in-at, first-length, first-at, first-rectangle, all-first}
 
@@ -27,7 +29,8 @@ square-fits n h =
     let k : n * n ≤ 4294967295 * 4294967295 = mul-le-mul most most in
     record { fits = omega arith }
 
-module _ (l : List ℤ) (t : Table) (m : ℕ) where
+-- gaps are lowered by so much
+module _ (less : ℕ) (l : List ℤ) (t : Table) (m : ℕ) where
   abbrev x : List Side
   x = sidesIn (t .coordinates) l
 
@@ -36,46 +39,51 @@ module _ (l : List ℤ) (t : Table) (m : ℕ) where
 
   -- by the first k sides, and by all
   abbrev pub seen : ℕ → ℕ
-  seen k = squares sideGap (take k x) (take k y)
+  seen k = squares (loweredGap less) (take k x) (take k y)
 
   abbrev pub all : ℕ
-  all = squares sideGap x y
+  all = squares (loweredGap less) x y
 
-  pub next : (k g : ℕ) → k < t .coordinates → g ≡ sideGap (sideIn l k) (side t k (m - 1))
+  pub next : (k g : ℕ) → k < t .coordinates → g ≡ loweredGap less (sideIn l k) (side t k (m - 1))
       → seen (k + 1) ≡ seen k + g * g
   unfolding squareAt
   next k g h e =
-      let here : g ≡ sideGap (getD x k noSide) (getD y k noSide) =
-      e ∙ sym (ap₂ sideGap (in-at (t .coordinates) l k h) (first-at t m k h)) in
+      let here : g ≡ loweredGap less (getD x k noSide) (getD y k noSide) =
+      e ∙ sym (ap₂ (loweredGap less) (in-at (t .coordinates) l k h) (first-at t m k h)) in
       rw (add-one, here)
-      (squares-more sideGap noSide x y k (omega (arith, in-length (t .coordinates) l))
+      (squares-more (loweredGap less) noSide x y k (omega (arith, in-length (t .coordinates) l))
       (omega (arith, first-length t m)))
 
   -- too far by some sides is too far
   pub too-far : (k radius : ℕ) → radius * radius < seen k → true ≡ ltb (radius * radius) all
-  too-far k radius h = sym (lt-ltb (radius * radius) all (omega (arith, squares-first sideGap x y k)))
+  too-far k radius h = sym (lt-ltb (radius * radius) all (omega (arith, squares-first (loweredGap less) x y k)))
 
   pub near-enough : (k radius : ℕ) → t .coordinates ≤ k → seen k ≤ radius * radius
       → false ≡ ltb (radius * radius) all
   near-enough k radius h j =
-      let whole = squares-all sideGap x y k (omega (arith, in-length (t .coordinates) l))
+      let whole = squares-all (loweredGap less) x y k (omega (arith, in-length (t .coordinates) l))
       (omega (arith, first-length t m)) in
       sym (le-ltb (radius * radius) all (omega arith))
 
 -- of a table whose rectangle stands in the numbers
-module _ (radius : ℕ) (u : Table) (l : List ℤ) (t : Table) (stands : rectangle u ≡ sidesIn (t .coordinates) l) where
-  pub by-all : ltb (radius * radius) (all l t (rowCount t)) ≡ farApart radius u t
+module _ (q : Query) (u : Table) (l : List ℤ) (t : Table) (stands : rectangle u ≡ sidesIn (t .coordinates) l) where
+  abbrev r : ℕ
+  r = q .radius * q .radius
+
+  abbrev lowered : Side → Side → ℕ
+  lowered = loweredGap (tolerance q)
+
+  pub by-all : ltb r (all (tolerance q) l t (rowCount t)) ≡ farApart q u t
   unfolding farApart
-  by-all =
-      ap₂ (λ x y. ltb (radius * radius) (squares sideGap x y)) (sym stands) (sym (all-first t))
+  by-all = ap₂ (λ x y. ltb r (squares lowered x y)) (sym stands) (sym (all-first t))
 
   -- where the first rows are not too far, the block is not
-  pub by-first : (m : ℕ) → 0 < m → m ≤ rowCount t → ltb (radius * radius) (all l t m) ≡ false
-      → false ≡ farApart radius u t
+  pub by-first : (m : ℕ) → 0 < m → m ≤ rowCount t → ltb r (all (tolerance q) l t m) ≡ false
+      → false ≡ farApart q u t
   unfolding farApart
   by-first m some h e =
-      let same : squares sideGap (rectangle u) (rectangle (firstRows m t)) ≡ all l t m =
-      ap₂ (squares sideGap) stands (first-rectangle t m some (has-rows t m h)) in
-      let near : all l t m ≤ radius * radius = ltb-false (radius * radius) (all l t m) e in
-      let less = far-first u t m some h in
-      sym (le-ltb (radius * radius) (squares sideGap (rectangle u) (rectangle t)) (omega arith))
+      let same : apartSquare (tolerance q) u (firstRows m t) ≡ all (tolerance q) l t m =
+      ap₂ (squares lowered) stands (first-rectangle t m some (has-rows t m h)) in
+      let near : all (tolerance q) l t m ≤ r = ltb-false r (all (tolerance q) l t m) e in
+      let less = far-first (tolerance q) u t m some h in
+      sym (le-ltb r (apartSquare (tolerance q) u t) (omega arith))

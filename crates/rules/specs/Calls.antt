@@ -1,7 +1,7 @@
 -- docs/RULES.md, "Refusals": the grounds of each refusal, the order of checks, and with them the calls:
 -- opening, read, take, show. Definitions only. Assumes nothing.
 use Prim.Native.Nat.{ℕ, zero, suc, _+_, _*_, _-_, _%_}
-use mathlib.Core.Bool.{Bool, false, cond, _&&_, _||_}
+use mathlib.Core.Bool.{Bool, false, cond, _&&_, _||_, not}
 use mathlib.Core.List.{List, [], _∷_}
 use lib.Dec.{leb, ltb, eqb}
 use lib.IntN.{ℤ}
@@ -17,16 +17,20 @@ use Rattle.rules.specs.declared.Answer.the-variants.{Refused, Opened, Re
 use Rattle.rules.specs.Tables.{Table, coordinates, Terms, terms, width, mostRows, rowCount, rowInRange}
 use Rattle.rules.specs.Tables.{rowInOrder}
 use Rattle.rules.specs.Tables.{sizeFits, ahead}
-use Rattle.rules.specs.Session.{twoTables, opened, zeros, heldPairs, settledBy}
+use Rattle.rules.specs.Session.{twoTables, opened, zeros, heldPairs, nothingQualifies, settledBy}
 use Rattle.rules.specs.Read.{blockCount, fieldNextBy, oldDepth, newDepth, readBlockBy}
 use Rattle.rules.specs.Take.{firstHeld, givesPairBy, movedOut, finished, lastBlock, shownRows}
 use Rattle.rules.specs.Numbers.{listLength, blockSize, radiusRange, weightRange, tableSize, badRecord, rowLimit}
-use Rattle.rules.specs.Numbers.{rowOrder, wrongKind, otherCard, unless, first}
+use Rattle.rules.specs.Numbers.{rowOrder, wrongKind, otherCard, toleranceRange, unless, first}
 
 abbrev pub between : ℕ → ℕ → ℕ → Bool
 between low high n = leb low n && leb n high
 
--- 1, 2, 3, 12: the query's numbers
+-- "a tolerance, 0 to 500"
+abbrev pub mostTolerance : ℕ
+mostTolerance = 500
+
+-- 1, 2, 3, 12, 16: the query's numbers
 unfoldable pub queryCode : Query → ℕ
 queryCode q =
     first
@@ -35,6 +39,8 @@ queryCode q =
     ∷ unless (leb (q .radius) 40000) radiusRange
     ∷ unless (between 1 9 (q .weights .field .0)) weightRange
     ∷ unless (between 1 9 (q .weights .trim .0)) weightRange
+    ∷ unless (leb (q .tolerances .field .0) mostTolerance) toleranceRange
+    ∷ unless (leb (q .tolerances .trim .0) mostTolerance) toleranceRange
     ∷ [])
 
 -- 4, at opening: "slice length not a multiple of" a row's numbers, "more than 65,535 rows"
@@ -84,6 +90,10 @@ isZeros p = eqb (p .sum) 0 && (eqb (p .field) 0 && eqb (p .trim) 0)
 abbrev pub isCard : ℕ → Bool
 isCard n = eqb n (coordinates Old) || eqb n (coordinates New)
 
+-- 5: of a query that nothing can meet "a record of it with rows read"
+unfoldable pub depthsFit : Session → Bool
+depthsFit s = not (nothingQualifies s) || (eqb (s .depth .field .0) 0 && eqb (s .depth .trim .0) 0)
+
 -- 5: its grounds, in the rules' order, as tests that must all pass
 abbrev pub recordGrounds : Session → List Bool
 recordGrounds s =
@@ -98,6 +108,7 @@ recordGrounds s =
     ∷ leb (s .joined)
     (blockCount (s .query .block) (s .depth .field .0) * blockCount (s .query .block) (s .depth .trim .0))
     ∷ isCard (s .rows .card)
+    ∷ depthsFit s
     ∷ []
 
 unfoldable pub recordFits : Session → Bool
@@ -136,8 +147,8 @@ kindCode t = unless (isCard (t .coordinates)) wrongKind
 unfoldable pub cardsCode : Table → Table → ℕ
 cardsCode f t = unless (eqb (f .coordinates) (t .coordinates)) otherCard
 
--- "Opening checks 1, 2, 3, 4 (field, then trim), 12 after 3", 10 "just before 4", of both tables, 15 "after the 4 of
--- both"; "refused, its record is all zeros."
+-- "Opening checks 1, 2, 3, 4 (field, then trim), 12 after 3", 16 "between 12 and 10", 10 "just before 4", of both
+-- tables, 15 "after the 4 of both"; "refused, its record is all zeros."
 unfoldable pub openCode : Query → Table → Table → ℕ
 openCode q f t = first (queryCode q ∷ kindCode f ∷ kindCode t ∷ sizeCode f ∷ sizeCode t ∷ cardsCode f t ∷ [])
 

@@ -17,7 +17,7 @@ use Rattle.rules.specs.Small.{asked, joinedAt5}
 -- ---- Lightness counts in the distance, as a and b do
 
 abbrev near : ℕ → ℤ → Bool
-near radius l = qualifies radius (pos 0 ∷ pos 0 ∷ pos 0 ∷ []) (pos 3 ∷ pos 0 ∷ l ∷ [])
+near radius l = qualifies (asked 1 1 radius) (pos 0 ∷ pos 0 ∷ pos 0 ∷ []) (pos 3 ∷ pos 0 ∷ l ∷ [])
 
 pub only-lightness : near 5 (pos 4) ∷ near 5 (pos 5) ∷ near 4 (pos 4) ∷ [] ≡ true ∷ false ∷ false ∷ []
 unfolding run

@@ -12,7 +12,7 @@ use Rattle.rules.specs.declared.Session.{Session}
 use Rattle.rules.specs.declared.Answer.{Answer}
 use Rattle.rules.specs.Numbers.{said}
 use Rattle.rules.specs.Tables.{Table, oldTable, qualifies}
-use Rattle.rules.specs.Session.{places, ceiling}
+use Rattle.rules.specs.Session.{weights, exactQuery, places, ceiling}
 use Rattle.rules.specs.Calls.{openCall, readCall, takeCall}
 use Rattle.rules.specs.File.{lineFeed, columnFits, columnNumber}
 use Rattle.rules.specs.Query.{wholeQuery, settledSession, fieldFileTable, trimFileTable, inputQuery}
@@ -126,14 +126,18 @@ is-five : afterReads 5 ≡ five
 unfolding run afterReads
 is-five = refl
 
+-- whether two shades that are known qualify
+abbrev near : ℕ → List ℤ → List ℤ → Bool
+near radius = qualifies (exactQuery 1 1 radius (weights 1 1))
+
 -- P1 to P12, in the rules' order: what the rules find, and what is wanted; s is the record after five reads
 abbrev tableAt : Session → List Entry
 tableAt s =
-    entry (test (qualifies 5 (shade (pos 0) (pos 0)) (shade (pos 3) (pos 4)))) (test true)
-    ∷ entry (test (qualifies 4 (shade (pos 0) (pos 0)) (shade (pos 3) (pos 4)))) (test false)
-    ∷ entry (test (qualifies 0 (shade (pos 3) (pos 4)) (shade (pos 3) (pos 4)))) (test true)
-    ∷ entry (test (qualifies 25499 (shade (negsuc 12799) (pos 0)) (shade (pos 12700) (pos 0)))) (test false)
-    ∷ entry (test (qualifies 25500 (shade (negsuc 12799) (pos 0)) (shade (pos 12700) (pos 0)))) (test true)
+    entry (test (near 5 (shade (pos 0) (pos 0)) (shade (pos 3) (pos 4)))) (test true)
+    ∷ entry (test (near 4 (shade (pos 0) (pos 0)) (shade (pos 3) (pos 4)))) (test false)
+    ∷ entry (test (near 0 (shade (pos 3) (pos 4)) (shade (pos 3) (pos 4)))) (test true)
+    ∷ entry (test (near 25499 (shade (negsuc 12799) (pos 0)) (shade (pos 12700) (pos 0)))) (test false)
+    ∷ entry (test (near 25500 (shade (negsuc 12799) (pos 0)) (shade (pos 12700) (pos 0)))) (test true)
     ∷ entry (column false (bytes "   101")) (pos 101 ∷ [])
     ∷ entry (column false (bytes "  0101")) []
     ∷ entry (column true (bytes "     -0")) []

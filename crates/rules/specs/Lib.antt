@@ -3,6 +3,7 @@ pub mod Widths
 pub mod Squares
 pub mod Whole
 pub mod Qualifying
+pub mod Tolerances
 pub mod Rectangles
 pub mod Session
 pub mod Read
@@ -21,3 +22,4 @@ pub mod Example
 pub mod Small
 pub mod OldCard
 pub mod CardCases
+pub mod ToleranceCases

@@ -48,9 +48,12 @@ weightRange = 12
 abbrev pub otherCard : ℕ
 otherCard = 15
 
+abbrev pub toleranceRange : ℕ
+toleranceRange = 16
+
 -- a number of the table, or 0
 abbrev pub IsRefusal : ℕ → Type 0
-IsRefusal n = n ≤ otherCard
+IsRefusal n = n ≤ toleranceRange
 
 -- number n, unless the test passes
 abbrev pub unless : Bool → ℕ → ℕ

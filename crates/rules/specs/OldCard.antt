@@ -11,11 +11,13 @@ use lib.ListN.{length, getD, take, drop}
 use lib.Seq.{drop-cons}
 use Rattle.lists.specs.Lists.{every, range}
 use Rattle.lists.specs.Bools.{and-true}
+use Rattle.rules.specs.declared.Query.{Query}
 use Rattle.rules.specs.Tables.{oldTable, rowCount, sizeFits, within, coordinateFits, fitsAt, shadeFits, inRange}
-use Rattle.rules.specs.Tables.{rowInRange, shadeAt, gap, squares, squaredDistance, qualifies}
+use Rattle.rules.specs.Tables.{rowInRange, shadeAt, gap, squares, squaredDistance, tolerance, qualifies}
 use Rattle.rules.specs.File.{columns, columnFits, columnNumber, endsLine, columnStart, rowBytes, rowStart}
 use Rattle.rules.specs.File.{columnFitsAt, numberAt, rowColumnsFit, rowNumbers}
 use Rattle.rules.specs.Query.{mostFileBytes}
+use Rattle.rules.specs.Tolerances.{qualifies-exact}
 
 -- ---- Distance
 
@@ -25,11 +27,12 @@ pub old-distance : (a b c d : ℤ)
 unfolding squares
 old-distance a b c d = omega arith
 
--- "qualifies if da × da + db × db ≤ radius × radius"
-pub old-qualifies : (radius : ℕ) (a b c d : ℤ)
-    → qualifies radius (a ∷ b ∷ []) (c ∷ d ∷ []) ≡ leb (gap a c * gap a c + gap b d * gap b d) (radius * radius)
-unfolding qualifies
-old-qualifies radius a b c d = ap (λ n. leb n (radius * radius)) (old-distance a b c d)
+-- "qualifies if da × da + db × db ≤ radius × radius": of shades that are known, whatever is made of tolerances
+pub old-qualifies : (q : Query) → tolerance q ≡ 0 → (a b c d : ℤ)
+    → qualifies q (a ∷ b ∷ []) (c ∷ d ∷ [])
+    ≡ leb (gap a c * gap a c + gap b d * gap b d) (q .radius * q .radius)
+old-qualifies q e a b c d =
+    qualifies-exact q e (a ∷ b ∷ []) (c ∷ d ∷ []) ∙ ap (λ n. leb n (q .radius * q .radius)) (old-distance a b c d)
 
 -- ---- Four numbers to a row
 

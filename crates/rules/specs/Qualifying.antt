@@ -8,14 +8,14 @@ use Rattle.lists.specs.Lists.{keep, range, each}
 use Rattle.lists.specs.Bools.{clash, and-false}
 use Rattle.lists.specs.Parts.{no-member, mem-range, mem-keep, mem-each}
 use Rattle.rules.specs.declared.Pair.{Pair}
+use Rattle.rules.specs.declared.Query.{Query}
 use Rattle.rules.specs.Tables.{rowCount, Row, row, qualifies, withdrawn, rowsQualify, Terms, Block}
 use Rattle.rules.specs.Tables.{pairAt, qualifying}
 
 -- rows whose places lie too far apart do not qualify
-pub places-far : (radius : ℕ) (x y : Row) → qualifies radius (x .shade) (y .shade) ≡ false
-    → rowsQualify radius x y ≡ false
+pub places-far : (q : Query) (x y : Row) → qualifies q (x .shade) (y .shade) ≡ false → rowsQualify q x y ≡ false
 unfolding rowsQualify
-places-far radius x y h =
+places-far q x y h =
     rw h (ap (λ b. not (withdrawn x) && b) (and-false (not (withdrawn y))) ∙ and-false (not (withdrawn x)))
 
 -- blocks of which no two rows qualify have no qualifying pair

@@ -12,7 +12,7 @@ use Rattle.rules.specs.declared.Session.{Session}
 use Rattle.rules.specs.declared.Step.{Step}
 use Rattle.rules.specs.declared.Answer.{Answer}
 use Rattle.rules.specs.Tables.{Table, kindCoordinates, natOf, row, squaredDistance}
-use Rattle.rules.specs.Session.{weights}
+use Rattle.rules.specs.Session.{weights, exactQuery}
 use Rattle.rules.specs.Numbers.{tableSize, cutFile, badColumn, unless, first, said, saidOf, refusal}
 use Rattle.rules.specs.Calls.{openCode, openCall, readCall, takeCall}
 use Rattle.rules.specs.File.{blank, lineFeed, columns, columnFits, columnNumber, endsLine, fileCount, fileTable}
@@ -149,15 +149,11 @@ inputFits input =
 unfoldable pub inputCode : List ℕ → ℕ
 inputCode input = first (unless (eqb (length input) inputLength) cutFile ∷ unless (inputFits input) badColumn ∷ [])
 
--- "Weights 1 and 1, the pairing program's"
+-- "Weights 1 and 1, the pairing program's", and tolerances 0 and 0
 unfoldable pub inputQuery : List ℕ → Query
 inputQuery input =
-    record {
-      k = natOf (columnNumber false (columns input 0 6));
-      block = natOf (columnNumber false (columns input 6 6));
-      radius = natOf (columnNumber false (columns input 12 6));
-      weights = weights 1 1;
-    }
+    exactQuery (natOf (columnNumber false (columns input 0 6))) (natOf (columnNumber false (columns input 6 6)))
+    (natOf (columnNumber false (columns input 12 6))) (weights 1 1)
 
 -- the table of an accepted file, read as that kind
 abbrev pub tableOf : ℕ → List ℕ → Table

@@ -1,5 +1,5 @@
 -- The rectangle of a block's rows, how far two of them lie apart, and that no pair of blocks skipped for shade has a
--- qualifying pair: for any number of coordinates, any tables and any radius. Assumes nothing.
+-- qualifying pair: for any number of coordinates, any tables, any tolerances and any radius. Assumes nothing.
 use mathlib.Core.Path.{_≡_, refl, sym, ap, ap₂, subst, subst₂, _∙_}
 use mathlib.Core.Bool.{Bool, true, false, cond}
 use mathlib.Core.List.{[]}
@@ -13,11 +13,13 @@ use lib.ListN.{length, getD}
 use lib.Signed.{leZ, ltZ}
 use borrow.Author.Tests.{lt-ltb, ltb-true, lt-leb}
 use Rattle.lists.specs.Parts.{length-map-range, map-range-at}
+use Rattle.rules.specs.declared.Meaning.{Meaning}
+use Rattle.rules.specs.declared.Meaning.the-variants.{Possibly, Surely}
 use Rattle.rules.specs.declared.Query.{Query}
 use Rattle.rules.specs.declared.Side.{Side}
 use Rattle.rules.specs.Tables.{Table, num, rowCount, HasRows, shadeAt, row, firstRows, gap, squares}
-use Rattle.rules.specs.Tables.{squaredDistance, qualifies, side, rectangle, sideGap, farApart, rowsQualify}
-use Rattle.rules.specs.Tables.{terms, Block, qualifying}
+use Rattle.rules.specs.Tables.{tolerance, meant, qualifies, side, rectangle, sideGap, loweredGap, farApart}
+use Rattle.rules.specs.Tables.{rowsQualify, terms, Block, qualifying}
 use Rattle.rules.specs.Widths.{has-row, has-rows, shade-length, shade-num, first-count, first-num}
 use Rattle.rules.specs.Qualifying.{places-far, none-qualifying}
 use Rattle.rules.specs.Squares.{square-le, squares-le, squares-turned}
@@ -282,57 +284,70 @@ module _ (f : Side → Side → ℕ)
 
 -- ---- Blocks skipped for shade
 
--- no pair of rows lies nearer than the rectangles
-pub far-least : (x y : Table) (i j : ℕ) → i < rowCount x → j < rowCount y
-    → squares sideGap (rectangle x) (rectangle y) ≤ squaredDistance (shadeAt x i) (shadeAt y j)
-far-least = rectangles-rows sideGap gap gap-le
+-- a gap that is lowered by the tolerances: no two numbers of the sides count as nearer, by either meaning
+lowered-le : (m : Meaning) (t : ℕ) (s o : Side) (x y : ℤ) → Spans s x → Spans o y → loweredGap t s o ≤ meant m t x y
+lowered-le Surely t s o x y h k = omega (arith, gap-le s o x y h k)
+lowered-le Possibly t s o x y h k = omega (arith, gap-le s o x y h k)
 
--- the rectangle of a block's first rows lies no nearer than that of all
-pub far-first : (x y : Table) (m : ℕ) → 0 < m → m ≤ rowCount y
-    → squares sideGap (rectangle x) (rectangle y) ≤ squares sideGap (rectangle x) (rectangle (firstRows m y))
-far-first = rectangles-first sideGap gap-covered
+module _ (t : ℕ) where
+  -- the square that blocks are skipped by
+  abbrev pub apartSquare : Table → Table → ℕ
+  apartSquare x y = squares (loweredGap t) (rectangle x) (rectangle y)
 
-module _ (radius : ℕ) (x y : Table) where
-  pub far-is : (farApart radius x y ≡ true) ↔ (radius * radius < squares sideGap (rectangle x) (rectangle y))
+  lowered-covered : (s o u v : Side) → Ordered u → Ordered v → Covers s u → Covers o v
+      → loweredGap t s o ≤ loweredGap t u v
+  lowered-covered s o u v h k c d = omega (arith, gap-covered s o u v h k c d)
+
+  -- no pair of rows counts as nearer than the rectangles
+  pub far-least : (m : Meaning) (x y : Table) (i j : ℕ) → i < rowCount x → j < rowCount y
+      → apartSquare x y ≤ squares (meant m t) (shadeAt x i) (shadeAt y j)
+  far-least m = rectangles-rows (loweredGap t) (meant m t) (lowered-le m t)
+
+  -- the rectangle of a block's first rows lies no nearer than that of all
+  pub far-first : (x y : Table) (m : ℕ) → 0 < m → m ≤ rowCount y
+      → apartSquare x y ≤ apartSquare x (firstRows m y)
+  far-first = rectangles-first (loweredGap t) lowered-covered
+
+module _ (q : Query) (x y : Table) where
+  pub far-is : (farApart q x y ≡ true) ↔ (q .radius * q .radius < apartSquare (tolerance q) x y)
   unfolding farApart
   far-is =
-      let d = squares sideGap (rectangle x) (rectangle y) in
-      (ltb-true (radius * radius) d, lt-ltb (radius * radius) d)
+      let r = q .radius * q .radius in
+      (ltb-true r (apartSquare (tolerance q) x y), lt-ltb r (apartSquare (tolerance q) x y))
 
   -- no qualifying pair is ever in them
-  pub far-none : farApart radius x y ≡ true → (i j : ℕ) → i < rowCount x → j < rowCount y
-      → qualifies radius (shadeAt x i) (shadeAt y j) ≡ false
+  pub far-none : farApart q x y ≡ true → (i j : ℕ) → i < rowCount x → j < rowCount y
+      → qualifies q (shadeAt x i) (shadeAt y j) ≡ false
   unfolding qualifies
   far-none e i j h k =
-      lt-leb (squaredDistance (shadeAt x i) (shadeAt y j)) (radius * radius)
-      (omega (arith, far-is .0 e, far-least x y i j h k))
+      lt-leb (squares (meant (q .meaning) (tolerance q)) (shadeAt x i) (shadeAt y j)) (q .radius * q .radius)
+      (omega (arith, far-is .0 e, far-least (tolerance q) (q .meaning) x y i j h k))
 
-  pub far-rows : farApart radius x y ≡ true → (i j : ℕ) → i < rowCount x → j < rowCount y
-      → rowsQualify radius (row x i) (row y j) ≡ false
+  pub far-rows : farApart q x y ≡ true → (i j : ℕ) → i < rowCount x → j < rowCount y
+      → rowsQualify q (row x i) (row y j) ≡ false
   unfolding row
-  far-rows e i j h k = places-far radius (row x i) (row y j) (far-none e i j h k)
+  far-rows e i j h k = places-far q (row x i) (row y j) (far-none e i j h k)
 
 pub far-qualifying : (q : Query) (x y : Block) → terms q .far (x .rows) (y .rows) ≡ true → qualifying (terms q) x y ≡ []
-far-qualifying q x y e = none-qualifying (terms q) x y (far-rows (q .radius) (x .rows) (y .rows) e)
+far-qualifying q x y e = none-qualifying (terms q) x y (far-rows q (x .rows) (y .rows) e)
 
 -- ---- Field and trim exchanged
 
-turned-le : (x y : Table)
-    → squares sideGap (rectangle x) (rectangle y) ≤ squares sideGap (rectangle y) (rectangle x)
-turned-le x y =
-    let turned : Side → Side → ℕ = λ s o. sideGap o s in
-    subst (λ n. squares sideGap (rectangle x) (rectangle y) ≤ n)
-    (sym (squares-turned sideGap (rectangle y) (rectangle x)))
-    (squares-le sideGap turned noSide noSide (rectangle x) (rectangle y) (rectangle x) (rectangle y)
+turned-le : (t : ℕ) (x y : Table) → apartSquare t x y ≤ apartSquare t y x
+turned-le t x y =
+    let turned : Side → Side → ℕ = λ s o. loweredGap t o s in
+    subst (λ n. apartSquare t x y ≤ n)
+    (sym (squares-turned (loweredGap t) (rectangle y) (rectangle x)))
+    (squares-le (loweredGap t) turned noSide noSide (rectangle x) (rectangle y) (rectangle x) (rectangle y)
     (omega arith) (omega arith)
     (λ n a b.
-    square-le sideGap turned noSide noSide (rectangle x) (rectangle y) (rectangle x) (rectangle y) n
-    (turned-most (sideOf x n) (sideOf y n) (rectangle-ordered x n (omega (arith, rectangle-length x)))
-    (rectangle-ordered y n (omega (arith, rectangle-length y))))))
+    square-le (loweredGap t) turned noSide noSide (rectangle x) (rectangle y) (rectangle x) (rectangle y) n
+    (let l = turned-most (sideOf x n) (sideOf y n) (rectangle-ordered x n (omega (arith, rectangle-length x)))
+    (rectangle-ordered y n (omega (arith, rectangle-length y))) in omega arith)))
 
-pub far-turned : (radius : ℕ) (x y : Table) → farApart radius x y ≡ farApart radius y x
+pub far-turned : (q : Query) (x y : Table) → farApart q x y ≡ farApart q y x
 unfolding farApart
-far-turned radius x y =
-    let e : squares sideGap (rectangle x) (rectangle y) ≡ squares sideGap (rectangle y) (rectangle x) =
-    omega (arith, turned-le x y, turned-le y x) in
-    ap (ltb (radius * radius)) e
+far-turned q x y =
+    let t = tolerance q in
+    let e : apartSquare t x y ≡ apartSquare t y x = omega (arith, turned-le t x y, turned-le t y x) in
+    ap (ltb (q .radius * q .radius)) e

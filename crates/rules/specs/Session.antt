@@ -7,11 +7,13 @@ use lib.IntN.{ℤ}
 use lib.ListN.{length, take, replicate}
 use Rattle.lists.specs.Lists.{every}
 use Rattle.rules.specs.declared.TwoTables.{TwoTables}
+use Rattle.rules.specs.declared.Meaning.the-variants.{Possibly}
 use Rattle.rules.specs.declared.Pair.{Pair}
+use Rattle.rules.specs.declared.Tolerances.{Tolerances}
 use Rattle.rules.specs.declared.Weights.{Weights}
 use Rattle.rules.specs.declared.Query.{Query}
 use Rattle.rules.specs.declared.Session.{Session}
-use Rattle.rules.specs.Tables.{Table, table, rowCount, Row, row, withdrawn, Terms, terms}
+use Rattle.rules.specs.Tables.{Table, table, rowCount, unsatisfiable, Row, row, withdrawn, Terms, terms}
 
 abbrev pub noPair : Pair
 noPair = record { sum = 0; field = 0; trim = 0 }
@@ -51,10 +53,26 @@ opened q tables =
 abbrev pub weights : ℕ → ℕ → Weights
 weights v w = record { field = record { 0 = v }; trim = record { 0 = w } }
 
+-- a tolerance of each
+abbrev pub tolerances : ℕ → ℕ → Tolerances
+tolerances u v = record { field = record { 0 = u }; trim = record { 0 = v } }
+
+-- a query of shades that are known: "0 in the programs". What is made of tolerances 0 and 0 is all the same.
+abbrev pub exactQuery : ℕ → ℕ → ℕ → Weights → Query
+exactQuery k block radius w =
+    record {
+      k = k;
+      block = block;
+      radius = radius;
+      weights = w;
+      tolerances = tolerances 0 0;
+      meaning = Possibly;
+    }
+
 -- "its record is all zeros"
 unfoldable pub zeros : Session
 zeros =
-    opened (record { k = 0; block = 0; radius = 0; weights = weights 0 0 })
+    opened (exactQuery 0 0 0 (weights 0 0))
     (record { field = record { 0 = 0 }; trim = record { 0 = 0 }; card = 0 })
 
 -- "pairs held (at most k less those out, ranked ..)": those in the first places
@@ -98,6 +116,10 @@ abbrev pub aTableIsEmpty : Table → Table → Session → Bool
 aTableIsEmpty f t s =
     isEmpty f (s .rows .field .0) (s .depth .field .0) || isEmpty t (s .rows .trim .0) (s .depth .trim .0)
 
+-- no pair of the tables can meet the query: it "is settled at opening"
+abbrev pub nothingQualifies : Session → Bool
+nothingQualifies s = unsatisfiable (s .query) (s .rows .card)
+
 abbrev pub aDepthIsZero : Session → Bool
 aDepthIsZero s = eqb (s .depth .field .0) 0 || eqb (s .depth .trim .0) 0
 
@@ -127,13 +149,14 @@ abbrev pub secured : Table → Table → Session → Pair → Bool
 secured = securedBy terms
 
 -- "Settled: a table is empty, or both are read out, or k pairs are out, or out plus held is k and every held pair
--- is secured."
+-- is secured."; or nothing can qualify
 unfoldable pub settledBy : (Query → Terms) → Table → Table → Session → Bool
 settledBy g f t s =
-    aTableIsEmpty f t s
+    nothingQualifies s
+    || (aTableIsEmpty f t s
     || (bothReadOut f t s
     || (eqb (s .out) (s .query .k)
-    || (eqb (s .out + s .held) (s .query .k) && every (securedBy g f t s) (heldPairs s))))
+    || (eqb (s .out + s .held) (s .query .k) && every (securedBy g f t s) (heldPairs s)))))
 
 abbrev pub settled : Table → Table → Session → Bool
 settled = settledBy terms

@@ -10,7 +10,7 @@ use Rattle.rules.specs.declared.Query.{Query}
 use Rattle.rules.specs.declared.Session.{Session}
 use Rattle.rules.specs.Tables.{Table, oldTable, part}
 use Rattle.lists.specs.Lists.{each}
-use Rattle.rules.specs.Session.{weights, places, zeros, readOut, isEmpty, ceiling}
+use Rattle.rules.specs.Session.{weights, exactQuery, places, zeros, readOut, isEmpty, ceiling}
 use Rattle.rules.specs.Read.{fieldNext, skipped, rowsBetween}
 use Rattle.rules.specs.Take.{lastBlock}
 use Rattle.rules.specs.Numbers.{saidOf, refusal}
@@ -75,6 +75,20 @@ marked n s =
       joined = s .joined;
     }
 
+-- a record with another query
+abbrev pub withQuery : Query → Session → Session
+withQuery q s =
+    record {
+      query = q;
+      rows = s .rows;
+      depth = s .depth;
+      last = s .last;
+      out = s .out;
+      held = s .held;
+      pairs = s .pairs;
+      joined = s .joined;
+    }
+
 pub mark-2-accepted : recordCode (marked 2 (afterReads 2)) ≡ 0
 unfolding run afterReads
 mark-2-accepted = refl
@@ -96,11 +110,11 @@ trim-row-first = refl
 -- ---- Each refusal once, by its number
 
 abbrev pub asked : ℕ → ℕ → ℕ → Query
-asked k block radius = record { k = k; block = block; radius = radius; weights = weights 1 1 }
+asked k block radius = exactQuery k block radius (weights 1 1)
 
 -- the same with other weights
 abbrev pub weighing : ℕ → ℕ → Query → Query
-weighing v w q = record { k = q .k; block = q .block; radius = q .radius; weights = weights v w }
+weighing v w q = exactQuery (q .k) (q .block) (q .radius) (weights v w)
 
 abbrev pub loaded : String → ℕ → ℕ
 loaded file room = refusal (saidOf (loadAnswer (bytes file) (pos 1) (replicate room (pos 0))))

@@ -72,6 +72,11 @@ module _ {A : Type 0} (f : A → A → ℕ) where
   squares-turned (x ∷ k) [] = refl
   squares-turned (x ∷ k) (y ∷ l) = ap (λ n. f x y * f x y + n) (squares-turned k l)
 
+-- functions that differ by nothing give the same squares
+pub squares-each : {A : Type 0} (f g : A → A → ℕ) → ((x y : A) → f x y ≡ g x y) → (k l : List A)
+    → squares f k l ≡ squares g k l
+squares-each f g e k l = ap (λ h. squares h k l) (λ i x y. e x y i)
+
 -- a law of each place is a law of the lists
 module _ {A B : Type 0} (f : A → A → ℕ) (g : B → B → ℕ) (d : A) (e : B) where
   pub square-le : (k l : List A) (m n : List B) (i : ℕ)

@@ -1,15 +1,17 @@
 -- docs/RULES.md, "Tables". Definitions only. Assumes nothing.
 use Prim.Native.Nat.{ℕ, zero, suc, _+_, _*_, _-_, _/_, _%_, _≤_}
-use mathlib.Core.Bool.{Bool, cond, _&&_, _||_, not}
+use mathlib.Core.Bool.{Bool, true, false, cond, _&&_, _||_, not}
 use mathlib.Core.List.{List, [], _∷_, map}
 use lib.Dec.{leb, ltb, eqb}
 use lib.IntN.{ℤ, pos, negsuc, natAbs, _-ℤ_}
 use lib.Signed.{leZ, ltZ}
-use lib.ListN.{length, getD, take, drop}
+use lib.ListN.{length, getD, take, drop, replicate}
 use Rattle.lists.specs.Lists.{keep, every, range, each}
 use Rattle.rules.specs.declared.Card.{Card}
 use Rattle.rules.specs.declared.Card.the-variants.{Old, New}
 use Rattle.rules.specs.declared.Kinds.{Kinds}
+use Rattle.rules.specs.declared.Meaning.{Meaning}
+use Rattle.rules.specs.declared.Meaning.the-variants.{Possibly, Surely}
 use Rattle.rules.specs.declared.Pair.{Pair}
 use Rattle.rules.specs.declared.Query.{Query}
 use Rattle.rules.specs.declared.Side.{Side}
@@ -149,9 +151,44 @@ squares f (x ∷ k) (y ∷ l) = f x y * f x y + squares f k l
 abbrev pub squaredDistance : List ℤ → List ℤ → ℕ
 squaredDistance = squares gap
 
--- "qualifies if da × da + db × db ≤ radius × radius"
-unfoldable pub qualifies : ℕ → List ℤ → List ℤ → Bool
-qualifies radius x y = leb (squaredDistance x y) (radius * radius)
+-- "With t the two tolerances added"
+abbrev pub tolerance : Query → ℕ
+tolerance q = q .tolerances .field .0 + q .tolerances .trim .0
+
+-- "and d a coordinate's absolute difference, the farthest square sums (d + t) squared, the nearest max(0, d - t)
+-- squared"
+abbrev pub farthest : ℕ → ℤ → ℤ → ℕ
+farthest t x y = gap x y + t
+
+abbrev pub nearest : ℕ → ℤ → ℤ → ℕ
+nearest t x y = gap x y - t
+
+abbrev pub farthestSquare : ℕ → List ℤ → List ℤ → ℕ
+farthestSquare t = squares (farthest t)
+
+abbrev pub nearestSquare : ℕ → List ℤ → List ℤ → ℕ
+nearestSquare t = squares (nearest t)
+
+-- "Surely means for all places within both tolerances; possibly means for some": the farthest must be near enough, or
+-- the nearest. Tolerances.antt proves that this is what the words say.
+abbrev pub meant : Meaning → ℕ → ℤ → ℤ → ℕ
+meant Surely = farthest
+meant Possibly = nearest
+
+-- "qualifies if da × da + db × db ≤ radius × radius", by the chosen meaning
+unfoldable pub qualifies : Query → List ℤ → List ℤ → Bool
+qualifies q x y = leb (squares (meant (q .meaning) (tolerance q)) x y) (q .radius * q .radius)
+
+abbrev pub isSurely : Meaning → Bool
+isSurely Surely = true
+isSurely Possibly = false
+
+-- "A "surely" query whose farthest square at equal places exceeds the squared radius", of shades of n coordinates: no
+-- pair can meet it
+unfoldable pub unsatisfiable : Query → ℕ → Bool
+unsatisfiable q n =
+    let place = replicate n (pos 0) in
+    isSurely (q .meaning) && ltb (q .radius * q .radius) (farthestSquare (tolerance q) place place)
 
 -- "from each block's rows, withdrawn ones too, the lowest and highest a and b": of coordinate k, from 0 on, of the
 -- first m + 1 rows of a block
@@ -172,17 +209,21 @@ sideGap s o =
     cond (ltZ (s .high) (o .low)) (gap (s .high) (o .low))
     (cond (ltZ (o .high) (s .low)) (gap (o .high) (s .low)) 0)
 
+-- "Under both meanings each coordinate's gap .. is lowered by t, not below 0."
+abbrev pub loweredGap : ℕ → Side → Side → ℕ
+loweredGap t s o = sideGap s o - t
+
 -- "these two rectangles lie farther apart than the radius"
-unfoldable pub farApart : ℕ → Table → Table → Bool
-farApart radius x y = ltb (radius * radius) (squares sideGap (rectangle x) (rectangle y))
+unfoldable pub farApart : Query → Table → Table → Bool
+farApart q x y = ltb (q .radius * q .radius) (squares (loweredGap (tolerance q)) (rectangle x) (rectangle y))
 
 -- "a score of 0 means that the pattern is out of the collection"
 unfoldable pub withdrawn : Row → Bool
 withdrawn x = eqb (x .score) 0
 
 -- "Such a row is legal and can be read, but no pair with it qualifies."
-unfoldable pub rowsQualify : ℕ → Row → Row → Bool
-rowsQualify radius x y = not (withdrawn x) && (not (withdrawn y) && qualifies radius (x .shade) (y .shade))
+unfoldable pub rowsQualify : Query → Row → Row → Bool
+rowsQualify q x y = not (withdrawn x) && (not (withdrawn y) && qualifies q (x .shade) (y .shade))
 
 -- What the rules ask of rows: what a field row and a trim row add to the sum of a pair, whether the two qualify, and
 -- whether the rows of two blocks lie too far apart for that.
@@ -196,14 +237,14 @@ pub record Terms : Type 0 where
 unfoldable pub weighted : ℕ → Row → ℕ
 weighted weight x = weight * x .score
 
--- the terms of a query: scores by its weights, each table's by its own, and shades within its radius
+-- the terms of a query: scores by its weights, each table's by its own, and shades within its radius, by its meaning
 abbrev pub terms : Query → Terms
 terms q =
     record {
       field = weighted (q .weights .field .0);
       trim = weighted (q .weights .trim .0);
-      near = rowsQualify (q .radius);
-      far = farApart (q .radius);
+      near = rowsQualify q;
+      far = farApart q;
     }
 
 -- without weights: scores as they are

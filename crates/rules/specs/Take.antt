@@ -9,7 +9,7 @@ use Rattle.rules.specs.declared.Pair.{Pair}
 use Rattle.rules.specs.declared.Query.{Query}
 use Rattle.rules.specs.declared.Session.{Session}
 use Rattle.rules.specs.Tables.{Table, Terms, terms, part}
-use Rattle.rules.specs.Session.{noPair, securedBy, aTableIsEmpty, bothReadOut}
+use Rattle.rules.specs.Session.{noPair, securedBy, nothingQualifies, aTableIsEmpty, bothReadOut}
 
 -- "the first held pair"
 abbrev pub firstHeld : Session → Pair
@@ -36,9 +36,12 @@ movedOut s =
       joined = s .joined;
     }
 
--- ""Finished" if k are out, a table is empty, or both are read out and none is held."
+-- ""Finished" if k are out, a table is empty, or both are read out and none is held."; or nothing can qualify: "taking
+-- answers "finished""
 unfoldable pub finished : Table → Table → Session → Bool
-finished f t s = eqb (s .out) (s .query .k) || (aTableIsEmpty f t s || (bothReadOut f t s && eqb (s .held) 0))
+finished f t s =
+    eqb (s .out) (s .query .k)
+    || (nothingQualifies s || (aTableIsEmpty f t s || (bothReadOut f t s && eqb (s .held) 0)))
 
 -- "the rows last read": from the first to the last row of the last block down to a depth
 abbrev pub lastBlock : ℕ → ℕ → ℕ

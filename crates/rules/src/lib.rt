@@ -28,6 +28,8 @@ pub const WEIGHT_RANGE: u32 = 12;
 
 pub const OTHER_CARD: u32 = 15;
 
+pub const TOLERANCE_RANGE: u32 = 16;
+
 // The largest list length: so many pair places has a record.
 pub const PLACES: usize = 64;
 
@@ -36,6 +38,9 @@ pub const MOST_ROWS: u32 = 65535;
 
 // The largest sum of two weighted scores, 9 times 9,999 each.
 pub const MOST_SUM: u32 = 179982;
+
+// The largest tolerance of a table.
+pub const MOST_TOLERANCE: u32 = 500;
 
 // The bytes of a strict file's header.
 pub const HEADER_BYTES: usize = 13;
@@ -93,12 +98,34 @@ pub struct Weights {
     pub trim: TrimWeight,
 }
 
-// What a list is asked for: its length k, the block size in rows, the radius, the weights.
+// How far a field row's shade may lie from where its table has it, in every coordinate.
+pub struct FieldTolerance(pub u32);
+
+// How far a trim row's may.
+pub struct TrimTolerance(pub u32);
+
+// One tolerance of each table.
+pub struct Tolerances {
+    pub field: FieldTolerance,
+    pub trim: TrimTolerance,
+}
+
+// Whether a pair qualifies if it does for some places of its shades within their tolerances, or only if it does for all
+// of them.
+pub enum Meaning {
+    Possibly,
+    Surely,
+}
+
+// What a list is asked for: its length k, the block size in rows, the radius, the weights, the tolerances and what is
+// made of them.
 pub struct Query {
     pub k: u32,
     pub block: u32,
     pub radius: u32,
     pub weights: Weights,
+    pub tolerances: Tolerances,
+    pub meaning: Meaning,
 }
 
 // The lowest and the highest of one coordinate of some rows: a side of their rectangle.

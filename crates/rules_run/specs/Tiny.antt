@@ -9,7 +9,7 @@ use lib.IntN.{ℤ, pos}
 use Rattle.lists.specs.Lists.{every, keep, each, best}
 use Rattle.rules.specs.declared.Query.{Query}
 use Rattle.rules.specs.Tables.{Table, oldTable, legal}
-use Rattle.rules.specs.Session.{weights}
+use Rattle.rules.specs.Session.{weights, exactQuery}
 use Rattle.rules.specs.Sure.{qualifyingSums}
 use Rattle.rules.specs.Query.{list}
 use Rattle.rules.specs.Run.{run}
@@ -36,7 +36,7 @@ abbrev pub trimTables : List Table
 trimTables = tables (rows (0 ∷ 1 ∷ []) (0 ∷ 2 ∷ []))
 
 pub query : ℕ → ℕ → Query
-query k block = record { k = k; block = block; radius = 1; weights = weights 1 1 }
+query k block = exactQuery k block 1 (weights 1 1)
 
 pub right : Query → Table → Table → Bool
 right q f t = same (map (λ p. p .sum) (list q f t)) (best (q .k) (qualifyingSums q f t))

@@ -18,7 +18,7 @@ use Rattle.rules.specs.Tables.{num, mostRows, rowCount, rowInRange, rowInOrder,
 use Rattle.rules.specs.Tables.{terms, width, firstRows, part, Block}
 use Rattle.rules.specs.Widths.{has-rows, first-length, first-count, first-num, first-shade, first-first, part-first}
 use Rattle.rules.specs.Widths.{part-none}
-use Rattle.rules.specs.Session.{withdrawnWithin, readOut, isEmpty}
+use Rattle.rules.specs.Session.{withdrawnWithin, readOut, isEmpty, nothingQualifies}
 use Rattle.rules.specs.Session.{heldPairs, firstScore, lastScore, fieldReadOut, trimReadOut, bothReadOut}
 use Rattle.rules.specs.Session.{aTableIsEmpty, aDepthIsZero, ceilingBy, ceiling, securedBy, secured, settledBy, settled}
 use Rattle.rules.specs.Read.{scoreDrop, fieldNextBy, fieldNext, rowsBetween, blockCount, meet, meetBlocksBy, meetBlocks}
@@ -195,7 +195,8 @@ module _ (f t f′ t′ : Table) (s : Session) (ef : SameRows (s .depth .field .
     where
       rule : Bool → Bool → Bool → Bool
       rule none out all =
-          none || (out || (eqb (s .out) (s .query .k) || (eqb (s .out + s .held) (s .query .k) && all)))
+          nothingQualifies s
+          || (none || (out || (eqb (s .out) (s .query .k) || (eqb (s .out + s .held) (s .query .k) && all))))
 
       go : (b : Bool) → aTableIsEmpty f t s ≡ b
           → rule b (bothReadOut f t s) (every (secured f′ t′ s) (heldPairs s))
@@ -208,7 +209,7 @@ module _ (f t f′ t′ : Table) (s : Session) (ef : SameRows (s .depth .field .
   pub same-finished : finished f′ t′ s ≡ finished f t s
   unfolding finished
   same-finished =
-      λ i. eqb (s .out) (s .query .k) || (either-empty i || (both-out i && eqb (s .held) 0))
+      λ i. eqb (s .out) (s .query .k) || (nothingQualifies s || (either-empty i || (both-out i && eqb (s .held) 0)))
 
   pub same-next : fieldNext f′ t′ s ≡ fieldNext f t s
   unfolding fieldNextBy

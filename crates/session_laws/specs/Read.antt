@@ -11,7 +11,7 @@ use Rattle.rules.specs.declared.Session.{Session}
 use Rattle.rules.specs.Tables.{Table, rowCount, terms, Block, qualifying}
 use Rattle.session_laws.specs.ReadOut.{unread-out, unread-first, live-out}
 use Rattle.rules.specs.Session.{isEmpty, fieldReadOut, trimReadOut, bothReadOut, aTableIsEmpty, heldPairs, secured}
-use Rattle.rules.specs.Session.{settledBy}
+use Rattle.rules.specs.Session.{nothingQualifies, settledBy}
 use Rattle.rules.specs.Session.{settled}
 use Rattle.rules.specs.Read.{scoreDrop, fieldNextBy, fieldNext, rowsBetween, blockCount, blockAt, bestHeld, holding}
 use Rattle.rules.specs.Read.{skipped, meetBy}
@@ -129,6 +129,7 @@ read-grows false f t s h k = (omega (arith, read-field false f t s), omega (arit
 
 -- the grounds of settled, none of which holds
 pub record Unsettled (f t : Table) (s : Session) : Type 0 where
+  pub satisfiable : nothingQualifies s ≡ false
   pub field-live : isEmpty f (s .rows .field .0) (s .depth .field .0) ≡ false
   pub trim-live : isEmpty t (s .rows .trim .0) (s .depth .trim .0) ≡ false
   pub field-some : s .rows .field .0 ≡ 0 → ⊥
@@ -142,7 +143,8 @@ unfolding settledBy
 unsettled-out f t s h =
     let last = eqb (s .out + s .held) (s .query .k) && every (secured f t s) (heldPairs s) in
     let rest = eqb (s .out) (s .query .k) || last in
-    let a = or-none-out (aTableIsEmpty f t s) (bothReadOut f t s || rest) h in
+    let met = or-none-out (nothingQualifies s) (aTableIsEmpty f t s || (bothReadOut f t s || rest)) h in
+    let a = or-none-out (aTableIsEmpty f t s) (bothReadOut f t s || rest) (met .1) in
     let b = or-none-out (bothReadOut f t s) rest (a .1) in
     let c = or-none-out (eqb (s .out) (s .query .k)) last (b .1) in
     let field = isEmpty f (s .rows .field .0) (s .depth .field .0) in
@@ -151,6 +153,7 @@ unsettled-out f t s h =
     let live = live-out f (s .rows .field .0) (s .depth .field .0) (some .0) in
     let live-trim = live-out t (s .rows .trim .0) (s .depth .trim .0) (some .1) in
     record {
+      satisfiable = met .0;
       field-live = some .0;
       trim-live = some .1;
       field-some = live .0;

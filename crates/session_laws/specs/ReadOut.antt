@@ -10,25 +10,36 @@ use lib.Dec.{eqb, ltb}
 use lib.Signed.{leZ}
 use borrow.Author.Tests.{eqb-true, eqb-false, eq-eqb, ne-eqb, ltb-true, lt-ltb, leb-true, not-true}
 use Rattle.lists.specs.Bools.{clash, and-out, and-in, or-out, or-in-left, or-in-right, or-none-out}
+use Rattle.rules.specs.declared.Meaning.the-variants.{Possibly, Surely}
+use Rattle.rules.specs.declared.Query.{Query}
 use Rattle.rules.specs.Tables.{Table, num, rowCount, rowInOrder, legal, Row, row, qualifies, withdrawn, rowsQualify}
+use Rattle.rules.specs.Tolerances.{asking, surely-possibly}
 use Rattle.rules.specs.Session.{withdrawnWithin, readOut, isEmpty}
 use Rattle.session_laws.specs.Tables.{RowFits, score-kept, legal-out}
 
 -- ---- Rows that qualify are not withdrawn
 
-pub rows-qualify-out : (radius : ℕ) (x y : Row) → rowsQualify radius x y ≡ true
-    → (withdrawn x ≡ false) × (withdrawn y ≡ false) × (qualifies radius (x .shade) (y .shade) ≡ true)
+pub rows-qualify-out : (q : Query) (x y : Row) → rowsQualify q x y ≡ true
+    → (withdrawn x ≡ false) × (withdrawn y ≡ false) × (qualifies q (x .shade) (y .shade) ≡ true)
 unfolding rowsQualify
-rows-qualify-out radius x y h =
-    let last = qualifies radius (x .shade) (y .shade) in
+rows-qualify-out q x y h =
+    let last = qualifies q (x .shade) (y .shade) in
     let a = and-out (not (withdrawn x)) (not (withdrawn y) && last) h in
     let b = and-out (not (withdrawn y)) last (a .1) in
     (not-true (withdrawn x) (a .0), not-true (withdrawn y) (b .0), b .1)
 
-pub rows-qualify-in : (radius : ℕ) (x y : Row) → withdrawn x ≡ false → withdrawn y ≡ false
-    → rowsQualify radius x y ≡ qualifies radius (x .shade) (y .shade)
+pub rows-qualify-in : (q : Query) (x y : Row) → withdrawn x ≡ false → withdrawn y ≡ false
+    → rowsQualify q x y ≡ qualifies q (x .shade) (y .shade)
 unfolding rowsQualify
-rows-qualify-in radius x y a b = rw (a, b)
+rows-qualify-in q x y a b = rw (a, b)
+
+-- "Every surely qualifying pair also possibly qualifies."
+pub rows-surely-possibly : (q : Query) (x y : Row) → rowsQualify (asking Surely q) x y ≡ true
+    → rowsQualify (asking Possibly q) x y ≡ true
+rows-surely-possibly q x y h =
+    let live = rows-qualify-out (asking Surely q) x y h in
+    rows-qualify-in (asking Possibly q) x y (live .0) (live .1)
+    ∙ surely-possibly q (x .shade) (y .shade) (live .2)
 
 -- ---- A withdrawn row among the first
 

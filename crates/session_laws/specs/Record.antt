@@ -1,6 +1,6 @@
--- What a query and a record that are not refused keep: 1 to 3, 12 and 5 in words. Assumes nothing.
-use mathlib.Core.Path.{_≡_, refl}
-use mathlib.Core.Bool.{Bool, true, false, cond, _&&_, _||_}
+-- What a query and a record that are not refused keep: 1 to 3, 12, 16 and 5 in words. Assumes nothing.
+use mathlib.Core.Path.{_≡_, refl, sym, ap, _∙_}
+use mathlib.Core.Bool.{Bool, true, false, cond, _&&_, _||_, not}
 use mathlib.Core.List.{[], _∷_}
 use mathlib.Core.Logic.{_⊎_, inl, inr, ⊎-elim}
 use Prim.Native.Nat.{ℕ, _+_, _*_, _%_, _≤_, _<_}
@@ -15,13 +15,13 @@ use Rattle.rules.specs.declared.Pair.{Pair}
 use Rattle.rules.specs.declared.Query.{Query}
 use Rattle.rules.specs.declared.Session.{Session}
 use Rattle.rules.specs.Tables.{mostRows, ahead}
-use Rattle.rules.specs.Session.{noPair, heldPairs}
+use Rattle.rules.specs.Session.{noPair, heldPairs, nothingQualifies}
 use Rattle.rules.specs.Read.{blockCount}
 use Rattle.rules.specs.Take.{firstHeld}
-use Rattle.rules.specs.Numbers.{unless, listLength, blockSize, radiusRange, weightRange}
+use Rattle.rules.specs.Numbers.{unless, listLength, blockSize, radiusRange, weightRange, toleranceRange}
 use Rattle.rules.specs.Checks.{first-out, unless-out}
-use Rattle.rules.specs.Calls.{between, queryCode, countsFit, mostSum, pairFits, markFits, isZeros}
-use Rattle.rules.specs.Calls.{isCard, recordGrounds, recordFits}
+use Rattle.rules.specs.Calls.{between, mostTolerance, queryCode, countsFit, mostSum, pairFits, markFits, isZeros}
+use Rattle.rules.specs.Calls.{isCard, depthsFit, recordGrounds, recordFits}
 
 module _ (low high n : ℕ) where
   pub between-out : between low high n ≡ true → (low ≤ n) × (n ≤ high)
@@ -30,7 +30,7 @@ module _ (low high n : ℕ) where
   pub between-in : low ≤ n → n ≤ high → between low high n ≡ true
   between-in h k = and-in (leb low n) (leb n high) (le-leb low n h) (le-leb n high k)
 
--- ---- 1, 2, 3, 12: the query
+-- ---- 1, 2, 3, 12, 16: the query
 
 pub record QueryFits (q : Query) : Type 0 where
   pub k : (1 ≤ q .k) × (q .k ≤ 64)
@@ -38,6 +38,8 @@ pub record QueryFits (q : Query) : Type 0 where
   pub radius : q .radius ≤ 40000
   pub field-weight : (1 ≤ q .weights .field .0) × (q .weights .field .0 ≤ 9)
   pub trim-weight : (1 ≤ q .weights .trim .0) × (q .weights .trim .0 ≤ 9)
+  pub field-tolerance : q .tolerances .field .0 ≤ mostTolerance
+  pub trim-tolerance : q .tolerances .trim .0 ≤ mostTolerance
 
 pub query-out : (q : Query) → queryCode q ≡ 0 → QueryFits q
 unfolding queryCode
@@ -47,7 +49,10 @@ query-out q h =
     let c = leb (q .radius) 40000 in
     let d = between 1 9 (q .weights .field .0) in
     let e = between 1 9 (q .weights .trim .0) in
-    let heavy = unless d weightRange ∷ unless e weightRange ∷ [] in
+    let u = leb (q .tolerances .field .0) mostTolerance in
+    let v = leb (q .tolerances .trim .0) mostTolerance in
+    let faded = unless u toleranceRange ∷ unless v toleranceRange ∷ [] in
+    let heavy = unless d weightRange ∷ unless e weightRange ∷ faded in
     let passes = first-out (unless a listLength ∷ unless b blockSize ∷ unless c radiusRange ∷ heavy) h in
     record {
       k = between-out 1 64 (q .k) (unless-out a listLength (omega arith) (passes 0));
@@ -55,6 +60,10 @@ query-out q h =
       radius = leb-true (q .radius) 40000 (unless-out c radiusRange (omega arith) (passes 2));
       field-weight = between-out 1 9 (q .weights .field .0) (unless-out d weightRange (omega arith) (passes 3));
       trim-weight = between-out 1 9 (q .weights .trim .0) (unless-out e weightRange (omega arith) (passes 4));
+      field-tolerance =
+          leb-true (q .tolerances .field .0) mostTolerance (unless-out u toleranceRange (omega arith) (passes 5));
+      trim-tolerance =
+          leb-true (q .tolerances .trim .0) mostTolerance (unless-out v toleranceRange (omega arith) (passes 6));
     }
 
 pub query-in : (q : Query) → QueryFits q → queryCode q ≡ 0
@@ -66,6 +75,8 @@ query-in q h =
       le-leb (q .radius) 40000 (h .radius),
       between-in 1 9 (q .weights .field .0) (h .field-weight .0) (h .field-weight .1),
       between-in 1 9 (q .weights .trim .0) (h .trim-weight .0) (h .trim-weight .1),
+      le-leb (q .tolerances .field .0) mostTolerance (h .field-tolerance),
+      le-leb (q .tolerances .trim .0) mostTolerance (h .trim-tolerance),
     )
 
 -- ---- 5: a table's counts
@@ -211,6 +222,29 @@ card-small n h = ⊎-elim (λ e. omega (arith, e)) (λ e. omega (arith, e)) (car
 pub card-other : (n : ℕ) → isCard n ≡ true → (n ≡ 2 → ⊥) → n ≡ 3
 card-other n h e = ⊎-elim (λ k. absurd (e k)) (λ k. k) (card-out n h)
 
+-- ---- 5: nothing is read for a query that nothing can meet
+
+abbrev pub DepthsFit : Session → Type 0
+DepthsFit s = nothingQualifies s ≡ true → (s .depth .field .0 ≡ 0) × (s .depth .trim .0 ≡ 0)
+
+module _ (s : Session) where
+  pub depths-out : depthsFit s ≡ true → DepthsFit s
+  unfolding depthsFit
+  depths-out h u =
+      let none = eqb (s .depth .field .0) 0 && eqb (s .depth .trim .0) 0 in
+      let e : none ≡ true = sym (ap (λ b. not b || none) u) ∙ h in
+      let both = and-out (eqb (s .depth .field .0) 0) (eqb (s .depth .trim .0) 0) e in
+      (eqb-true (s .depth .field .0) 0 (both .0), eqb-true (s .depth .trim .0) 0 (both .1))
+
+  pub depths-in : DepthsFit s → depthsFit s ≡ true
+  unfolding depthsFit
+  depths-in h = go (nothingQualifies s) refl
+    where
+      go : (b : Bool) → nothingQualifies s ≡ b
+          → (not b || (eqb (s .depth .field .0) 0 && eqb (s .depth .trim .0) 0)) ≡ true
+      go false e = refl
+      go true e = rw (eq-eqb (s .depth .field .0) 0 (h e .0)) (eq-eqb (s .depth .trim .0) 0 (h e .1))
+
 -- ---- 5: the record
 
 -- as many block pairs as the depths have, and no more, can be joined
@@ -229,6 +263,7 @@ pub record RecordFits (s : Session) : Type 0 where
   pub zeros : every isZeros (drop (s .held) (s .pairs)) ≡ true
   pub joined : s .joined ≤ mostJoined s
   pub card : isCard (s .rows .card) ≡ true
+  pub depths : DepthsFit s
 
 module _ (s : Session) where
   pub record-out : recordFits s ≡ true → RecordFits s
@@ -246,6 +281,7 @@ module _ (s : Session) where
         zeros = passes 7;
         joined = leb-true (s .joined) (mostJoined s) (passes 8);
         card = passes 9;
+        depths = depths-out s (passes 10);
       }
 
   pub record-in : RecordFits s → recordFits s ≡ true
@@ -261,8 +297,9 @@ module _ (s : Session) where
         mark-in s (h .mark),
         h .zeros,
         le-leb (s .joined) (mostJoined s) (h .joined),
+        h .card,
       )
-      (h .card)
+      (depths-in s (h .depths))
 
   -- the first held pair
   pub first-fits : RecordFits s → 0 < length (s .pairs) → 0 < s .held → PairFits s (firstHeld s)

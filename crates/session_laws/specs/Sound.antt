@@ -12,20 +12,20 @@ use native.Mathlib.Decide.{decLe}
 use lib.ListN.{length, drop, replicate, length-take}
 use lib.Seq.{drop-append-seam, drop-append-le}
 use Rattle.lists.specs.Lists.{every}
-use Rattle.lists.specs.Bools.{and-out}
+use Rattle.lists.specs.Bools.{clash, and-out}
 use Rattle.rules.specs.declared.TwoTables.{TwoTables}
 use Rattle.rules.specs.declared.Query.{Query}
 use Rattle.rules.specs.declared.Pair.{Pair}
 use Rattle.rules.specs.declared.Session.{Session}
 use Rattle.rules.specs.Tables.{Table, terms, Block, qualifying}
-use Rattle.rules.specs.Session.{noPair, places, opened, heldPairs, settled}
+use Rattle.rules.specs.Session.{noPair, places, opened, heldPairs, nothingQualifies, settled}
 use Rattle.rules.specs.Read.{fieldNext, blockCount, blockAt, skipped, bestHeld, holding, meetBy, meet, meetBlocksBy}
 use Rattle.rules.specs.Read.{meetBlocks}
 use Rattle.rules.specs.Read.{readTo, oldDepth, newDepth, readTableBy, readBlock}
 use Rattle.rules.specs.Take.{movedOut}
 use Rattle.rules.specs.Calls.{isZeros}
-use Rattle.session_laws.specs.Record.{WholeBlocks, MarkFits, mostJoined}
-use Rattle.session_laws.specs.Read.{Kept, metAll, met-all-keeps, blocks-joined, read-raises}
+use Rattle.session_laws.specs.Record.{WholeBlocks, MarkFits, DepthsFit, mostJoined}
+use Rattle.session_laws.specs.Read.{Kept, metAll, met-all-keeps, blocks-joined, unsettled-out, read-raises}
 
 pub record Sound (s : Session) : Type 0 where
   pub field-whole : WholeBlocks (s .query .block) (s .rows .field .0) (s .depth .field .0)
@@ -33,6 +33,7 @@ pub record Sound (s : Session) : Type 0 where
   pub mark : MarkFits s
   pub cleared : every isZeros (drop (s .held) (s .pairs)) ≡ true
   pub joined : s .joined ≤ mostJoined s
+  pub depths : DepthsFit s
 
 -- ---- Counting blocks
 
@@ -137,6 +138,7 @@ sound-open q tables = record {
       };
   cleared = places-cleared [];
   joined = omega arith;
+  depths = λ u. (refl, refl);
 }
 
 -- ---- Read
@@ -168,7 +170,8 @@ same-held s r e =
       joined = r .joined;
     }
 
-module _ (s r : Session) (h : Sound s) (size : 1 ≤ s .query .block) (cleared : Cleared r) where
+module _ (s r : Session) (h : Sound s) (size : 1 ≤ s .query .block) (cleared : Cleared r)
+    (satisfiable : nothingQualifies s ≡ false) where
   abbrev counted : ℕ → ℕ
   counted depth = blockCount (s .query .block) depth
 
@@ -195,6 +198,7 @@ module _ (s r : Session) (h : Sound s) (size : 1 ≤ s .query .block) (cleared :
         joined =
             product-next (counted d) (counted (newDepth true s)) (counted e) (s .joined) (r .joined) (h .joined)
             (count-next block size d (newDepth true s) begins k) j;
+        depths = λ u. clash u satisfiable;
       }
   sound-raised false k j =
       let block = s .query .block in
@@ -217,6 +221,7 @@ module _ (s r : Session) (h : Sound s) (size : 1 ≤ s .query .block) (cleared :
             subst (λ n. r .joined ≤ n) (mul-comm (counted (newDepth false s)) (counted d))
             (product-next (counted e) (counted (newDepth false s)) (counted d) (s .joined) (r .joined) most
             (count-next block size e (newDepth false s) begins k) j);
+        depths = λ u. clash u satisfiable;
       }
 
 pub sound-read : (f t : Table) (s : Session) → Sound s → 1 ≤ s .query .block
@@ -228,7 +233,8 @@ sound-read f t s h size m n u =
     let r : Session = metAll field f t s in
     let cleared : Cleared r = blocks-cleared field s _ _ _ _ (h .cleared) in
     subst (λ r. Sound (readTo field (newDepth field s) r)) (sym (same-held s r (met-all-keeps field f t s)))
-    (sound-raised s r h size cleared field (read-raises f t s u size m n) (blocks-joined field s _ _ _ _))
+    (sound-raised s r h size cleared (unsettled-out f t s u .satisfiable) field (read-raises f t s u size m n)
+    (blocks-joined field s _ _ _ _))
 
 -- ---- Take
 
@@ -242,4 +248,5 @@ sound-take s h stored some = record {
   cleared =
       moved-cleared (s .held) (s .pairs) some (omega (arith, length-take (s .held) (s .pairs))) (h .cleared);
   joined = h .joined;
+  depths = h .depths;
 }

@@ -17,7 +17,7 @@ use Rattle.rules.specs.declared.Session.{Session}
 use Rattle.session_laws.specs.ReadOut.{live-out, read-out-some}
 use Rattle.rules.specs.Session.{isEmpty, fieldReadOut, trimReadOut}
 use Rattle.rules.specs.Session.{noPair, heldPairs, aTableIsEmpty, bothReadOut, ceilingBy, securedBy, secured}
-use Rattle.rules.specs.Session.{settledBy, settled}
+use Rattle.rules.specs.Session.{nothingQualifies, settledBy, settled}
 use Rattle.rules.specs.Take.{firstHeld, givesPairBy, givesPair, movedOut, finished}
 use Rattle.rules.specs.Tables.{Table}
 
@@ -93,26 +93,30 @@ module _ (f t : Table) (s : Session) (stored : length (heldPairs s) ≡ s .held)
   pub settled-take : settled f t s ≡ true → givesPair f t s ≡ false → finished f t s ≡ true
   unfolding settledBy givesPairBy finished
   settled-take =
-      go (eqb (s .out) (s .query .k)) (aTableIsEmpty f t s) (bothReadOut f t s) (ltb 0 (s .held)) refl refl refl refl
+      go (eqb (s .out) (s .query .k)) (nothingQualifies s) (aTableIsEmpty f t s) (bothReadOut f t s)
+      (ltb 0 (s .held)) refl refl refl refl
     where
-      go : (k e b h : Bool) → eqb (s .out) (s .query .k) ≡ k → aTableIsEmpty f t s ≡ e → bothReadOut f t s ≡ b
-          → ltb 0 (s .held) ≡ h → (e || (b || (k || full))) ≡ true → (h && secured f t s (firstHeld s)) ≡ false
-          → (k || (e || (b && eqb (s .held) 0))) ≡ true
-      go true e b h ek ee eb eh w n = refl
-      go false true b h ek ee eb eh w n = refl
-      go false false true true ek ee eb eh w n = clash (read-out-secured f t s (firstHeld s) ee eb) n
-      go false false true false ek ee eb eh w n = eq-eqb (s .held) 0 (omega (arith, ltb-false 0 (s .held) eh))
-      go false false false true ek ee eb eh w n =
+      go : (k u e b h : Bool) → eqb (s .out) (s .query .k) ≡ k → aTableIsEmpty f t s ≡ e → bothReadOut f t s ≡ b
+          → ltb 0 (s .held) ≡ h → (u || (e || (b || (k || full)))) ≡ true
+          → (h && secured f t s (firstHeld s)) ≡ false → (k || (u || (e || (b && eqb (s .held) 0)))) ≡ true
+      go true u e b h ek ee eb eh w n = refl
+      go false true e b h ek ee eb eh w n = refl
+      go false false true b h ek ee eb eh w n = refl
+      go false false false true true ek ee eb eh w n = clash (read-out-secured f t s (firstHeld s) ee eb) n
+      go false false false true false ek ee eb eh w n =
+          eq-eqb (s .held) 0 (omega (arith, ltb-false 0 (s .held) eh))
+      go false false false false true ek ee eb eh w n =
           let first = first-mem s stored (ltb-true 0 (s .held) eh) in
           clash (every-at (secured f t s) (firstHeld s) (full-out w .1) first) n
-      go false false false false ek ee eb eh w n =
+      go false false false false false ek ee eb eh w n =
           absurd (eqb-false (s .out) (s .query .k) ek (omega (arith, ltb-false 0 (s .held) eh, full-out w .0)))
 
   -- and it stays settled
   pub settled-moves : 1 ≤ s .held → s .out + s .held ≤ s .query .k → settled f t s ≡ true
       → settled f t (movedOut s) ≡ true
   unfolding settledBy movedOut
-  settled-moves some room e = go (aTableIsEmpty f t s) (bothReadOut f t s) (eqb (s .out) (s .query .k)) refl e
+  settled-moves some room e =
+      go (nothingQualifies s) (aTableIsEmpty f t s) (bothReadOut f t s) (eqb (s .out) (s .query .k)) refl e
     where
       left : Bool
       left =
@@ -128,9 +132,10 @@ module _ (f t : Table) (s : Session) (stored : length (heldPairs s) ≡ s .held)
           rw (eq-eqb (s .out + 1 + (s .held - 1)) (s .query .k) (omega arith))
           (same ∙ moved-every s stored some (secured f t s) (full-out w .1))
 
-      go : (e b k : Bool) → eqb (s .out) (s .query .k) ≡ k → (e || (b || (k || full))) ≡ true
-          → (e || (b || (eqb (s .out + 1) (s .query .k) || left))) ≡ true
-      go true b k z w = refl
-      go false true k z w = refl
-      go false false true z w = absurd (omega (arith, eqb-true (s .out) (s .query .k) z))
-      go false false false z w = rw (still-full w) (or-true (eqb (s .out + 1) (s .query .k)))
+      go : (u e b k : Bool) → eqb (s .out) (s .query .k) ≡ k → (u || (e || (b || (k || full)))) ≡ true
+          → (u || (e || (b || (eqb (s .out + 1) (s .query .k) || left)))) ≡ true
+      go true e b k z w = refl
+      go false true b k z w = refl
+      go false false true k z w = refl
+      go false false false true z w = absurd (omega (arith, eqb-true (s .out) (s .query .k) z))
+      go false false false false z w = rw (still-full w) (or-true (eqb (s .out + 1) (s .query .k)))

@@ -15,6 +15,9 @@ pub fn is_settled(f: &[i32], t: &[i32], s: Session, last: Pair) -> bool
     ensures { λ r. ⌜ r ≡ settled (lentTable s (now (f .entry))) (lentTable s (now (t .entry))) s ⌝ }
 {
     let n = s.rows.card;
+    if tolerances::unsatisfiable(s.query, n) {
+        return true;
+    }
     let l = s.rows.field.0;
     let m = s.rows.trim.0;
     let d = s.depth.field.0;

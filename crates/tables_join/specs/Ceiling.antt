@@ -33,7 +33,8 @@ use Rattle.session_laws.specs.Read.{unsettled-out}
 use Rattle.tables_join.specs.Rows.{rowsOf, rowsBy, fieldSide, trimSide, near, Rises, field-rises, trim-rises}
 use Rattle.tables_join.specs.Rows.{length-rows, rows-at, zero-read, legal-rows, rows-take, laws}
 use Rattle.tables_join.specs.Sure.{sums-rows}
-use Rattle.tables_join.specs.Pairs.{QualifyingPair, Region, pair-rank, qualifying-distinct, mem-qualifying}
+use Rattle.tables_join.specs.Pairs.{QualifyingPair, pair-satisfiable, Region, pair-rank, qualifying-distinct}
+use Rattle.tables_join.specs.Pairs.{mem-qualifying}
 use Rattle.tables_join.specs.Reached.{Reached, first-inside, first-best, read-out-region}
 
 -- a reading within the table has ended it exactly if it has all rows
@@ -155,8 +156,9 @@ module _ {q : Query} {f t : Table} {out : List Pair} {s : Session} (a : Reached 
         let hj : j < rowCount t = omega (arith, m .trim-row) in
         let meets : near q (Join.rowAt S F i) (Join.rowAt U T j) ≡ true =
         ap₂ (near q) (rows-at f i hi) (rows-at t j hj) ∙ m .near in
+        let met = pair-satisfiable q f t (a .cards .same) p m in
         let low =
-        outside-low S U (near q) (laws q (a .accepted) f t (a .cards .same)) F F T T d e i j
+        outside-low S U (near q) (laws q (a .accepted) f t (a .cards .same) met) F F T T d e i j
         (legal-rows f g (field-rises q (a .accepted)))
         (legal-rows t h (trim-rises q (a .accepted))) hd he (begins-itself (field-rises q (a .accepted)) d f g)
         (begins-itself (trim-rises q (a .accepted)) e t h)

@@ -1,6 +1,6 @@
 -- The table that is read next is the join's choice, so no read goes past a sure reading by a block or more. Assumes
 -- legal tables.
-use mathlib.Core.Path.{_≡_, refl, ap, subst, _∙_}
+use mathlib.Core.Path.{_≡_, refl, sym, ap, ap₂, subst, _∙_}
 use mathlib.Core.Bool.{Bool, true, false, cond, _&&_}
 use mathlib.Core.List.{List}
 use mathlib.Core.Logic.{inl, inr}
@@ -16,7 +16,7 @@ use Rattle.rules.specs.declared.TrimRows.{TrimRows}
 use Rattle.rules.specs.declared.Pair.{Pair}
 use Rattle.rules.specs.declared.Query.{Query}
 use Rattle.rules.specs.declared.Session.{Session}
-use Rattle.rules.specs.Tables.{Table, terms, legal}
+use Rattle.rules.specs.Tables.{Table, unsatisfiable, terms, legal}
 use Rattle.rules.specs.Session.{fieldReadOut, trimReadOut, bothReadOut, settled}
 use Rattle.rules.specs.Read.{scoreDrop, fieldNextBy, fieldNext, readTable, readBlock}
 use Rattle.rules.specs.Sure.{Sure}
@@ -140,10 +140,14 @@ module _ {q : Query} {f t : Table} {out : List Pair} {s : Session} (a : Reached 
       ≡ false
   unended = rw (field-ended a, trim-ended a) (unsettled-out f t s u .unread)
 
+  satisfiable : unsatisfiable q (f .coordinates) ≡ false
+  satisfiable =
+      sym (ap₂ unsatisfiable (a .query) (a .card)) ∙ unsettled-out f t s u .satisfiable
+
   field-limit : fieldNext f t s ≡ true → s .depth .field .0 < max (m .0) (n .0)
   field-limit c =
       row-limit (fieldSide (f .coordinates) q) (trimSide (t .coordinates) q) (near q)
-      (laws q (a .accepted) f t (a .cards .same)) (rowsOf f) (rowsOf t)
+      (laws q (a .accepted) f t (a .cards .same) satisfiable) (rowsOf f) (rowsOf t)
       (legal-rows f g (field-rises q (a .accepted))) (legal-rows t h (trim-rises q (a .accepted)))
       (q .k) (m .0) (n .0) (s .depth .field .0) (s .depth .trim .0) wanted live live-trim unended
       (λ hd he. unsettled-short a g h hd he u) (chosen a (unsettled-out f t s u .unread) true c)
@@ -152,7 +156,7 @@ module _ {q : Query} {f t : Table} {out : List Pair} {s : Session} (a : Reached 
   trim-limit : fieldNext f t s ≡ false → s .depth .trim .0 < max (m .0) (n .0)
   trim-limit c =
       row-limit-trim (fieldSide (f .coordinates) q) (trimSide (t .coordinates) q) (near q)
-      (laws q (a .accepted) f t (a .cards .same)) (rowsOf f) (rowsOf t)
+      (laws q (a .accepted) f t (a .cards .same) satisfiable) (rowsOf f) (rowsOf t)
       (legal-rows f g (field-rises q (a .accepted))) (legal-rows t h (trim-rises q (a .accepted))) (q .k)
       (m .0) (n .0) (s .depth .field .0) (s .depth .trim .0) wanted live live-trim unended
       (λ hd he. unsettled-short a g h hd he u) (chosen a (unsettled-out f t s u .unread) false c)

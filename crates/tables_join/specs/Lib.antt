@@ -7,5 +7,6 @@ pub mod Ceiling
 pub mod Choice
 pub mod WholeList
 pub mod Withdrawn
+pub mod Unsatisfiable
 pub mod Unskipped
 pub mod Shades

@@ -7,13 +7,15 @@ use mathlib.Core.Logic.{_↔_, inl}
 use Prim.Native.Nat.{ℕ, _-_, _≤_, _<_, _+_}
 use native.Mathlib.Omega.{arith}
 use Rattle.lists.specs.Lists.{keep, range, each}
+use Rattle.lists.specs.Bools.{clash, fails}
 use Rattle.lists.specs.Words.{Distinct}
 use Rattle.lists.specs.Parts.{mem-range, range-distinct, mem-keep, keep-distinct, mem-each, each-distinct, map-distinct}
 use Rattle.join.specs.Held.{Rank}
 use Rattle.rules.specs.declared.Pair.{Pair}
 use Rattle.rules.specs.declared.Query.{Query}
 use Rattle.rules.specs.Tables.{Table, rowCount, row, terms, pairSum, legal, part, ahead, Block, pairAt}
-use Rattle.rules.specs.Tables.{qualifying}
+use Rattle.rules.specs.Tables.{unsatisfiable, qualifying}
+use Rattle.rules.specs.Tolerances.{nothing-near}
 use Rattle.rules.specs.Widths.{has-rows, part-count, part-most}
 use Rattle.rules.specs.Session.{firstScore}
 use Rattle.rules.specs.Read.{rowsBetween}
@@ -27,6 +29,16 @@ pub record QualifyingPair (query : Query) (f t : Table) (p : Pair) : Type 0 wher
   pub trim-row : (1 ≤ p .trim) × (p .trim ≤ rowCount t)
   pub near : near query (row f (p .field - 1)) (row t (p .trim - 1)) ≡ true
   pub own-sum : p .sum ≡ pairSum (terms query) (row f (p .field - 1)) (row t (p .trim - 1))
+
+-- a pair that qualifies shows that something can
+pub pair-satisfiable : (query : Query) (f t : Table) → f .coordinates ≡ t .coordinates → (p : Pair)
+    → QualifyingPair query f t p → unsatisfiable query (f .coordinates) ≡ false
+pair-satisfiable query f t cards p h =
+    fails (unsatisfiable query (f .coordinates))
+    (λ u.
+    clash (h .near)
+    (nothing-near query f t cards u (p .field - 1) (p .trim - 1) (omega (arith, h .field-row))
+    (omega (arith, h .trim-row))))
 
 -- a pair's row in the table that is read, and in the other one; the flag says whether the field table is read
 abbrev pub ownRow : Bool → Pair → ℕ

@@ -1,6 +1,6 @@
 -- The records of a session over two tables: opening reaches the first, reads and takes go on from any, none is refused
 -- by 5, and finished the list is complete. Assumes legal tables.
-use mathlib.Core.Path.{_≡_, refl, sym, ap, subst, _∙_}
+use mathlib.Core.Path.{_≡_, refl, sym, ap, ap₂, subst, _∙_}
 use mathlib.Core.Bool.{Bool, cond, true, false, _&&_, _||_}
 use mathlib.Core.List.{List, [], _∷_, _++_, List·Memᴰ, List·Memᴰ·head}
 use mathlib.Core.Logic.{_⊎_, inl, inr, ⊎-elim, _↔_}
@@ -10,7 +10,7 @@ use native.Mathlib.Decide.{decLe}
 use lib.Dec.{eqb}
 use lib.ListN.{length, take, length-append}
 use borrow.Author.Tests.{eqb-true}
-use Rattle.lists.specs.Bools.{and-out, or-out}
+use Rattle.lists.specs.Bools.{clash, and-out, or-out}
 use Rattle.lists.specs.Parts.{every-of}
 use Rattle.join.specs.Held.{Holds}
 use Rattle.join.specs.HeldLaws.{holds-none, holds-out, first-highest, held-inside, held-new, none-held, held-ranked}
@@ -19,9 +19,9 @@ use Rattle.rules.specs.declared.Pair.{Pair}
 use Rattle.rules.specs.declared.Query.{Query}
 use Rattle.rules.specs.declared.Session.{Session}
 use Rattle.rules.specs.declared.Counts.{Counts}
-use Rattle.rules.specs.Tables.{Table, rowCount, row, ahead, legal, pairSum}
+use Rattle.rules.specs.Tables.{Table, rowCount, unsatisfiable, row, ahead, legal, pairSum}
 use Rattle.rules.specs.Session.{isEmpty, heldPairs, opened, bothReadOut, aTableIsEmpty, fieldReadOut, trimReadOut}
-use Rattle.rules.specs.Session.{twoTables, settled}
+use Rattle.rules.specs.Session.{twoTables, nothingQualifies, settled}
 use Rattle.rules.specs.Read.{readTo, newDepth, readTableBy, readTable, readBlock}
 use Rattle.rules.specs.Take.{firstHeld, movedOut, finished}
 use Rattle.rules.specs.Calls.{queryCode, isCard, pairFits, recordFits}
@@ -33,7 +33,7 @@ use Rattle.session_laws.specs.Read.{new-grows, new-within, own-within, Kept, me
 use Rattle.session_laws.specs.Take.{held-first}
 use Rattle.session_laws.specs.Sound.{Sound, sound-read, sound-take}
 use Rattle.tables_join.specs.Pairs.{QualifyingPair, ownRow, Between, Region, pair-rank, region-between}
-use Rattle.tables_join.specs.Pairs.{region-read}
+use Rattle.tables_join.specs.Pairs.{pair-satisfiable, region-read}
 use Rattle.tables_join.specs.Held.{Keeping, keeping-same, all-blocks-hold}
 
 -- a record of a session over tables f and t, the pairs of `out` being out
@@ -225,7 +225,7 @@ module _ {q : Query} {f t : Table} {out : List Pair} {s : Session} (a : Reached 
     -- read out, the region has every pair
     pub read-out-region : bothReadOut f t s ≡ true → (p : Pair) → QualifyingPair q f t p → R p
     read-out-region e p h =
-        let live = rows-qualify-out (q .radius) (row f (p .field - 1)) (row t (p .trim - 1)) (h .near) in
+        let live = rows-qualify-out q (row f (p .field - 1)) (row t (p .trim - 1)) (h .near) in
         let b = and-out (fieldReadOut f s) (trimReadOut t s) e in
         let first =
         live-above f x (s .rows .field .0) (s .depth .field .0) (p .field) (a .field-rows) (h .field-row) (live .0)
@@ -236,12 +236,16 @@ module _ {q : Query} {f t : Table} {out : List Pair} {s : Session} (a : Reached 
 
     pub empty-none : aTableIsEmpty f t s ≡ true → (p : Pair) → QualifyingPair q f t p → ⊥
     empty-none e p h =
-        let live = rows-qualify-out (q .radius) (row f (p .field - 1)) (row t (p .trim - 1)) (h .near) in
+        let live = rows-qualify-out q (row f (p .field - 1)) (row t (p .trim - 1)) (h .near) in
         let m = s .rows .field .0 in
         let n = s .rows .trim .0 in
         ⊎-elim (λ z. live-never f x m (s .depth .field .0) (p .field) (a .field-rows) (h .field-row) (live .0) z)
         (λ z. live-never t y n (s .depth .trim .0) (p .trim) (a .trim-rows) (h .trim-row) (live .1) z)
         (or-out (isEmpty f m (s .depth .field .0)) (isEmpty t n (s .depth .trim .0)) e)
+
+    unsatisfiable-none : nothingQualifies s ≡ true → (p : Pair) → QualifyingPair q f t p → ⊥
+    unsatisfiable-none u p h =
+        clash (sym (ap₂ unsatisfiable (a .query) (a .card)) ∙ u) (pair-satisfiable q f t (a .cards .same) p h)
 
     abbrev Complete : Type 0
     Complete = (length out ≡ q .k) ⊎ ((p : Pair) → QualifyingPair q f t p → List·Memᴰ p out)
@@ -251,11 +255,17 @@ module _ {q : Query} {f t : Table} {out : List Pair} {s : Session} (a : Reached 
     finished-complete e =
         ⊎-elim (λ z. inl (sym (a .keeping .counted) ∙ eqb-true (s .out) (s .query .k) z ∙ wanted))
         (λ z.
+        ⊎-elim (λ u. inr (λ p h. absurd (unsatisfiable-none u p h)))
+        (λ y.
         ⊎-elim (λ n. inr (λ p h. absurd (empty-none n p h)))
         (λ n. none (and-out (bothReadOut f t s) (eqb (s .held) 0) n))
-        (or-out (aTableIsEmpty f t s) (bothReadOut f t s && eqb (s .held) 0) z))
-        (or-out (eqb (s .out) (s .query .k)) (aTableIsEmpty f t s || (bothReadOut f t s && eqb (s .held) 0)) e)
+        (or-out (aTableIsEmpty f t s) read y))
+        (or-out (nothingQualifies s) (aTableIsEmpty f t s || read) z))
+        (or-out (eqb (s .out) (s .query .k)) (nothingQualifies s || (aTableIsEmpty f t s || read)) e)
       where
+        read : Bool
+        read = bothReadOut f t s && eqb (s .held) 0
+
         wanted : s .query .k ≡ q .k
         wanted = ap (λ q. q .k) (a .query)
 
@@ -334,5 +344,6 @@ module _ {q : Query} {f t : Table} {out : List Pair} {s : Session} (a : Reached 
         mark = h .mark;
         zeros = h .cleared;
         joined = h .joined;
+        depths = h .depths;
         card = subst (λ n. isCard n ≡ true) (sym (a .card)) (a .cards .known);
       })

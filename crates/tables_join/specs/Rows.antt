@@ -25,14 +25,13 @@ use Rattle.join.specs.Plain.{Rows, PlainLegal}
 use Rattle.join.specs.Zero.{zeroAmong, falling, Mates}
 use Rattle.join.specs.ZeroLaws.{falling-laws}
 use Rattle.rules.specs.Tables.{Table}
-use Rattle.rules.specs.Tables.{mostRows, rowCount, inRange, Row, row, qualifies, num, within, rowInRange, rowInOrder}
-use Rattle.rules.specs.Tables.{withdrawn, rowsQualify, weighted, terms}
+use Rattle.rules.specs.Tables.{mostRows, rowCount, inRange, Row, row, num, within, rowInRange, rowInOrder}
+use Rattle.rules.specs.Tables.{unsatisfiable, withdrawn, rowsQualify, weighted, terms}
 use Rattle.rules.specs.Session.{withdrawnWithin, isEmpty}
 use Rattle.rules.specs.Tables.{legal, width, firstRows}
-use Rattle.rules.specs.Squares.{squares-same}
-use Rattle.rules.specs.Whole.{gap-same}
+use Rattle.rules.specs.Tolerances.{like-qualifies}
 use Rattle.rules.specs.Widths.{rows-count, has-row, shade-length}
-use Rattle.rules.specs.Tables.{natOf, gap, table, shadeAt, coordinateFits, fitsAt, shadeFits}
+use Rattle.rules.specs.Tables.{natOf, table, shadeAt, coordinateFits, fitsAt, shadeFits}
 use Rattle.rules.specs.declared.Query.{Query}
 use Rattle.rules.specs.Calls.{queryCode}
 use Rattle.session_laws.specs.ReadOut.{rows-qualify-in}
@@ -375,10 +374,6 @@ module _ {n : ℕ} {weight : Row → ℕ} (rises : Rises weight) (l : List Row) 
 
 -- ---- The laws of the join
 
-same-place : (radius : ℕ) (x : List ℤ) → qualifies radius x x ≡ true
-unfolding qualifies
-same-place radius x = rw (squares-same gap gap-same x) (le-leb 0 (radius * radius) (omega arith))
-
 -- x at y's place
 abbrev moved : Row → Row → Row
 moved x y = record { pattern = x .pattern; score = x .score; shade = y .shade }
@@ -416,17 +411,16 @@ module _ {weight : Row → ℕ} (rises : Rises weight) (x : Row) where
           ne-eqb (weight x) 0
           (λ z. eqb-false (x .score) 0 e (eqb-true (x .score) 0 (weight-none z)))
 
--- the test on rows: at one place they pass it, unless one is withdrawn
+-- the test on rows: at one place they pass it, unless one is withdrawn or nothing can
 module _ (query : Query) (x y : Row) where
-  live-field : withdrawn x ≡ false → withdrawn y ≡ false → near query (moved x y) y ≡ true
-  unfolding withdrawn
-  live-field h k =
-      rows-qualify-in (query .radius) (moved x y) y h k ∙ same-place (query .radius) (y .shade)
+  module _ (n : ℕ) (satisfiable : unsatisfiable query n ≡ false) where
+    live-field : length (y .shade) ≡ n → withdrawn x ≡ false → withdrawn y ≡ false → near query (moved x y) y ≡ true
+    unfolding withdrawn
+    live-field w h k = rows-qualify-in query (moved x y) y h k ∙ like-qualifies query n satisfiable (y .shade) w
 
-  live-trim : withdrawn y ≡ false → withdrawn x ≡ false → near query x (moved y x) ≡ true
-  unfolding withdrawn
-  live-trim h k =
-      rows-qualify-in (query .radius) x (moved y x) k h ∙ same-place (query .radius) (x .shade)
+    live-trim : length (x .shade) ≡ n → withdrawn y ≡ false → withdrawn x ≡ false → near query x (moved y x) ≡ true
+    unfolding withdrawn
+    live-trim w h k = rows-qualify-in query x (moved y x) k h ∙ like-qualifies query n satisfiable (x .shade) w
 
   pub dead-field : withdrawn x ≡ true → near query x y ≡ false
   unfolding rowsQualify
@@ -462,7 +456,7 @@ zeros-fit n =
     zero-fits k h = ap (coordinateFits k) (getD-replicate n k (pos 0) (pos 0) h) ∙ zero-in k
 
 mates : (n : ℕ) {weight other : Row → ℕ} {test : Row → Row → Bool} → Rises weight → Rises other
-    → ((x y : Row) → withdrawn x ≡ false → withdrawn y ≡ false → test (moved x y) y ≡ true)
+    → ((x y : Row) → length (y .shade) ≡ n → withdrawn x ≡ false → withdrawn y ≡ false → test (moved x y) y ≡ true)
     → ((x y : Row) → withdrawn x ≡ true → test x y ≡ false) → Mates (rowsBy n weight) (rowsBy n other) test
 mates n rises others live dead =
     record {
@@ -472,7 +466,7 @@ mates n rises others live dead =
           let low = rises .up (moved x y) x (omega arith) in
           let high = rises .up x (moved x y) (omega arith) in
           omega arith;
-      fits = λ x y g h a b. live x y (weight-some rises x a) (weight-some others y b);
+      fits = λ x y g h a b. live x y (h .wide) (weight-some rises x a) (weight-some others y b);
       dead = λ x y e. dead x y (weight-none rises x e);
       some = some n;
       some-good =
@@ -487,20 +481,22 @@ mates n rises others live dead =
       some-high = λ e. clash (weight-none rises (some n) e) (some-live n);
     }
 
-laws-by : (n : ℕ) (query : Query) → queryCode query ≡ 0 → Laws (fieldSide n query) (trimSide n query) (near query)
-laws-by n query accepted =
+laws-by : (n : ℕ) (query : Query) → queryCode query ≡ 0 → unsatisfiable query n ≡ false
+    → Laws (fieldSide n query) (trimSide n query) (near query)
+laws-by n query accepted met =
     let field = field-rises query accepted in
     let trim = trim-rises query accepted in
     falling-laws (rowsBy n (terms query .field)) (rowsBy n (terms query .trim)) (near query)
-    (mates n field trim (live-field query) (dead-field query))
-    (mates n trim field (λ y x. live-trim query x y) (λ y x. dead-trim query x y)) (lit≤ tt) (lit≤ tt)
+    (mates n field trim (λ x y. live-field query x y n met) (dead-field query))
+    (mates n trim field (λ y x. live-trim query x y n met) (λ y x. dead-trim query x y)) (lit≤ tt) (lit≤ tt)
 
--- two tables on one card keep the laws of the join
+-- two tables on one card keep the laws of the join, by a query that something can meet
 pub laws : (query : Query) → queryCode query ≡ 0 → (f t : Table) → f .coordinates ≡ t .coordinates
+    → unsatisfiable query (f .coordinates) ≡ false
     → Laws (fieldSide (f .coordinates) query) (trimSide (t .coordinates) query) (near query)
-laws query accepted f t cards =
+laws query accepted f t cards met =
     subst (λ n. Laws (fieldSide (f .coordinates) query) (trimSide n query) (near query)) cards
-    (laws-by (f .coordinates) query accepted)
+    (laws-by (f .coordinates) query accepted met)
 
 -- ---- A withdrawn row among the first, of a table or of its rows
 

@@ -2,7 +2,7 @@
 -- step 3). Assumes legal tables.
 use mathlib.Core.Path.{_≡_, sym, ap, ap₂, subst, _∙_, refl}
 use mathlib.Core.Bool.{Bool, cond, _&&_, _||_, true, false}
-use mathlib.Core.List.{List, map, map-map}
+use mathlib.Core.List.{List, [], map, map-map}
 use mathlib.Core.Logic.{_↔_}
 use Prim.Native.Nat.{ℕ, _+_, max, _-_}
 use native.Mathlib.Omega.{arith}
@@ -21,7 +21,8 @@ use Rattle.rules.specs.declared.TrimRows.{TrimRows}
 use Rattle.rules.specs.declared.Query.{Query}
 use Rattle.rules.specs.Tables.{Table}
 use Rattle.rules.specs.Tables.{rowCount, legal, Row, row, withdrawn, Terms, terms, pairSum, Block, pairAt, qualifying}
-use Rattle.rules.specs.Tables.{firstRows}
+use Rattle.rules.specs.Tables.{firstRows, unsatisfiable}
+use Rattle.rules.specs.Tolerances.{nothing-listed}
 use Rattle.rules.specs.Session.{withdrawnWithin, firstScore, lastScore}
 use Rattle.rules.specs.Calls.{queryCode}
 use Rattle.rules.specs.Sure.{qualifyingSums, whole, Begins, Sure}
@@ -47,14 +48,16 @@ ceilingAt query f t p q =
     (cond (readOutBy t (q .0)) 0 (firstScore (w .field) f + lastScore (w .trim) t (q .0)))
     (cond (readOutBy f (p .0)) 0 (lastScore (w .field) f (p .0) + firstScore (w .trim) t))
 
--- a table is empty, or both are read out, or rows of both are read and k sums of theirs are at least the ceiling
+-- nothing can qualify, or a table is empty, or both are read out, or rows of both are read and k sums of theirs are at
+-- least the ceiling
 unfoldable pub isSure : Query → Table → Table → FieldRows → TrimRows → Bool
 isSure query f t p q =
     let sums = qualifyingSums query (firstRows (p .0) f) (firstRows (q .0) t) in
-    emptyBy f (p .0)
+    unsatisfiable query (f .coordinates)
+    || (emptyBy f (p .0)
     || (emptyBy t (q .0)
     || ((readOutBy f (p .0) && readOutBy t (q .0))
-    || (leb 1 (p .0) && (leb 1 (q .0) && leb (query .k) (atLeast (ceilingAt query f t p q) sums)))))
+    || (leb 1 (p .0) && (leb 1 (q .0) && leb (query .k) (atLeast (ceilingAt query f t p q) sums))))))
 
 -- ---- The sums of the tables are those of their rows
 
@@ -201,6 +204,23 @@ module _ {weight : Row → ℕ} (rises : Rises weight) (t : Table) (g : legal t 
   unfolding emptyBy
   empty-by = rw (length-rows t, none-is (rowCount t), row-at t g 0, weight-zero rises (row t 0))
 
+-- ---- Where nothing can qualify every reading is sure, 0 and 0 too: no table that begins so has a qualifying sum
+
+module _ (query : Query) (f t : Table) (cards : f .coordinates ≡ t .coordinates)
+    (u : unsatisfiable query (f .coordinates) ≡ true) (m : FieldRows) (n : TrimRows) where
+  no-sums : (f₁ t₁ : Table) → Begins (m .0) f f₁ → Begins (n .0) t t₁ → qualifyingSums query f₁ t₁ ≡ []
+  unfolding qualifyingSums
+  no-sums f₁ t₁ a b =
+      let wide : f₁ .coordinates ≡ f .coordinates = ap (λ t. t .coordinates) (a .alike) in
+      let wide₁ : t₁ .coordinates ≡ t .coordinates = ap (λ t. t .coordinates) (b .alike) in
+      ap (map (λ p. p .sum))
+      (nothing-listed query f₁ t₁ (wide ∙ cards ∙ sym wide₁) (ap (unsatisfiable query) wide ∙ u) 0 0)
+
+  pub unsatisfiable-sure : Sure query f t m n
+  unfolding Sure
+  unsatisfiable-sure f₁ f₂ t₁ t₂ a b c d =
+      ap (best (query .k)) (no-sums f₁ t₁ a c ∙ sym (no-sums f₂ t₂ b d))
+
 module _ (query : Query) (accepted : queryCode query ≡ 0) (f t : Table) (g : legal f ≡ true) (h : legal t ≡ true)
     (m : FieldRows) (n : TrimRows) where
   abbrev sideF : Side Row
@@ -236,11 +256,13 @@ module _ (query : Query) (accepted : queryCode query ≡ 0) (f t : Table) (g : l
       sums-rows query (f .coordinates) (t .coordinates) (whole (firstRows (m .0) f)) (whole (firstRows (n .0) t))
       ∙ ap₂ (sumsOf sideF sideT (near query)) (rows-take f g (m .0)) (rows-take t h (n .0))
 
-  test-is : sureTest sideF sideT (near query) (query .k) (rowsOf f) (m .0) (rowsOf t) (n .0)
-      ≡ isSure query f t m n
+  -- unless nothing can qualify, the test is the join's
+  test-is : unsatisfiable query (f .coordinates) ≡ false
+      → sureTest sideF sideT (near query) (query .k) (rowsOf f) (m .0) (rowsOf t) (n .0) ≡ isSure query f t m n
   unfolding sureTest isSure
-  test-is =
+  test-is met =
       rw (
+        met,
         empty-by first f g (m .0),
         empty-by second t h (n .0),
         ended-by first f g (m .0),
@@ -251,10 +273,18 @@ module _ (query : Query) (accepted : queryCode query ≡ 0) (f t : Table) (g : l
 
   -- a reading is sure of k exactly if the test passes
   pub sure-is-test : f .coordinates ≡ t .coordinates → Sure query f t m n ↔ (isSure query f t m n ≡ true)
-  sure-is-test cards =
-      let a = sure-rows query accepted f t m n g h in
-      let b =
-      sure-is sideF sideT (near query) (laws query accepted f t cards) (query .k) (rowsOf f) (rowsOf t)
-      (legal-rows f g (field-rises query accepted)) (legal-rows t h (trim-rises query accepted))
-      (query-out query accepted .k .0) (m .0) (n .0) in
-      (λ s. sym test-is ∙ b .0 (a .0 s), λ e. a .1 (b .1 (test-is ∙ e)))
+  unfolding isSure
+  sure-is-test cards = go (unsatisfiable query (f .coordinates)) refl
+    where
+      by-join : unsatisfiable query (f .coordinates) ≡ false → Sure query f t m n ↔ (isSure query f t m n ≡ true)
+      by-join met =
+          let a = sure-rows query accepted f t m n g h in
+          let b =
+          sure-is sideF sideT (near query) (laws query accepted f t cards met) (query .k) (rowsOf f) (rowsOf t)
+          (legal-rows f g (field-rises query accepted)) (legal-rows t h (trim-rises query accepted))
+          (query-out query accepted .k .0) (m .0) (n .0) in
+          (λ s. sym (test-is met) ∙ b .0 (a .0 s), λ e. a .1 (b .1 (test-is met ∙ e)))
+
+      go : (b : Bool) → unsatisfiable query (f .coordinates) ≡ b → Sure query f t m n ↔ (isSure query f t m n ≡ true)
+      go true u = (λ s. rw u, λ e. unsatisfiable-sure query f t cards u m n)
+      go false u = by-join u

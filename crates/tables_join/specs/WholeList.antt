@@ -77,7 +77,7 @@ module _ (n : ℕ) (f t : Table) (s : Session) where
             | false ↦ []
           ]
 
-  until-finished : takeCall f t s ≡ step Finished s → takeUntilFinished (suc n) f t s ≡ []
+  pub until-finished : takeCall f t s ≡ step Finished s → takeUntilFinished (suc n) f t s ≡ []
   unfolding takeUntilFinishedBy
   until-finished e = rw (e, takeUntilFinishedBy)
 
@@ -87,7 +87,7 @@ module _ (q : Query) (f t : Table) (g : legal f ≡ true) (h : legal t ≡ true)
   size : 1 ≤ q .block
   size = query-out q accepted .block .0
 
-  call-passes : {out : List Pair} {s : Session} → Reached q f t out s → Sound s → callCode f t s ≡ 0
+  pub call-passes : {out : List Pair} {s : Session} → Reached q f t out s → Sound s → callCode f t s ≡ 0
   call-passes {s = s} a b =
       call-accepted f t s g h (a .field-rows) (a .trim-rows) (a .field-depth) (a .trim-depth)
       (reached-fits a b g h)

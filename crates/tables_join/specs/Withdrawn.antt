@@ -14,8 +14,9 @@ use Rattle.rules.specs.declared.FieldRows.{FieldRows}
 use Rattle.rules.specs.declared.TrimRows.{TrimRows}
 use Rattle.rules.specs.declared.Query.{Query}
 use Rattle.rules.specs.declared.Session.{Session}
-use Rattle.rules.specs.Tables.{Table, rowCount, legal, row, withdrawn, firstRows}
-use Rattle.rules.specs.Session.{withdrawnWithin, readOut, isEmpty, twoTables, opened, settledBy, settled}
+use Rattle.rules.specs.Tables.{Table, rowCount, legal, unsatisfiable, row, withdrawn, firstRows}
+use Rattle.rules.specs.Session.{withdrawnWithin, readOut, isEmpty, twoTables, opened, nothingQualifies, settledBy}
+use Rattle.rules.specs.Session.{settled}
 use Rattle.rules.specs.Read.{fieldNextBy, fieldNext, readTable}
 use Rattle.rules.specs.declared.Answer.the-variants.{Read}
 use Rattle.rules.specs.Calls.{queryCode, callCode, step}
@@ -68,6 +69,7 @@ module _ (q : Query) (accepted : queryCode q ≡ 0) (f t : Table) (cards : OneCa
 
   -- what makes a reading sure
   pub data Grounds (m n : ℕ) : Type 0 where
+    none-qualifies : unsatisfiable q (f .coordinates) ≡ true → Grounds m n
     field-empty : emptyBy f m ≡ true → Grounds m n
     trim-empty : emptyBy t n ≡ true → Grounds m n
     both-out : readOutBy f m ≡ true → readOutBy t n ≡ true → Grounds m n
@@ -81,6 +83,8 @@ module _ (q : Query) (accepted : queryCode q ≡ 0) (f t : Table) (cards : OneCa
       let last = leb 1 m && (leb 1 n && leb (q .k) some) in
       let outs = readOutBy f m && readOutBy t n in
       let e = sure-is-test q accepted f t g h (fieldRows m) (trimRows n) (cards .same) .0 s in
+      ⊎-elim none-qualifies
+      (λ d.
       ⊎-elim field-empty
       (λ a.
       ⊎-elim trim-empty
@@ -92,14 +96,17 @@ module _ (q : Query) (accepted : queryCode q ≡ 0) (f t : Table) (cards : OneCa
       enough (leb-true 1 m (x .0)) (leb-true 1 n (y .0)) (leb-true (q .k) some (y .1)))
       (or-out outs last b))
       (or-out (emptyBy t n) (outs || last) a))
-      (or-out (emptyBy f m) (emptyBy t n || (outs || last)) e)
+      (or-out (emptyBy f m) (emptyBy t n || (outs || last)) d))
+      (or-out (unsatisfiable q (f .coordinates)) (emptyBy f m || (emptyBy t n || (outs || last))) e)
 
-  -- ---- "sure at 0 and 0 are still only tables of which one has no rows"
+  -- ---- "sure at 0 and 0 are still only tables of which one has no rows", where something can qualify
 
-  pub nothing-sure : Sure q f t (fieldRows 0) (trimRows 0) → (rowCount f ≡ 0) ⊎ (rowCount t ≡ 0)
-  nothing-sure s = go (sure-grounds 0 0 s)
+  pub nothing-sure : unsatisfiable q (f .coordinates) ≡ false → Sure q f t (fieldRows 0) (trimRows 0)
+      → (rowCount f ≡ 0) ⊎ (rowCount t ≡ 0)
+  nothing-sure met s = go (sure-grounds 0 0 s)
     where
       go : Grounds 0 0 → (rowCount f ≡ 0) ⊎ (rowCount t ≡ 0)
+      go (none-qualifies u) = clash u met
       go (field-empty e) = inl (empty-by-none f e)
       go (trim-empty e) = inr (empty-by-none t e)
       go (both-out d e) = inl (read-out-by-none f d)
@@ -110,22 +117,25 @@ module _ (q : Query) (accepted : queryCode q ≡ 0) (f t : Table) (cards : OneCa
   pub first-field-sure : withdrawn (row f 0) ≡ true → (m n : ℕ) → 1 ≤ m → Sure q f t (fieldRows m) (trimRows n)
   unfolding isSure
   first-field-sure e m n k =
-      sure-is-test q accepted f t g h (fieldRows m) (trimRows n) (cards .same) .1 (rw (empty-by-first f m k e))
+      sure-is-test q accepted f t g h (fieldRows m) (trimRows n) (cards .same) .1
+      (rw (empty-by-first f m k e) (or-true (unsatisfiable q (f .coordinates))))
 
   pub first-trim-sure : withdrawn (row t 0) ≡ true → (m n : ℕ) → 1 ≤ n → Sure q f t (fieldRows m) (trimRows n)
   unfolding isSure
   first-trim-sure e m n k =
       sure-is-test q accepted f t g h (fieldRows m) (trimRows n) (cards .same) .1
-      (rw (empty-by-first t n k e) (or-true (emptyBy f m)))
+      (rw (empty-by-first t n k e, or-true (emptyBy f m)) (or-true (unsatisfiable q (f .coordinates))))
 
   -- ---- One that stops just before a withdrawn row is not, unless k sums are: trim not being empty, and rows of the
   -- field table left
 
-  pub before-unsure : (m n : ℕ) → m < rowCount f → withdrawnWithin f m ≡ false → emptyBy f m ≡ false
-      → emptyBy t n ≡ false → (Enough m n → ⊥) → Sure q f t (fieldRows m) (trimRows n) → ⊥
-  before-unsure m n more none live other few s = go (sure-grounds m n s)
+  pub before-unsure : unsatisfiable q (f .coordinates) ≡ false → (m n : ℕ) → m < rowCount f
+      → withdrawnWithin f m ≡ false → emptyBy f m ≡ false → emptyBy t n ≡ false → (Enough m n → ⊥)
+      → Sure q f t (fieldRows m) (trimRows n) → ⊥
+  before-unsure met m n more none live other few s = go (sure-grounds m n s)
     where
       go : Grounds m n → ⊥
+      go (none-qualifies u) = clash u met
       go (field-empty e) = clash e live
       go (trim-empty e) = clash e other
       go (both-out d e) = clash d (unread-by f m more none)
@@ -136,11 +146,12 @@ module _ (q : Query) (accepted : queryCode q ≡ 0) (f t : Table) (cards : OneCa
 empty-settles : (f t : Table) (s : Session) → isEmpty f (s .rows .field .0) (s .depth .field .0) ≡ true
     → settled f t s ≡ true
 unfolding settledBy
-empty-settles f t s e = rw e
+empty-settles f t s e = rw e (or-true (nothingQualifies s))
 
 module _ (q : Query) (accepted : queryCode q ≡ 0) (f t : Table) (cards : OneCard f t)
     (g : legal f ≡ true) (h : legal t ≡ true)
-    (first : withdrawn (row f 0) ≡ true) (some : 1 ≤ rowCount f) (rows : 1 ≤ rowCount t) where
+    (first : withdrawn (row f 0) ≡ true) (some : 1 ≤ rowCount f) (rows : 1 ≤ rowCount t)
+    (met : unsatisfiable q (f .coordinates) ≡ false) where
   abbrev begun : Session
   begun = opened q (twoTables f t)
 
@@ -163,6 +174,7 @@ module _ (q : Query) (accepted : queryCode q ≡ 0) (f t : Table) (cards : OneCa
   unfolding settledBy opened isEmpty readOut withdrawnWithin
   begun-unsettled =
       rw (
+        met,
         ne-eqb (rowCount f) 0 (λ e. omega arith),
         ne-eqb (rowCount t) 0 (λ e. omega arith),
         ne-eqb 0 (rowCount f) (λ e. omega arith),

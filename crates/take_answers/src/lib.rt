@@ -36,9 +36,10 @@ fn is_finished(f: &[i32], t: &[i32], s: Session) -> bool
     let m = s.rows.trim.0;
     let d = s.depth.field.0;
     let e = s.depth.trim.0;
+    let none = tolerances::unsatisfiable(s.query, n);
     let empty = ceiling::is_empty(n, f, l, d) | ceiling::is_empty(n, t, m, e);
     let out = ceiling::read_out(n, f, l, d) & ceiling::read_out(n, t, m, e);
-    (s.out == s.query.k) | (empty | (out & (s.held == 0)))
+    (s.out == s.query.k) | (none | (empty | (out & (s.held == 0))))
 }
 
 // What a take answers, of the code that the checks gave: refused; the first held pair, if it is secured; else finished,

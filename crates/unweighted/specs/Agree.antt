@@ -10,7 +10,7 @@ use Rattle.rules.specs.declared.Session.{Session}
 use Rattle.rules.specs.declared.Answer.the-variants.{Refused, Read, Settled, Given, NotYet, Finished}
 use Rattle.rules.specs.Tables.{Table, Terms, terms, Block, qualifying}
 use Rattle.rules.specs.Session.{heldPairs, firstScore, lastScore, fieldReadOut, trimReadOut, bothReadOut}
-use Rattle.rules.specs.Session.{aTableIsEmpty, aDepthIsZero, ceilingBy, securedBy, settledBy}
+use Rattle.rules.specs.Session.{nothingQualifies, aTableIsEmpty, aDepthIsZero, ceilingBy, securedBy, settledBy}
 use Rattle.rules.specs.Read.{scoreDrop, fieldNextBy, rowsBetween, blockCount, blockAt, lowest, skippedBy, bestHeld}
 use Rattle.rules.specs.Read.{holding, meetBy, meetBlocksBy, readTo, oldDepth, newDepth, readTableBy, readBlockBy}
 use Rattle.rules.specs.Take.{firstHeld, givesPairBy, movedOut, finished}
@@ -66,10 +66,11 @@ module _ (g : Query → Terms) (s : Session) (e : g (s .query) ≡ terms (s .que
     settled-agrees =
         ap
         (λ (secured : Pair → Bool).
-        aTableIsEmpty f t s
+        nothingQualifies s
+        || (aTableIsEmpty f t s
         || (bothReadOut f t s
         || (eqb (s .out) (s .query .k)
-        || (eqb (s .out + s .held) (s .query .k) && every secured (heldPairs s)))))
+        || (eqb (s .out + s .held) (s .query .k) && every secured (heldPairs s))))))
         secured-agrees
 
     next-agrees : fieldNextBy g f t s ≡ fieldNextBy terms f t s

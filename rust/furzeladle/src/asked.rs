@@ -17,8 +17,26 @@ pub struct FieldWeight(pub u32);
 #[derive(Clone, Copy, Debug, PartialEq, Eq, Hash)]
 pub struct TrimWeight(pub u32);
 
+/// How far a field row's shade may lie from where its table has it, in every coordinate, 0 to 500.
+#[derive(Clone, Copy, Debug, Default, PartialEq, Eq, Hash)]
+pub struct FieldTolerance(pub u32);
+
+/// How far a trim row's shade may lie from where its table has it, in every coordinate, 0 to 500.
+#[derive(Clone, Copy, Debug, Default, PartialEq, Eq, Hash)]
+pub struct TrimTolerance(pub u32);
+
+/// Which places of two shades within their tolerances must lie within the radius for a pair to qualify.
+#[derive(Clone, Copy, Debug, Default, PartialEq, Eq, Hash)]
+pub enum Meaning {
+    /// Some of them.
+    #[default]
+    Possibly = 0,
+    /// All of them.
+    Surely = 1,
+}
+
 /// Everything that a list is asked for: a query, and what was added since, each with its default. A query alone will do
-/// wherever this is wanted; `Query::weights`, `Query::on` and their like say the rest.
+/// wherever this is wanted; `Query::weights`, `Query::on`, `Query::surely` and their like say the rest.
 #[derive(Clone, Copy, Debug, PartialEq, Eq, Hash)]
 #[non_exhaustive]
 pub struct Asked {
@@ -31,6 +49,12 @@ pub struct Asked {
     pub field_card: Card,
     /// The old one where nothing is said.
     pub trim_card: Card,
+    /// 0 where nothing is said.
+    pub field_tolerance: FieldTolerance,
+    /// 0 where nothing is said.
+    pub trim_tolerance: TrimTolerance,
+    /// What is made of the tolerances; of 0 and 0 it is all the same.
+    pub meaning: Meaning,
 }
 
 impl Query {
@@ -56,6 +80,28 @@ impl Query {
     /// The same query over two tables as they were read, on their cards.
     pub fn over<'a>(self, field: &'a Rows, trim: &'a Rows) -> Over<'a> {
         Asked::from(self).over(field, trim)
+    }
+
+    /// The same query for pairs that qualify wherever their shades lie within these tolerances.
+    ///
+    /// ```
+    /// use furzeladle::{list, FieldTolerance, Query, TrimTolerance};
+    /// let field = [101, 90, 0, 0]; // number, score, a, b
+    /// let trim = [201, 70, 3, 4];
+    /// let query = Query { k: 1, block: 1, radius: 5 };
+    /// let (u, v) = (FieldTolerance(1), TrimTolerance(1));
+    /// // 5 and 6 apart at most, 1 and 2 at least
+    /// assert_eq!(list(query.surely(u, v), &field, &trim)?.pairs.len(), 0);
+    /// assert_eq!(list(query.possibly(u, v), &field, &trim)?.pairs.len(), 1);
+    /// # Ok::<(), furzeladle::Refusal>(())
+    /// ```
+    pub fn surely(self, field: FieldTolerance, trim: TrimTolerance) -> Asked {
+        Asked::from(self).surely(field, trim)
+    }
+
+    /// The same query for pairs that qualify somewhere within these tolerances.
+    pub fn possibly(self, field: FieldTolerance, trim: TrimTolerance) -> Asked {
+        Asked::from(self).possibly(field, trim)
     }
 }
 
@@ -88,13 +134,35 @@ impl Asked {
         Over::new(self, field, trim)
     }
 
+    /// The same for pairs that qualify wherever their shades lie within these tolerances.
+    pub fn surely(self, field: FieldTolerance, trim: TrimTolerance) -> Asked {
+        self.tolerating(field, trim, Meaning::Surely)
+    }
+
+    /// The same for pairs that qualify somewhere within these tolerances.
+    pub fn possibly(self, field: FieldTolerance, trim: TrimTolerance) -> Asked {
+        self.tolerating(field, trim, Meaning::Possibly)
+    }
+
+    /// The same with these tolerances, and this made of them.
+    pub fn tolerating(self, field: FieldTolerance, trim: TrimTolerance, meaning: Meaning) -> Asked {
+        Asked {
+            field_tolerance: field,
+            trim_tolerance: trim,
+            meaning,
+            ..self
+        }
+    }
+
     /// The numbers that the library is lent for it, in their order.
-    pub(crate) fn numbers(self) -> [u32; 7] {
+    pub(crate) fn numbers(self) -> [u32; 10] {
         let Query { k, block, radius } = self.query;
         let (v, w) = (self.field_weight.0, self.trim_weight.0);
         let field_kind = Table::Field.kind(self.field_card) as u32;
         let trim_kind = Table::Trim.kind(self.trim_card) as u32;
-        [k, block, radius, v, w, field_kind, trim_kind]
+        let (t, u) = (self.field_tolerance.0, self.trim_tolerance.0);
+        let meaning = self.meaning as u32;
+        [k, block, radius, v, w, field_kind, trim_kind, t, u, meaning]
     }
 }
 
@@ -106,6 +174,9 @@ impl From<Query> for Asked {
             trim_weight: TrimWeight(1),
             field_card: Card::Old,
             trim_card: Card::Old,
+            field_tolerance: FieldTolerance(0),
+            trim_tolerance: TrimTolerance(0),
+            meaning: Meaning::Possibly,
         }
     }
 }

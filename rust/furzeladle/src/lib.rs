@@ -5,6 +5,8 @@
 //! know their card. Rows are numbered from 1. Nothing here panics or trusts its input: what does not fit is refused by
 //! the rules' number.
 //!
+//! A shade may be known within a tolerance: `Query::surely` and `Query::possibly` say what is made of it.
+//!
 //! A score of 0 means that the pattern is withdrawn: its row is read, shown and checked like any other, but no pair
 //! with it qualifies. As scores fall, a table counts as read out once such a row has been read.
 //!
@@ -15,7 +17,7 @@ mod asked;
 mod card;
 mod query;
 mod rows;
-pub use asked::{Asked, FieldWeight, Query, TrimWeight};
+pub use asked::{Asked, FieldTolerance, FieldWeight, Meaning, Query, TrimTolerance, TrimWeight};
 pub use card::Card;
 pub use query::{list, listing, root, List, Listed, Root};
 pub use rows::{Over, Rows};
@@ -95,6 +97,7 @@ impl Refusal {
             11 => "short slice",
             12 => "weight",
             15 => "cards",
+            16 => "tolerance",
             _ => "no refusal",
         }
     }
@@ -115,6 +118,7 @@ impl Refusal {
             11 => "fewer numbers lent than are to be written",
             12 => "a weight outside 1 to 9",
             15 => "the two tables are on different cards",
+            16 => "a tolerance outside 0 to 500",
             _ => "nothing is refused",
         }
     }
@@ -197,7 +201,7 @@ pub enum Taken {
 }
 
 /// How many numbers a record is; include/furzeladle.h has their order.
-pub const RECORD_SIZE: usize = 207;
+pub const RECORD_SIZE: usize = 210;
 
 /// Where the card stands in it.
 const CARD_AT: usize = 206;
@@ -209,15 +213,15 @@ pub struct Session {
 }
 
 impl Session {
-    /// Opens a session over two tables: of a query, or of a query, its weights and its card. Refused by 1, 2, 3, 12, 4
-    /// or 15.
+    /// Opens a session over two tables: of a query, or of a query, its weights, its card and its tolerances. Refused by
+    /// 1, 2, 3, 12, 16, 4 or 15.
     pub fn open(asked: impl Into<Asked>, field: &[i32], trim: &[i32]) -> Result<Session, Refusal> {
         let mut session = Session::from_record([0; RECORD_SIZE]);
         session.reopen(asked, field, trim)?;
         Ok(session)
     }
 
-    /// Opens it anew, over these tables. Refused by 1, 2, 3, 12, 4 or 15: the session is as it was.
+    /// Opens it anew, over these tables. Refused by 1, 2, 3, 12, 16, 4 or 15: the session is as it was.
     pub fn reopen(
         &mut self,
         asked: impl Into<Asked>,
@@ -244,7 +248,8 @@ impl Session {
     }
 
     /// A session taken up again. Any numbers will do: reads and takes refuse a record that cannot be one by 5. One of
-    /// 206 numbers, stored before there were cards, goes on with 2 behind them.
+    /// 207 numbers, stored before there were tolerances, goes on with three zeros behind them; one of 206, stored before
+    /// there were cards, with 2 and three zeros.
     pub fn from_record(record: [u32; RECORD_SIZE]) -> Session {
         Session { record }
     }

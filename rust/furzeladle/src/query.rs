@@ -49,7 +49,7 @@ pub fn root(n: u64) -> Root {
     }
 }
 
-/// A pair of the list, with the pattern numbers of its rows and their squared distance.
+/// A pair of the list, with the pattern numbers of its rows and their squared distance, as the tables have their shades.
 #[derive(Clone, Copy, Debug, PartialEq, Eq, Hash)]
 pub struct Listed {
     pub pair: Pair,
@@ -123,8 +123,8 @@ fn ask<T>(
     usize::try_from(answer).map_err(|_| Refusal::of(answer))
 }
 
-/// The list of a query, or of a query, its weights and its card. Refused by 1, 2, 3, 12, 4, 15, or by 6 or 7 of a row
-/// that was read.
+/// The list of a query, or of a query, its weights, its card and its tolerances. Refused by 1, 2, 3, 12, 16, 4, 15, or
+/// by 6 or 7 of a row that was read.
 pub fn list(asked: impl Into<Asked>, field: &[i32], trim: &[i32]) -> Result<List, Refusal> {
     let mut out = [0; QUERY_SIZE];
     let count = ask(exported::furzeladle_query, asked, field, trim, &mut out)?;
@@ -135,7 +135,7 @@ pub fn list(asked: impl Into<Asked>, field: &[i32], trim: &[i32]) -> Result<List
     })
 }
 
-/// The same list as bytes, as the pairing program prints it, weights and card left out. Refused as `list` is.
+/// The same list as bytes, as the pairing program prints it, weights, card and tolerances left out. Refused as `list` is.
 pub fn listing(asked: impl Into<Asked>, field: &[i32], trim: &[i32]) -> Result<Vec<u8>, Refusal> {
     let mut out = vec![0; LISTING_SIZE];
     let count = ask(exported::furzeladle_listing, asked, field, trim, &mut out)?;

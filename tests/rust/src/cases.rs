@@ -1,7 +1,7 @@
 //! Seeded tables on both cards: ties, plateaus, withdrawn rows, empty tables, extreme shades. Seeded queries, weighted
-//! and not. Sessions over withdrawn rows by hand.
-use crate::model::wide;
-use furzeladle::{Asked, Card, FieldWeight, Query, TrimWeight};
+//! and not, with tolerances and without. Sessions over withdrawn rows by hand.
+use crate::model::{wide, Reach};
+use furzeladle::{Asked, Card, FieldTolerance, FieldWeight, Meaning, Query, TrimTolerance, TrimWeight};
 
 /// A small generator, always the same numbers from the same seed.
 pub struct Dice(u64);
@@ -221,8 +221,14 @@ pub fn query(dice: &mut Dice) -> Query {
     }
 }
 
-/// A query in range on a card, and its weights: often 1 and 1, often 9 and 9, else small ones, which tie more, or any.
+/// A query in range on a card, with weights and tolerances.
 pub fn asked(dice: &mut Dice, card: Card) -> Asked {
+    let asked = weighted(dice, card);
+    tolerating(dice, asked)
+}
+
+/// A query in range on a card, and its weights: often 1 and 1, often 9 and 9, else small ones, which tie more, or any.
+pub fn weighted(dice: &mut Dice, card: Card) -> Asked {
     let query = query(dice);
     let [field, trim] = match dice.below(8) {
         0..=2 => [1, 1],
@@ -231,6 +237,24 @@ pub fn asked(dice: &mut Dice, card: Card) -> Asked {
         _ => [(); 2].map(|()| 1 + dice.below(9)),
     };
     query.weights(FieldWeight(field), TrimWeight(trim)).on(card)
+}
+
+/// The same with tolerances: often none, often small ones, as the shades are, now and then the greatest, or any. Where
+/// not even equal shades would surely be near, the radius mostly grows to let them.
+pub fn tolerating(dice: &mut Dice, asked: Asked) -> Asked {
+    let [field, trim] = match dice.below(16) {
+        0..=6 => [0, 0],
+        7..=10 => [(); 2].map(|()| dice.below(3)),
+        11..=13 => [(); 2].map(|()| dice.below(8)),
+        14 => [500, 500],
+        _ => [(); 2].map(|()| dice.below(501)),
+    };
+    let meaning = dice.pick(&[Meaning::Possibly, Meaning::Surely]);
+    let mut asked = asked.tolerating(FieldTolerance(field), TrimTolerance(trim), meaning);
+    if Reach::from(asked).meets_nothing(asked.field_card as u32) && !dice.one_in(4) {
+        asked.query.radius += 2 * (field + trim);
+    }
+    asked
 }
 
 /// Scores times the other table's weight, where that is legal: sums that would tie without weights tie with them, and

@@ -1,5 +1,6 @@
 //! What demand 3 asks of a whole session, judged by the plain double loop over both tables.
-use crate::model::{near, wide, withdrawn};
+use crate::model::{wide, withdrawn};
+use crate::places::{near_by_ends, near_by_places, pairs_of_places};
 use furzeladle::{Asked, Pair};
 use std::collections::HashSet;
 
@@ -30,7 +31,10 @@ pub struct Tables<'a> {
     pub trim: &'a [i32],
 }
 
-impl Tables<'_> {
+/// So many pairs of places are tried for two tables, and not more.
+const MOST_PLACES: u64 = 20_000;
+
+impl<'t> Tables<'t> {
     /// How many numbers a row has: both tables are on one card.
     pub fn wide(&self) -> usize {
         wide(self.asked.field_card)
@@ -38,6 +42,32 @@ impl Tables<'_> {
 
     fn rows<'a>(&self, t: &'a [i32]) -> impl Iterator<Item = &'a [i32]> {
         t.chunks(self.wide())
+    }
+
+    /// The field row and the trim row of a pair that the tables have.
+    pub fn rows_of(&self, pair: &Pair) -> (&'t [i32], &'t [i32]) {
+        let row = |t: &'t [i32], i: u32| t.chunks(self.wide()).nth(i as usize - 1).unwrap();
+        (row(self.field, pair.field), row(self.trim, pair.trim))
+    }
+
+    /// Nothing can qualify where rows of one shade do not.
+    pub fn meets_nothing(&self) -> bool {
+        let alike = &[0; 5][..self.wide()];
+        !near_by_ends(&self.asked, alike, alike)
+    }
+
+    /// Whether the places of all shades are few enough to try each with each. They say then of every two rows, and of
+    /// rows of one shade, what is judged here by the ends of them.
+    pub fn judged_by_places(&self) -> bool {
+        let (m, n) = self.counts();
+        let rows = (m as u64 * n as u64).max(1);
+        if rows * pairs_of_places(&self.asked) > MOST_PLACES {
+            return false;
+        }
+        let agree = |x: &[i32], y: &[i32]| near_by_places(&self.asked, x, y) == near_by_ends(&self.asked, x, y);
+        let alike = &[0; 5][..self.wide()];
+        assert!(agree(alike, alike) && self.rows(self.field).all(|x| self.rows(self.trim).all(|y| agree(x, y))));
+        true
     }
 
     /// The weighted sum of a field score and a trim score.
@@ -55,7 +85,7 @@ impl Tables<'_> {
         let mut all = Vec::new();
         for (i, x) in self.live(self.field, p) {
             for (j, y) in self.live(self.trim, q) {
-                if near(self.asked.query.radius, x, y) {
+                if near_by_ends(&self.asked, x, y) {
                     let sum = self.sum(x[1], y[1]);
                     all.push(Pair { sum, field: i as u32 + 1, trim: j as u32 + 1 });
                 }
@@ -81,9 +111,14 @@ impl Tables<'_> {
 
     /// Whether reading (p, q) is sure of k, by the closed form.
     pub fn sure(&self, p: usize, q: usize) -> bool {
+        self.sure_among(|| self.pairs(p, q), p, q)
+    }
+
+    /// The same by the qualifying pairs of this reading or of a longer one, which are asked for only where they decide.
+    fn sure_among<P: AsRef<[Pair]>>(&self, pairs: impl FnOnce() -> P, p: usize, q: usize) -> bool {
         let (field_ends, trim_ends) = (self.ends_within(self.field, p), self.ends_within(self.trim, q));
         let is_empty = self.is_empty_by(self.field, p) || self.is_empty_by(self.trim, q);
-        if is_empty || (field_ends && trim_ends) {
+        if self.meets_nothing() || is_empty || (field_ends && trim_ends) {
             return true;
         }
         if p == 0 || q == 0 {
@@ -94,14 +129,15 @@ impl Tables<'_> {
         let trim_part = if trim_ends { 0 } else { unread(0, q - 1) };
         let field_part = if field_ends { 0 } else { unread(p - 1, 0) };
         let ceiling = trim_part.max(field_part);
-        let secured = self.pairs(p, q).iter().filter(|pair| pair.sum >= ceiling).count();
-        secured >= self.asked.query.k as usize
+        let secured = |pair: &&Pair| pair.field as usize <= p && pair.trim as usize <= q && pair.sum >= ceiling;
+        pairs().as_ref().iter().filter(secured).count() >= self.asked.query.k as usize
     }
 
     /// The least max(p, q) of a sure reading: more rows keep a reading sure.
     pub fn least_sure(&self) -> usize {
         let (m, n) = self.counts();
-        (0..).find(|&d| self.sure(d.min(m), d.min(n))).unwrap()
+        let all = self.pairs(m, n);
+        (0..).find(|&d| self.sure_among(|| &all, d.min(m), d.min(n))).unwrap()
     }
 
     /// The row limit against a sure reading of that max(p, q).
@@ -119,13 +155,11 @@ impl Tables<'_> {
             if !(1..=m).contains(&i) || !(1..=n).contains(&j) {
                 return Some(Fault::NoSuchRow);
             }
-            let ends = (self.wide() * i, self.wide() * j);
-            let x = &self.field[ends.0 - self.wide()..ends.0];
-            let y = &self.trim[ends.1 - self.wide()..ends.1];
+            let (x, y) = self.rows_of(pair);
             if withdrawn(x) || withdrawn(y) {
                 return Some(Fault::Withdrawn);
             }
-            if !near(self.asked.query.radius, x, y) {
+            if !near_by_ends(&self.asked, x, y) {
                 return Some(Fault::FarApart);
             }
             if pair.sum != self.sum(x[1], y[1]) {

@@ -44,7 +44,7 @@ fn call<T, const N: usize>(export: Export<T>, q: &[u32], f: &[i32], t: &[i32], m
 /// What each of them answers and leaves.
 #[derive(Debug, PartialEq, Eq)]
 pub struct Answers {
-    pub opened: (i32, [u32; 207]),
+    pub opened: (i32, [u32; 210]),
     pub listed: (i32, [u64; 515]),
     pub printed: (i32, [u8; 2_668]),
 }
@@ -52,7 +52,7 @@ pub struct Answers {
 /// The answers to a query of these numbers.
 pub fn answers(query: &[u32], f: &[i32], t: &[i32]) -> Answers {
     Answers {
-        opened: call(furzeladle_open, query, f, t, [7; 207]),
+        opened: call(furzeladle_open, query, f, t, [7; 210]),
         listed: call(furzeladle_query, query, f, t, [7; 515]),
         printed: call(furzeladle_listing, query, f, t, [7; 2_668]),
     }

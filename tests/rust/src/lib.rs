@@ -1,8 +1,10 @@
 //! libfurzeladle.a beside readers of the strict file and a model of the session that share nothing with it.
+pub mod beside;
 pub mod cases;
 pub mod judge;
 pub mod lent;
 pub mod model;
+pub mod places;
 pub mod plain;
 pub mod spelled;
 

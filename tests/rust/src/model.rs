@@ -1,9 +1,9 @@
 //! The rules' session, step by step, from their words alone: plain Rust that shares nothing with the library.
-use furzeladle::{Asked, Card, Pair, Query};
+use furzeladle::{Asked, Card, Meaning, Pair, Query};
 
 pub const PLACES: usize = 64;
 /// How many numbers a flat record is.
-pub const NUMBERS: usize = 207;
+pub const NUMBERS: usize = 210;
 
 /// The record, with the numbers as they come in: any.
 #[derive(Clone, Debug, PartialEq, Eq)]
@@ -20,6 +20,10 @@ pub struct Record {
     pub joined: u64,
     /// By the number of its coordinates.
     pub card: u32,
+    /// Of the field table, then of the trim table.
+    pub tolerance: [u32; 2],
+    /// 0 possibly, any other number surely.
+    pub meaning: u32,
 }
 
 const ZERO: Pair = Pair { sum: 0, field: 0, trim: 0 };
@@ -53,6 +57,8 @@ impl Record {
             places,
             joined: u64::from(l[10]) + (u64::from(l[11]) << 32),
             card: l[206],
+            tolerance: [l[207], l[208]],
+            meaning: l[209],
         }
     }
 
@@ -65,7 +71,23 @@ impl Record {
         }
         l.extend(self.weight);
         l.push(self.card);
+        l.extend(self.tolerance);
+        l.push(self.meaning);
         l
+    }
+
+    fn reach(&self) -> Reach {
+        Reach::of(self.query.radius, self.tolerance, self.meaning)
+    }
+
+    /// No pair of rows can qualify: it is settled as it opens.
+    fn meets_nothing(&self) -> bool {
+        self.reach().meets_nothing(self.card)
+    }
+
+    /// A record that changes says its meaning by 0 or 1; one that does not keeps whatever number stood there.
+    fn changed(&mut self) {
+        self.meaning = self.meaning.min(1);
     }
 
     fn pairs(&self) -> &[Pair] {
@@ -146,6 +168,9 @@ pub struct Opening {
     /// Of the field table, then of the trim table.
     pub weight: [u32; 2],
     pub kind: [u32; 2],
+    pub tolerance: [u32; 2],
+    /// 0 possibly, any other number surely.
+    pub meaning: u32,
 }
 
 impl Opening {
@@ -156,19 +181,21 @@ impl Opening {
             query: Query { k: lent[0], block: lent[1], radius: lent[2] },
             weight: [or(3, 1), or(4, 1)],
             kind: [or(5, 1), or(6, 2)],
+            tolerance: [or(7, 0), or(8, 0)],
+            meaning: or(9, 0),
         }
     }
 
-    /// All seven numbers.
-    pub fn numbers(&self) -> [u32; 7] {
-        let (q, [v, w], [field, trim]) = (self.query, self.weight, self.kind);
-        [q.k, q.block, q.radius, v, w, field, trim]
+    /// All ten numbers.
+    pub fn numbers(&self) -> [u32; 10] {
+        let (q, [v, w], [field, trim], [t, u]) = (self.query, self.weight, self.kind, self.tolerance);
+        [q.k, q.block, q.radius, v, w, field, trim, t, u, self.meaning]
     }
 }
 
 impl From<Query> for Opening {
     fn from(query: Query) -> Opening {
-        Opening { query, weight: [1, 1], kind: [1, 2] }
+        Opening::of(&[query.k, query.block, query.radius])
     }
 }
 
@@ -179,6 +206,8 @@ impl From<Asked> for Opening {
             query: asked.query,
             weight: [asked.field_weight.0, asked.trim_weight.0],
             kind: [kind(asked.field_card, 1, 3), kind(asked.trim_card, 2, 4)],
+            tolerance: [asked.field_tolerance.0, asked.trim_tolerance.0],
+            meaning: u32::from(asked.meaning == Meaning::Surely),
         }
     }
 }
@@ -194,34 +223,65 @@ pub fn squared_distance(x: &[i32], y: &[i32]) -> u64 {
     x[2..].iter().zip(&y[2..]).map(|(p, q)| u64::from(p.abs_diff(*q)).pow(2)).sum()
 }
 
-pub fn near(radius: u32, x: &[i32], y: &[i32]) -> bool {
-    squared_distance(x, y) <= u64::from(radius).pow(2)
+/// How near two shades must be: the radius, both tolerances added, and whether they must be near surely.
+#[derive(Clone, Copy, Debug, PartialEq, Eq)]
+pub struct Reach {
+    pub radius: u32,
+    pub tolerance: u32,
+    pub surely: bool,
 }
 
-fn qualifies(radius: u32, x: &[i32], y: &[i32]) -> bool {
-    !withdrawn(x) && !withdrawn(y) && near(radius, x, y)
-}
-
-/// Whether the rectangles of two blocks lie farther apart than the radius: each block's rows have a lowest and a highest
-/// of every coordinate, withdrawn rows too.
-pub fn far_apart(radius: u32, x: &[i32], y: &[i32], wide: usize) -> bool {
-    let ends = |rows: &[i32], at: usize| {
-        let along: Vec<i32> = rows.chunks(wide).map(|row| row[at]).collect();
-        (*along.iter().min().unwrap(), *along.iter().max().unwrap())
-    };
-    let mut square = 0;
-    for at in 2..wide {
-        let ((low, high), (bottom, top)) = (ends(x, at), ends(y, at));
-        let between = if high < bottom {
-            high.abs_diff(bottom)
-        } else if top < low {
-            top.abs_diff(low)
-        } else {
-            0
-        };
-        square += u64::from(between).pow(2);
+impl Reach {
+    fn of(radius: u32, tolerance: [u32; 2], meaning: u32) -> Reach {
+        Reach { radius, tolerance: tolerance[0] + tolerance[1], surely: meaning != 0 }
     }
-    square > u64::from(radius).pow(2)
+
+    /// Whether coordinates that lie so far apart lie within the radius.
+    fn within(&self, apart: impl Iterator<Item = u32>) -> bool {
+        apart.map(|x| u64::from(x).pow(2)).sum::<u64>() <= u64::from(self.radius).pow(2)
+    }
+
+    /// Of two whole rows on one card, by their shades: surely if they are at their farthest, else at their nearest.
+    pub fn near(&self, x: &[i32], y: &[i32]) -> bool {
+        assert_eq!(x.len(), y.len());
+        let apart = x[2..].iter().zip(&y[2..]).map(|(p, q)| p.abs_diff(*q));
+        if self.surely {
+            self.within(apart.map(|d| d + self.tolerance))
+        } else {
+            self.within(apart.map(|d| d.saturating_sub(self.tolerance)))
+        }
+    }
+
+    /// Whether not even equal shades of so many coordinates are near.
+    pub fn meets_nothing(&self, coordinates: u32) -> bool {
+        self.surely && !self.within((0..coordinates).map(|_| self.tolerance))
+    }
+
+    fn qualifies(&self, x: &[i32], y: &[i32]) -> bool {
+        !withdrawn(x) && !withdrawn(y) && self.near(x, y)
+    }
+
+    /// Whether the rectangles of two blocks lie farther apart than the radius: each block's rows have a lowest and a
+    /// highest of every coordinate, withdrawn rows too. Each gap is lowered by the tolerance, whatever is meant by it.
+    pub fn far_apart(&self, x: &[i32], y: &[i32], wide: usize) -> bool {
+        let ends = |rows: &[i32], at: usize| {
+            let along = rows.chunks(wide).map(|row| row[at]);
+            (along.clone().min().unwrap(), along.max().unwrap())
+        };
+        let gap = |at: usize| match (ends(x, at), ends(y, at)) {
+            ((_, high), (bottom, _)) if high < bottom => high.abs_diff(bottom),
+            ((low, _), (_, top)) if top < low => top.abs_diff(low),
+            _ => 0,
+        };
+        !self.within((2..wide).map(|at| gap(at).saturating_sub(self.tolerance)))
+    }
+}
+
+impl From<Asked> for Reach {
+    fn from(asked: Asked) -> Reach {
+        let opening = Opening::from(asked);
+        Reach::of(opening.query.radius, opening.tolerance, opening.meaning)
+    }
 }
 
 /// Higher sum, then lower field row, then lower trim row.
@@ -229,7 +289,7 @@ pub fn rank(p: &Pair) -> (std::cmp::Reverse<u32>, u32, u32) {
     (std::cmp::Reverse(p.sum), p.field, p.trim)
 }
 
-fn query_refused(q: Query, weight: [u32; 2]) -> u32 {
+fn query_refused(q: Query, weight: [u32; 2], tolerance: [u32; 2]) -> u32 {
     if !(1..=64).contains(&q.k) {
         1
     } else if !(1..=1024).contains(&q.block) {
@@ -238,14 +298,16 @@ fn query_refused(q: Query, weight: [u32; 2]) -> u32 {
         3
     } else if !weight.iter().all(|w| (1..=9).contains(w)) {
         12
+    } else if !tolerance.iter().all(|t| (0..=500).contains(t)) {
+        16
     } else {
         0
     }
 }
 
-/// 1, 2, 3, 12; 10 of both kinds; 4 of both tables, each by its own kind; 15.
+/// 1, 2, 3, 12, 16; 10 of both kinds; 4 of both tables, each by its own kind; 15.
 fn open_refused(opening: &Opening, f: &[i32], t: &[i32]) -> u32 {
-    let code = query_refused(opening.query, opening.weight);
+    let code = query_refused(opening.query, opening.weight, opening.tolerance);
     if code != 0 {
         return code;
     }
@@ -271,7 +333,7 @@ fn blocks(block: u32, depth: u32) -> u64 {
 
 /// Whether 5 does not refuse it.
 pub fn record_fits(r: &Record) -> bool {
-    if query_refused(r.query, r.weight) != 0 {
+    if query_refused(r.query, r.weight, r.tolerance) != 0 {
         return false;
     }
     for table in 0..2 {
@@ -293,6 +355,7 @@ pub fn record_fits(r: &Record) -> bool {
         _ => false,
     };
     matches!(r.card, 2 | 3)
+        && (!r.meets_nothing() || r.depth == [0, 0])
         && held.iter().all(pair_fits)
         && held.windows(2).all(|w| rank(&w[0]) < rank(&w[1]))
         && mark_fits
@@ -363,7 +426,8 @@ fn secured(tables: Both, r: &Record, p: &Pair) -> bool {
 }
 
 fn settled(tables: Both, r: &Record) -> bool {
-    r.has_empty_table(tables)
+    r.meets_nothing()
+        || r.has_empty_table(tables)
         || r.both_read_out(tables)
         || r.out == r.query.k
         || (r.out + r.held == r.query.k && r.pairs().iter().all(|p| secured(tables, r, p)))
@@ -403,10 +467,44 @@ pub fn open(opening: impl Into<Opening>, f: &[i32], t: &[i32]) -> (Said, Record)
     record.weight = opening.weight;
     record.rows = [f, t].map(|numbers| (numbers.len() / wide) as u32);
     record.card = if is_new { 3 } else { 2 };
+    record.tolerance = opening.tolerance;
+    record.meaning = opening.meaning.min(1);
     (Said::Opened, record)
 }
 
-/// The answer, and the pair tests that it took.
+/// The rows of one block: from + 1 to to.
+#[derive(Clone, Copy)]
+struct Block {
+    from: u32,
+    to: u32,
+}
+
+/// A new block of one table meets an old one of the other: skipped or joined.
+fn meet(tables: Both, r: &mut Record, new: usize, block: Block, met: Block) {
+    let old = 1 - new;
+    let first = r.worth(tables, new, block.from + 1) + r.worth(tables, old, met.from + 1);
+    let is_full = r.out + r.held == r.query.k;
+    let low = is_full && r.pairs().iter().map(|p| p.sum).min().is_some_and(|low| first < low);
+    let (here, there) = (tables[new].part(block.from, block.to), tables[old].part(met.from, met.to));
+    if low || r.reach().far_apart(here, there, tables[new].wide) {
+        return;
+    }
+    let mut best = r.pairs().to_vec();
+    for i in block.from + 1..=block.to {
+        for j in met.from + 1..=met.to {
+            let (x, y) = if new == 0 { (i, j) } else { (j, i) };
+            if r.reach().qualifies(tables[0].row(x), tables[1].row(y)) {
+                let sum = r.worth(tables, 0, x) + r.worth(tables, 1, y);
+                best.push(Pair { sum, field: x, trim: y });
+            }
+        }
+    }
+    best.sort_by_key(rank);
+    best.truncate((r.query.k - r.out) as usize);
+    r.hold(&best);
+    r.joined += 1;
+}
+
 pub fn read(f: &[i32], t: &[i32], r: &mut Record) -> Said {
     let tables = match called(f, t, r) {
         Ok(tables) => tables,
@@ -416,41 +514,19 @@ pub fn read(f: &[i32], t: &[i32], r: &mut Record) -> Said {
         return Said::Settled;
     }
     let new = next_table(tables, r);
-    let (from, block) = (r.depth[new], r.query.block);
-    let to = (from + block).min(r.rows[new]);
-    let code = rows_refused(tables[new], from, to);
+    let block = Block { from: r.depth[new], to: (r.depth[new] + r.query.block).min(r.rows[new]) };
+    let code = rows_refused(tables[new], block.from, block.to);
     if code != 0 {
         return Said::Refused(code);
     }
-    let old = 1 - new;
-    let mut start = 0;
-    while start < r.depth[old] {
-        let end = (start + block).min(r.depth[old]);
-        let first = r.worth(tables, new, from + 1) + r.worth(tables, old, start + 1);
-        let lowest = r.pairs().iter().map(|p| p.sum).min();
-        let full = r.out + r.held == r.query.k;
-        let low = full && lowest.is_some_and(|low| first < low);
-        let (here, there) = (tables[new].part(from, to), tables[old].part(start, end));
-        if !low && !far_apart(r.query.radius, here, there, tables[new].wide) {
-            let mut met = r.pairs().to_vec();
-            for i in from + 1..=to {
-                for j in start + 1..=end {
-                    let (x, y) = if new == 0 { (i, j) } else { (j, i) };
-                    if qualifies(r.query.radius, tables[0].row(x), tables[1].row(y)) {
-                        let sum = r.worth(tables, 0, x) + r.worth(tables, 1, y);
-                        met.push(Pair { sum, field: x, trim: y });
-                    }
-                }
-            }
-            met.sort_by_key(rank);
-            met.truncate((r.query.k - r.out) as usize);
-            r.hold(&met);
-            r.joined += 1;
-        }
-        start = end;
+    let depth = r.depth[1 - new];
+    for from in (0..depth).step_by(r.query.block as usize) {
+        let to = (from + r.query.block).min(depth);
+        meet(tables, r, new, block, Block { from, to });
     }
-    r.depth[new] = to;
+    r.depth[new] = block.to;
     r.last = new as u32 + 1;
+    r.changed();
     Said::Read
 }
 
@@ -464,10 +540,11 @@ pub fn take(f: &[i32], t: &[i32], r: &mut Record) -> Said {
         let rest = r.pairs()[1..].to_vec();
         r.hold(&rest);
         r.out += 1;
+        r.changed();
         return Said::Given(given);
     }
-    let ended = r.out == r.query.k || r.has_empty_table(tables) || (r.both_read_out(tables) && r.held == 0);
-    if ended {
+    let read_out = r.both_read_out(tables) && r.held == 0;
+    if r.out == r.query.k || r.meets_nothing() || r.has_empty_table(tables) || read_out {
         Said::Finished
     } else {
         Said::NotYet

@@ -1,11 +1,13 @@
 //! The session beside the model of the rules and the plain double loop: seeded tables on both cards, random calls.
-use furzeladle::{Asked, Card, FieldWeight, Pair, Progress, Query, Refusal, Session, Table, Taken, TrimWeight};
-use furzeladle::{Rows, RECORD_SIZE};
+use furzeladle::{Asked, Card, FieldTolerance, FieldWeight, Meaning, Pair, Progress, Query, Refusal, Session, Table};
+use furzeladle::{Rows, Taken, TrimTolerance, TrimWeight, RECORD_SIZE};
+use furzeladle_tests::beside::{self, answers, call, run, show};
 use furzeladle_tests::cases::WITHDRAWN;
 use furzeladle_tests::cases::{asked, card, scored, scored_on, table, tie_by_weights, withdraw, Dice, Light, Spread};
 use furzeladle_tests::judge::{self, Fault, Tables};
 use furzeladle_tests::lent;
-use furzeladle_tests::model::{self, Opening, Record, Said};
+use furzeladle_tests::model::{self, Opening, Reach, Record, Said};
+use furzeladle_tests::places::{near_by_ends, near_by_places};
 use std::collections::HashMap;
 
 const CASES: u64 = 120_000;
@@ -14,52 +16,6 @@ const TINY: u64 = 8_000;
 const QUERY: Query = Query { k: 2, block: 1, radius: 5 };
 const FIELD: [i32; 20] = [101, 90, 0, 0, 102, 80, 100, 0, 103, 60, 0, 300, 104, 40, 500, 500, 105, 10, 0, 0];
 const TRIM: [i32; 20] = [201, 70, 400, 0, 202, 50, 3, 4, 203, 30, 100, 5, 204, 20, 0, 300, 205, 15, 500, 500];
-
-fn read_said(answer: Result<Progress, Refusal>) -> Said {
-    match answer {
-        Ok(Progress::Read) => Said::Read,
-        Ok(Progress::Settled) => Said::Settled,
-        Err(refusal) => Said::Refused(refusal.number),
-    }
-}
-
-fn take_said(answer: Result<Taken, Refusal>) -> Said {
-    match answer {
-        Ok(Taken::Given(pair)) => Said::Given(pair),
-        Ok(Taken::NotYet) => Said::NotYet,
-        Ok(Taken::Finished) => Said::Finished,
-        Err(refusal) => Said::Refused(refusal.number),
-    }
-}
-
-/// A read or a take, by the library and by the model: the same answer and record, a refusal changing neither.
-fn call(is_read: bool, f: &[i32], t: &[i32], session: &mut Session, record: &mut Record) -> Said {
-    let before = session.clone();
-    let (said, modelled) = if is_read {
-        (read_said(session.read(f, t)), model::read(f, t, record))
-    } else {
-        (take_said(session.take(f, t)), model::take(f, t, record))
-    };
-    assert_eq!(said, modelled);
-    assert_eq!(session.record().as_slice(), record.flat());
-    if !matches!(said, Said::Read | Said::Given(_)) {
-        assert_eq!(*session, before);
-    }
-    said
-}
-
-fn show(f: &[i32], t: &[i32], session: &Session, record: &Record) {
-    let wanted = model::show(f, t, record);
-    match session.show(f, t) {
-        None => assert_eq!(wanted, [0; 3]),
-        Some((which, first, rows)) => {
-            let wide = record.card as usize + 2;
-            assert_eq!([which as u32, first, (rows.len() / wide) as u32], wanted);
-            let whole = if which == Table::Field { f } else { t };
-            assert_eq!(rows.as_ptr(), whole[wide * (first as usize - 1)..].as_ptr());
-        }
-    }
-}
 
 #[derive(Default, Debug)]
 struct Totals {
@@ -78,6 +34,13 @@ struct Totals {
     blocks_near: u32,
     blocks_far: u32,
     near_and_far: u32,
+    with_tolerances: u32,
+    judged_by_places: u32,
+    by_tolerance_alone: u32,
+    fewer_surely: u32,
+    settled_at_opening: u32,
+    near_by_tolerance: u32,
+    refused_as_beyond_all: u32,
 }
 
 impl Totals {
@@ -86,6 +49,22 @@ impl Totals {
             Said::Refused(number) => *self.refusals.entry(number).or_default() += 1,
             _ => self.unharmed += 1,
         }
+    }
+
+    /// Every kind of session, answer and refusal was often enough among them.
+    fn suffice(&self) {
+        for number in [4, 5, 6, 7] {
+            assert!(self.refusals[&number] > 5_000, "refusal {number}");
+        }
+        assert!(self.ties > 100_000 && self.unharmed > 10_000 && self.at_limit > 2_000);
+        assert!(self.ties_by_weights > 1_000 && self.largest_sums > 1_000);
+        assert!(self.withdrawn_read > 20_000 && self.ended_by_withdrawn > 10_000);
+        assert!((CASES * 2 / 5..CASES * 3 / 5).contains(&self.on_the_new_card));
+        assert!(self.decided_by_lightness > 5_000);
+        assert!(self.blocks_near > 200_000 && self.blocks_far > 200_000 && self.near_and_far > 8_000);
+        assert!(self.with_tolerances > 40_000 && self.judged_by_places > 15_000 && self.near_by_tolerance > 20_000);
+        assert!(self.by_tolerance_alone > 3_000 && self.fewer_surely > 3_000);
+        assert!(self.settled_at_opening > 2_000 && self.refused_as_beyond_all > 500);
     }
 
     /// Pairs given, those of equal sum, those whose scores alone would not be equal, those of the largest sum.
@@ -111,30 +90,53 @@ impl Totals {
 
     /// Sessions on the new card, and those with a pair of rows that L alone keeps apart.
     fn count_card(&mut self, tables: &Tables) {
-        let radius = tables.asked.query.radius;
-        let apart = |x: &[i32], y: &[i32]| !model::near(radius, x, y) && model::near(radius, &x[..4], &y[..4]);
+        let reach = Reach::from(tables.asked);
+        let apart = |x: &[i32], y: &[i32]| !reach.near(x, y) && reach.near(&x[..4], &y[..4]);
         let (rows, others) = (tables.field.chunks(tables.wide()), tables.trim.chunks(tables.wide()));
         let decided = rows.clone().any(|x| others.clone().any(|y| apart(x, y)));
         self.on_the_new_card += u64::from(tables.asked.field_card == Card::New);
         self.decided_by_lightness += u32::from(decided);
     }
 
-    /// Block pairs read that are near enough to be joined and those that are too far apart; sessions with both.
+    /// Block pairs read that are near enough to be joined and those that are too far apart; sessions with both. Those
+    /// that only the tolerances bring near enough.
     fn count_blocks(&mut self, tables: &Tables, (p, q): (u32, u32)) {
-        let (wide, query) = (tables.wide(), tables.asked.query);
-        let rows = wide * query.block as usize;
+        let (wide, reach) = (tables.wide(), Reach::from(tables.asked));
+        let rows = wide * tables.asked.query.block as usize;
         let (fields, trims) = (&tables.field[..wide * p as usize], &tables.trim[..wide * q as usize]);
         let (mut near, mut far) = (0, 0);
         for x in fields.chunks(rows) {
             for y in trims.chunks(rows) {
-                let apart = model::far_apart(query.radius, x, y, wide);
+                let apart = reach.far_apart(x, y, wide);
                 far += u32::from(apart);
                 near += u32::from(!apart);
+                let known = Reach { tolerance: 0, ..reach };
+                self.near_by_tolerance += u32::from(!apart && known.far_apart(x, y, wide));
             }
         }
         self.blocks_near += near;
         self.blocks_far += far;
         self.near_and_far += u32::from(near > 0 && far > 0);
+    }
+
+    /// Sessions with tolerances, over tables with rows. Those whose shades were judged by all their places, those that
+    /// give a pair which only tolerances let qualify, those that leave one out which would qualify without them, and
+    /// those that are settled at opening.
+    fn count_tolerances(&mut self, tables: &Tables, given: &[Pair]) {
+        let (reach, (m, n)) = (Reach::from(tables.asked), tables.counts());
+        if reach.tolerance == 0 || m == 0 || n == 0 {
+            return;
+        }
+        let known = Reach { tolerance: 0, ..reach };
+        let gained = |(x, y): (&[i32], &[i32])| !known.near(x, y);
+        let lost = |x: &[i32], y: &[i32]| known.near(x, y) && !reach.near(x, y);
+        let (rows, others) = (tables.field.chunks(tables.wide()), tables.trim.chunks(tables.wide()));
+        let fewer = rows.clone().any(|x| others.clone().any(|y| lost(x, y)));
+        self.with_tolerances += 1;
+        self.judged_by_places += u32::from(tables.judged_by_places());
+        self.by_tolerance_alone += u32::from(given.iter().any(|pair| gained(tables.rows_of(pair))));
+        self.fewer_surely += u32::from(fewer && !tables.meets_nothing());
+        self.settled_at_opening += u32::from(tables.meets_nothing());
     }
 }
 
@@ -154,13 +156,15 @@ fn damaged_record(dice: &mut Dice, f: &[i32], t: &[i32], session: &Session, tota
     let mut numbers = *session.record();
     for _ in 0..dice.pick(&[1, 1, 2]) {
         let place = match dice.below(10) {
-            0 => dice.pick(&[204, 205, 206]),
+            0 => 204 + dice.below(6),
             1..=3 => dice.below(RECORD_SIZE as u32),
             _ => dice.below(24),
         } as usize;
         numbers[place] = other_number(dice, numbers[place]);
     }
     let mut record = Record::of(&numbers);
+    let possible = Record { meaning: 0, ..record.clone() };
+    totals.refused_as_beyond_all += u32::from(!model::record_fits(&record) && model::record_fits(&possible));
     let mut session = Session::from_record(numbers);
     show(f, t, &session, &record);
     let said = call(dice.one_in(2), f, t, &mut session, &mut record);
@@ -247,48 +251,48 @@ fn play(dice: &mut Dice, tables: &Tables, order: Order, totals: &mut Totals) -> 
     }
 }
 
+/// A query and two tables from a seed.
+fn some_tables(dice: &mut Dice) -> (Asked, Vec<i32>, Vec<i32>) {
+    let longest = if dice.one_in(100) { 300 } else { dice.pick(&[2, 8, 16, 40]) };
+    let card = card(dice);
+    let spread = Spread::of(dice, card);
+    let other = if dice.one_in(2) { spread } else { Spread::of(dice, card) };
+    let (m, n) = (dice.below(longest), dice.below(longest));
+    let mut field = table(dice, m, spread);
+    let mut trim = table(dice, n, other);
+    let asked = asked(dice, card);
+    if dice.one_in(4) {
+        tie_by_weights(asked, &mut field, &mut trim);
+    }
+    withdraw(dice, card, &mut field);
+    withdraw(dice, card, &mut trim);
+    (asked, field, trim)
+}
+
 #[test]
 fn sessions_beside_the_double_loop() {
     let mut totals = Totals::default();
     for seed in 0..CASES {
         let mut dice = Dice::new(seed + 1);
-        let longest = if dice.one_in(100) { 300 } else { dice.pick(&[2, 6, 12, 40]) };
-        let card = card(&mut dice);
-        let spread = Spread::of(&mut dice, card);
-        let other = if dice.one_in(2) { spread } else { Spread::of(&mut dice, card) };
-        let (m, n) = (dice.below(longest), dice.below(longest));
-        let mut field = table(&mut dice, m, spread);
-        let mut trim = table(&mut dice, n, other);
-        let asked = asked(&mut dice, card);
-        if dice.one_in(4) {
-            tie_by_weights(asked, &mut field, &mut trim);
-        }
-        withdraw(&mut dice, card, &mut field);
-        withdraw(&mut dice, card, &mut trim);
+        let (asked, field, trim) = some_tables(&mut dice);
         let tables = Tables { asked, field: &field, trim: &trim };
         let orders = [Order::TakeAfterEachRead, Order::ReadsThenTakes, Order::TakesWhilePossible, Order::Random];
         let result = play(&mut dice, &tables, orders[seed as usize % 4], &mut totals);
         let sure = tables.least_sure();
         let limit = tables.limit(sure);
         assert_eq!(tables.judge(&result, limit), None, "seed {seed}");
+        assert!(!tables.meets_nothing() || result.depth == (0, 0), "seed {seed}");
         totals.count_pairs(&tables, &result.given);
         totals.count_withdrawn(&tables, &result);
         totals.count_card(&tables);
         totals.count_blocks(&tables, result.depth);
+        totals.count_tolerances(&tables, &result.given);
         let deepest = result.depth.0.max(result.depth.1);
         totals.at_limit += u32::from(deepest == limit && tables.asked.query.block > 1);
         totals.deeper_than_sure += u32::from(deepest > sure as u32);
     }
     println!("{CASES} sessions: {totals:?}");
-    for number in [4, 5, 6, 7] {
-        assert!(totals.refusals[&number] > 5_000, "refusal {number}");
-    }
-    assert!(totals.ties > 100_000 && totals.unharmed > 10_000 && totals.at_limit > 2_000);
-    assert!(totals.ties_by_weights > 1_000 && totals.largest_sums > 1_000);
-    assert!(totals.withdrawn_read > 20_000 && totals.ended_by_withdrawn > 10_000);
-    assert!((CASES * 2 / 5..CASES * 3 / 5).contains(&totals.on_the_new_card));
-    assert!(totals.decided_by_lightness > 5_000);
-    assert!(totals.blocks_near > 200_000 && totals.blocks_far > 200_000 && totals.near_and_far > 8_000);
+    totals.suffice();
 }
 
 #[test]
@@ -324,7 +328,7 @@ fn openings() {
     assert_eq!(Session::open(query, &vec![0; 4 * 65_536], &field), four);
     assert_eq!(Session::open(query.on(Card::New), &vec![0; 5 * 65_536], &field), four);
     assert!(Session::open(query.on(Card::New), &vec![0; 5 * 65_535], &field).is_ok());
-    assert!([1, 2, 3, 12, 4, 15].iter().all(|number| refusals[number] > 20), "{refusals:?}");
+    assert!([1, 2, 3, 12, 16, 4, 15].iter().all(|number| refusals[number] > 20), "{refusals:?}");
     let mut zeros = Session::from_record([0; RECORD_SIZE]);
     let five = Refusal { number: 5, row: 0 };
     assert_eq!(zeros.read(&field, &field), Err(five));
@@ -336,11 +340,13 @@ fn some_asked(dice: &mut Dice) -> Asked {
     let card = card(dice);
     let mut numbers = Opening::from(asked(dice, card)).numbers();
     for _ in 0..dice.below(3) {
-        let place = dice.below(5) as usize;
-        numbers[place] = dice.pick(&[0, 1, 9, 10, 64, 65, 1_024, 1_025, 40_000, 40_001, u32::MAX]);
+        let place = dice.pick(&[0, 1, 2, 3, 4, 7, 8]);
+        numbers[place] = dice.pick(&[0, 1, 9, 10, 64, 65, 500, 501, 1_024, 1_025, 40_000, 40_001, u32::MAX]);
     }
-    let [k, block, radius, field, trim, ..] = numbers;
-    Query { k, block, radius }.weights(FieldWeight(field), TrimWeight(trim)).on(card)
+    let [k, block, radius, v, w, _, _, t, u, surely] = numbers;
+    let asked = Query { k, block, radius }.weights(FieldWeight(v), TrimWeight(w)).on(card);
+    let meaning = if surely == 1 { Meaning::Surely } else { Meaning::Possibly };
+    asked.tolerating(FieldTolerance(t), TrimTolerance(u), meaning)
 }
 
 /// How many numbers are lent: often whole rows on one card or both.
@@ -415,50 +421,100 @@ fn sure_by_extensions(tables: &Tables, p: usize, q: usize, top: i32, shades: &[i
     })
 }
 
-#[test]
-fn tiny_tables_against_every_sure_reading() {
-    let (mut readings, mut sure_ones, mut exact) = (0, 0, 0);
-    for seed in 0..TINY {
-        let mut dice = Dice::new(seed + 1_000_001);
-        let top = dice.between(1, 2);
-        let (shades, card) = ([0, 7], card(&mut dice));
-        let light = (card == Card::New).then_some(Light { ground: 0, alone: true });
-        let spread = Spread { top, step: 1, plateau: dice.one_in(3), shades: 0, extreme: false, drift: 0, light };
-        let make = |dice: &mut Dice| {
-            let rows = dice.below(5);
-            let mut t = table(dice, rows, spread);
-            for row in t.chunks_mut(model::wide(card)) {
-                row[shade_at(card)] = dice.pick(&shades);
-            }
-            withdraw(dice, card, &mut t);
-            t
-        };
-        let (field, trim) = (make(&mut dice), make(&mut dice));
-        let query = Query { k: dice.between(1, 3) as u32, block: dice.between(1, 3) as u32, radius: 5 };
-        let [v, w] = [(); 2].map(|()| dice.pick(&[1, 1, 1, 2, 3, 9]));
-        let asked = query.weights(FieldWeight(v), TrimWeight(w)).on(card);
-        let tables = Tables { asked, field: &field, trim: &trim };
-        let (m, n) = tables.counts();
-        let mut totals = Totals::default();
-        let result = play(&mut dice, &tables, Order::Random, &mut totals);
-        let mut least = usize::MAX;
+/// Whether rows of each of two shades are near to rows of each, by all their places.
+fn near_shades(asked: Asked, shades: [i32; 2]) -> [[bool; 2]; 2] {
+    let row = |shade: i32| {
+        let mut row = vec![0; model::wide(asked.field_card)];
+        row[shade_at(asked.field_card)] = shade;
+        row
+    };
+    shades.map(|x| shades.map(|y| near_by_places(&asked, &row(x), &row(y))))
+}
+
+/// A tiny table from a seed.
+fn tiny_table(dice: &mut Dice, card: Card, top: i32, plateau: bool, shades: [i32; 2]) -> Vec<i32> {
+    let light = (card == Card::New).then_some(Light { ground: 0, alone: true });
+    let spread = Spread { top, step: 1, plateau, shades: 0, extreme: false, drift: 0, light };
+    let rows = dice.below(5);
+    let mut t = table(dice, rows, spread);
+    for row in t.chunks_mut(model::wide(card)) {
+        row[shade_at(card)] = dice.pick(&shades);
+    }
+    withdraw(dice, card, &mut t);
+    t
+}
+
+/// A query of tiny tables: weights and small tolerances.
+fn tiny_asked(dice: &mut Dice, card: Card) -> Asked {
+    let query = Query { k: dice.between(1, 3) as u32, block: dice.between(1, 3) as u32, radius: 5 };
+    let [v, w] = [(); 2].map(|()| dice.pick(&[1, 1, 1, 2, 3, 9]));
+    let [t, u] = if dice.one_in(3) { [0, 0] } else { [(); 2].map(|()| dice.below(3)) };
+    let meaning = dice.pick(&[Meaning::Possibly, Meaning::Surely]);
+    let asked = query.weights(FieldWeight(v), TrimWeight(w)).on(card);
+    asked.tolerating(FieldTolerance(t), TrimTolerance(u), meaning)
+}
+
+#[derive(Default, Debug)]
+struct TinyTotals {
+    readings: u32,
+    sure: u32,
+    exact: u32,
+    gained: u32,
+    lost: u32,
+    beyond_all: u32,
+}
+
+impl TinyTotals {
+    /// Every reading of two tables, judged by extensions: the session's depths by each that is sure.
+    fn readings(&mut self, tables: &Tables, result: &judge::Session, (top, shades): (i32, [i32; 2]), seed: u64) {
+        let ((m, n), mut least) = (tables.counts(), usize::MAX);
         for (p, q) in (0..=m).flat_map(|p| (0..=n).map(move |q| (p, q))) {
-            let sure = sure_by_extensions(&tables, p, q, top, &shades);
+            let sure = sure_by_extensions(tables, p, q, top, &shades);
             assert_eq!(sure, tables.sure(p, q), "seed {seed}, reading ({p}, {q})");
-            readings += 1;
+            self.readings += 1;
             if sure {
-                sure_ones += 1;
+                self.sure += 1;
                 least = least.min(p.max(q));
                 let limit = tables.limit(p.max(q));
                 assert!(result.depth.0 <= limit && result.depth.1 <= limit, "seed {seed}, reading ({p}, {q})");
             }
         }
         assert_eq!(least, tables.least_sure());
-        assert_eq!(tables.judge(&result, tables.limit(least)), None, "seed {seed}");
-        exact += u32::from(result.depth.0.max(result.depth.1) == tables.limit(least));
+        assert_eq!(tables.judge(result, tables.limit(least)), None, "seed {seed}");
+        assert!(!tables.meets_nothing() || result.depth == (0, 0), "seed {seed}");
+        self.exact += u32::from(result.depth.0.max(result.depth.1) == tables.limit(least));
     }
-    println!("{TINY} tiny sessions, {readings} readings, {sure_ones} of them sure, {exact} limits reached exactly");
-    assert!(sure_ones > 20_000 && readings - sure_ones > 20_000 && exact > 2_000);
+
+    /// Whether tolerances make other shades near, fewer, or none: by all places, which the extensions' rows have too.
+    fn shades(&mut self, asked: Asked, shades: [i32; 2], seed: u64) {
+        let near = near_shades(asked, shades);
+        let rows = shades.map(|shade| next_rows(asked.field_card, Some(0), 0, &[shade]).concat());
+        let by_ends = [0, 1].map(|i| [0, 1].map(|j| near_by_ends(&asked, &rows[i], &rows[j])));
+        assert_eq!(near, by_ends, "seed {seed}");
+        let known = near_shades(asked.possibly(FieldTolerance(0), TrimTolerance(0)), shades);
+        let beyond_all = near == [[false; 2]; 2];
+        self.gained += u32::from(!known[0][1] && near[0][1]);
+        self.lost += u32::from(known[0][1] && !near[0][1] && !beyond_all);
+        self.beyond_all += u32::from(beyond_all);
+    }
+}
+
+#[test]
+fn tiny_tables_against_every_sure_reading() {
+    let mut totals = TinyTotals::default();
+    for seed in 0..TINY {
+        let mut dice = Dice::new(seed + 1_000_001);
+        let (top, card) = (dice.between(1, 2), card(&mut dice));
+        let (shades, plateau) = (dice.pick(&[[0, 7], [0, 3], [0, 2]]), dice.one_in(3));
+        let [field, trim] = [(); 2].map(|()| tiny_table(&mut dice, card, top, plateau, shades));
+        let tables = Tables { asked: tiny_asked(&mut dice, card), field: &field, trim: &trim };
+        let result = play(&mut dice, &tables, Order::Random, &mut Totals::default());
+        totals.readings(&tables, &result, (top, shades), seed);
+        totals.shades(tables.asked, shades, seed);
+    }
+    println!("{TINY} tiny sessions: {totals:?}");
+    assert!(totals.sure > 20_000 && totals.readings - totals.sure > 20_000 && totals.exact > 2_000);
+    assert!(totals.gained > 400 && totals.lost > 400 && totals.beyond_all > 400);
 }
 
 /// The judge first gets one wrong session of each kind.
@@ -507,6 +563,32 @@ fn the_judge_reports_wrong_sessions() {
     assert_eq!(tables.judge(&session(&[pair(16, 1, 1)], true, (2, 1)), 3), Some(Fault::FarApart));
 }
 
+/// The same with tolerances: rows that lie 5 apart, and 6.
+#[test]
+fn the_judge_minds_tolerances() {
+    let (field, trim) = ([1, 9, 0, 0, 2, 8, 0, 1], [1, 7, 0, 6]);
+    let query = Query { k: 2, block: 1, radius: 5 };
+    let pairs = [Pair { sum: 16, field: 1, trim: 1 }, Pair { sum: 15, field: 2, trim: 1 }];
+    let session = |given: &[Pair], depth| judge::Session { given: given.to_vec(), finished: true, depth };
+    let tables = |asked: Asked| Tables { asked, field: &field, trim: &trim };
+    let fault = |asked: Asked, session: judge::Session, limit| tables(asked).judge(&session, limit);
+    let (none, one) = (FieldTolerance(0), TrimTolerance(1));
+    let known = query.possibly(none, TrimTolerance(0));
+    assert_eq!(fault(known, session(&pairs[1..], (2, 1)), 2), None);
+    assert_eq!(fault(known, session(&pairs, (2, 1)), 2), Some(Fault::FarApart));
+    assert_eq!(fault(query.possibly(none, one), session(&pairs, (2, 1)), 2), None);
+    assert_eq!(fault(query.possibly(none, one), session(&pairs[1..], (2, 1)), 2), Some(Fault::BetterLeft));
+    assert_eq!(fault(query.possibly(none, one), session(&pairs[..1], (2, 1)), 2), Some(Fault::FinishedEarly));
+    assert_eq!(fault(query.surely(none, one), session(&[], (2, 1)), 2), None);
+    assert_eq!(fault(query.surely(none, one), session(&pairs[1..], (2, 1)), 2), Some(Fault::FarApart));
+    // equal places may lie 4 and 4 apart: nothing is read
+    let beyond = query.surely(FieldTolerance(3), one);
+    let sure = |asked: Asked| tables(asked).least_sure();
+    assert_eq!((sure(beyond), sure(query.surely(none, one)), sure(known)), (0, 2, 2));
+    assert_eq!(fault(beyond, session(&[], (0, 0)), 0), None);
+    assert_eq!(fault(beyond, session(&[], (1, 0)), 0), Some(Fault::TooDeep));
+}
+
 #[test]
 fn the_worked_query() {
     let (field, trim) = (FIELD, TRIM);
@@ -531,6 +613,7 @@ fn a_live_record_survives_a_refused_opening() {
     assert_eq!(s.reopen(Query { block: 0, ..query }, &field, &trim), refused(2));
     assert_eq!(s.reopen(Query { radius: 40_001, ..query }, &field, &trim), refused(3));
     assert_eq!(s.reopen(weights(10, 1), &field, &trim), refused(12));
+    assert_eq!(s.reopen(query.surely(FieldTolerance(0), TrimTolerance(501)), &field, &trim), refused(16));
     assert_eq!(s.reopen(query, &field[..19], &trim), refused(4));
     assert_eq!(s, before);
     assert_eq!(s.take(&field, &trim), Ok(Taken::Given(Pair { sum: 140, field: 1, trim: 2 })));
@@ -593,7 +676,7 @@ fn records_with_weights_outside_their_range() {
     for _ in 0..5 {
         assert_eq!(s.read(&FIELD, &TRIM), Ok(Progress::Read));
     }
-    assert_eq!(s.record()[204..], [2, 3, 2]);
+    assert_eq!(s.record()[204..], [2, 3, 2, 0, 0, 0]);
     for place in [204, 205] {
         for (weight, wanted) in [(0, Some(5)), (1, None), (9, None), (10, Some(5)), (u32::MAX, Some(5))] {
             let mut record = *s.record();
@@ -621,8 +704,8 @@ fn held_sums_up_to_the_largest() {
     }
 }
 
-/// The first 204 numbers of a record are those from before there were weights: with 1, 1 and the old card behind them
-/// it goes on. The first 206 are those from before there were cards.
+/// The first 204 numbers of a record are those from before there were weights: with 1, 1, the old card and three zeros
+/// behind them it goes on. The first 206 are those from before there were cards.
 #[test]
 fn a_record_without_weights_goes_on() {
     let mut s = Session::open(QUERY, &FIELD, &TRIM).unwrap();
@@ -638,7 +721,8 @@ fn a_record_without_weights_goes_on() {
     assert_eq!(Session::from_record(stored), s);
 }
 
-/// A weight that is not lent is 1, a kind that is not lent 1 or 2; numbers behind the kinds are not looked at.
+/// A weight that is not lent is 1, a kind that is not lent 1 or 2, a tolerance and the meaning 0; numbers behind the
+/// meaning are not looked at.
 #[test]
 fn openings_by_fewer_numbers() {
     let opened = |numbers: &[u32]| lent::answers(numbers, &FIELD, &TRIM).opened;
@@ -646,8 +730,10 @@ fn openings_by_fewer_numbers() {
     assert_eq!(opened(&[2, 1, 5]), opened(&[2, 1, 5, 1, 1, 1, 2]));
     assert_eq!(opened(&[2, 1, 5, 7]), opened(&[2, 1, 5, 7, 1]));
     assert_eq!(opened(&[2, 1, 5, 7, 3, 1]), opened(&[2, 1, 5, 7, 3]));
-    assert_eq!(opened(&[2, 1, 5, 7, 3, 1, 2, 0, 9]), opened(&[2, 1, 5, 7, 3]));
+    assert_eq!(opened(&[2, 1, 5, 7, 3, 1, 2, 0, 0, 0, 9]), opened(&[2, 1, 5, 7, 3]));
     assert_eq!(opened(&[2, 1, 5, 7, 3, 3, 4, 0]), opened(&[2, 1, 5, 7, 3, 3, 4]));
+    assert_eq!(opened(&[2, 1, 5, 7, 3, 3, 4, 6, 0, 0]), opened(&[2, 1, 5, 7, 3, 3, 4, 6]));
+    assert_eq!(opened(&[2, 1, 5, 7, 3, 3, 4, 6, 8, 0]), opened(&[2, 1, 5, 7, 3, 3, 4, 6, 8]));
     assert_eq!(opened(&[2, 1, 5, 7, 3, 3]), (-15, [7; RECORD_SIZE]));
     assert_eq!(opened(&[2, 1, 5, 7, 3]).1.as_slice(), Session::open(weights(7, 3), &FIELD, &TRIM).unwrap().record());
     assert_eq!(opened(&[2, 1]), (-11, [7; RECORD_SIZE]));
@@ -711,6 +797,22 @@ fn sure_readings_by_hand() {
     assert!(!sure(&ends, &live, 1, 2) && sure(&ends, &live, 2, 2) && !sure(&ends, &[7, 6, 6], 2, 1));
 }
 
+/// Where nothing can qualify every reading is sure, also of no rows; where something can, those of no rows are not.
+#[test]
+fn sure_readings_where_nothing_qualifies() {
+    let (field, trim) = (scored(&[9, 8]), scored(&[7, 6]));
+    let readings = |asked: Asked| {
+        let tables = Tables { asked, field: &field, trim: &trim };
+        (0..9).map(|i| tables.sure(i / 3, i % 3)).collect::<Vec<_>>()
+    };
+    let query = Query { k: 1, block: 1, radius: 8 };
+    let (five, six) = ((FieldTolerance(2), TrimTolerance(3)), (FieldTolerance(3), TrimTolerance(3)));
+    assert_eq!(readings(query.surely(six.0, six.1)), [true; 9]);
+    for asked in [query.surely(five.0, five.1), query.possibly(six.0, six.1), query.into()] {
+        assert_eq!(readings(asked), [false, false, false, false, true, true, false, true, true]);
+    }
+}
+
 /// The rows behind a withdrawn one are checked with their block, those of later blocks are not.
 #[test]
 fn rows_behind_a_withdrawn_one() {
@@ -735,14 +837,6 @@ fn forged(query: Query, f: &[i32], t: &[i32], depth: [u32; 2], held: &[Pair]) ->
     record.held = held.len() as u32;
     record.places[..held.len()].copy_from_slice(held);
     record
-}
-
-/// What calls of a record answer, reads being true, and the pairs held after them; the model answers the same.
-fn answers(record: &Record, f: &[i32], t: &[i32], calls: &[bool]) -> (Vec<Said>, u32) {
-    let mut record = record.clone();
-    let mut session = Session::from_record(record.flat().try_into().unwrap());
-    let said = calls.iter().map(|&is_read| call(is_read, f, t, &mut session, &mut record)).collect();
-    (said, record.held)
 }
 
 /// Held pairs are believed: over a table that counts as empty a secured one comes out before the session is finished. A
@@ -839,14 +933,7 @@ fn forged_records_over_withdrawn_rows() {
 
 /// A session of a query over two tables, to its end: its pairs.
 fn paired(asked: Asked, f: &[i32], t: &[i32]) -> Vec<Pair> {
-    let (_, mut record) = model::open(asked, f, t);
-    let mut s = Session::open(asked, f, t).unwrap();
-    while call(true, f, t, &mut s, &mut record) == Said::Read {}
-    let mut pairs = Vec::new();
-    while let Said::Given(pair) = call(false, f, t, &mut s, &mut record) {
-        pairs.push(pair);
-    }
-    pairs
+    run(asked, f, t).0
 }
 
 /// Rows at one a and b: L from end to end of its range, and a distance that it makes alone.
@@ -949,14 +1036,7 @@ fn kinds_out_of_their_place() {
     for (field, trim) in kinds.iter().flat_map(|&field| kinds.map(|trim| (field, trim))) {
         for (weight, m, n) in [(1, 20, 20), (1, 19, 20), (1, 20, 19), (1, 4, 5), (1, 0, 0), (10, 20, 20)] {
             let query = [1, 1, 0, weight, 1, field, trim];
-            let (f, t) = (&numbers[..m], &numbers[..n]);
-            let (answer, left) = lent::answers(&query, f, t).opened;
-            let (said, record) = model::open(Opening::of(&query), f, t);
-            let wanted = match said {
-                Said::Refused(number) => (-(number as i32), vec![7; RECORD_SIZE]),
-                _ => (0, record.flat()),
-            };
-            assert_eq!((answer, left.to_vec()), wanted, "{query:?}, {m}, {n}");
+            let answer = beside::opened(&query, &numbers[..m], &numbers[..n]);
             tens += u32::from(answer == -10);
             opened += u32::from(answer == 0);
         }

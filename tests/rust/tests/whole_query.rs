@@ -1,6 +1,7 @@
 //! The whole query beside the model, on both cards: its list, depths and joined count, its refusals, and the listing's
 //! lines.
-use furzeladle::{list, listing, root, Asked, Card, FieldWeight, List, Listed, Query, Refusal, TrimWeight};
+use furzeladle::{list, listing, root, Asked, Card, FieldTolerance, FieldWeight, List, Listed, Query, Refusal};
+use furzeladle::{TrimTolerance, TrimWeight};
 use furzeladle_tests::cases::{asked, card, query, scored_on, table, withdraw, Dice, Spread, WITHDRAWN};
 use furzeladle_tests::lent::answers;
 use furzeladle_tests::model::{self, Opening, Said};
@@ -83,16 +84,32 @@ fn damage(dice: &mut Dice, asked: &mut Asked, f: &mut Vec<i32>) {
             let row = 1 + dice.below((f.len() / wide) as u32 - 1) as usize;
             f[wide * row + 1] = f[wide * (row - 1) + 1] + 1;
         }
+        10 => asked.field_tolerance = FieldTolerance(dice.pick(&[501, u32::MAX])),
+        11 => asked.trim_tolerance = TrimTolerance(dice.pick(&[501, u32::MAX])),
         8 => asked.trim_card = card(dice),
         9 => asked.field_card = card(dice),
         _ => {}
     }
 }
 
+/// A list's bytes and the roots behind its pairs say the same.
+fn printed(asked: Asked, list: &List, bytes: &[u8], f: &[i32], t: &[i32], seed: u64) {
+    let text = std::str::from_utf8(bytes).unwrap();
+    let lines: Vec<&str> = text.lines().collect();
+    assert_eq!(lines.len(), list.pairs.len() + 2, "seed {seed}");
+    let lent = answers(&Opening::from(asked).numbers(), f, t).listed.1;
+    for (i, pair) in list.pairs.iter().enumerate() {
+        assert_eq!(lines[i + 1], line(i + 1, pair), "seed {seed}");
+        let at = 387 + 2 * i;
+        let distance = pair.distance();
+        assert_eq!(lent[at..at + 2], [distance.root, distance.rest], "seed {seed}");
+    }
+}
+
 #[test]
 fn whole_queries_beside_the_model() {
-    let mut refused = [0; 16];
-    let mut pairs = 0;
+    let mut refused = [0; 17];
+    let (mut pairs, mut by_tolerance_alone) = (0, 0);
     for seed in 0..CASES {
         let mut dice = Dice::new(seed + 2_000_001);
         let card = card(&mut dice);
@@ -105,18 +122,9 @@ fn whole_queries_beside_the_model() {
         match found {
             Ok(list) => {
                 pairs += list.pairs.len();
-                let text = String::from_utf8(bytes.unwrap()).unwrap();
-                let lines: Vec<&str> = text.lines().collect();
-                assert_eq!(lines.len(), list.pairs.len() + 2, "seed {seed}");
-                for (i, pair) in list.pairs.iter().enumerate() {
-                    assert_eq!(lines[i + 1], line(i + 1, pair), "seed {seed}");
-                }
-                let lent = answers(&Opening::from(asked).numbers(), &f, &t).listed.1;
-                for (i, pair) in list.pairs.iter().enumerate() {
-                    let at = 387 + 2 * i;
-                    let distance = pair.distance();
-                    assert_eq!(lent[at..at + 2], [distance.root, distance.rest], "seed {seed}");
-                }
+                let beyond = u64::from(asked.query.radius).pow(2);
+                by_tolerance_alone += list.pairs.iter().filter(|pair| pair.squared_distance > beyond).count();
+                printed(asked, &list, &bytes.unwrap(), &f, &t, seed);
             }
             Err(number) => {
                 refused[number as usize] += 1;
@@ -124,8 +132,9 @@ fn whole_queries_beside_the_model() {
             }
         }
     }
-    println!("{CASES} queries, {pairs} pairs, refusals by number {refused:?}");
-    assert!(pairs > 20_000 && [1, 2, 3, 4, 6, 7, 12, 15].iter().all(|n| refused[*n] > 100));
+    println!("{CASES} queries, {pairs} pairs, {by_tolerance_alone} beyond the radius, refusals by number {refused:?}");
+    assert!(pairs > 20_000 && [1, 2, 3, 4, 6, 7, 12, 15, 16].iter().all(|n| refused[*n] > 100));
+    assert!(by_tolerance_alone > 1_000);
 }
 
 #[test]
@@ -144,33 +153,40 @@ fn withdrawn_rows_by_hand() {
     }
 }
 
-/// Who lends k, block and radius alone gets what weights 1 and 1 and kinds 1 and 2 get; who lends one weight, what it,
-/// 1 and those kinds get.
+/// Who lends k, block and radius alone gets what weights 1 and 1, kinds 1 and 2 and no tolerances get; who lends more,
+/// what it and the rest of these get.
 #[test]
 fn numbers_that_are_not_lent() {
     for seed in 0..2_000 {
         let mut dice = Dice::new(seed + 3_000_001);
         let (f, t) = two_tables(&mut dice, Card::Old, 40);
         let Query { k, block, radius } = query(&mut dice);
-        let w = dice.below(11);
-        let three = answers(&[k, block, radius], &f, &t);
-        assert_eq!(three, answers(&[k, block, radius, 1, 1], &f, &t), "seed {seed}");
-        assert_eq!(three, answers(&[k, block, radius, 1, 1, 1], &f, &t), "seed {seed}");
-        assert_eq!(three, answers(&[k, block, radius, 1, 1, 1, 2], &f, &t), "seed {seed}");
-        let four = answers(&[k, block, radius, w], &f, &t);
-        assert_eq!(four, answers(&[k, block, radius, w, 1], &f, &t), "seed {seed}");
-        assert_eq!(four, answers(&[k, block, radius, w, 1, 1, 2], &f, &t), "seed {seed}");
-        assert_eq!(four.listed.0 == -12, w == 0 || w == 10, "seed {seed}");
+        let (w, u, v) = (dice.below(11), dice.pick(&[0, 1, 3, 500, 501]), dice.pick(&[0, 2, 500, 501]));
+        let plain = [k, block, radius, 1, 1, 1, 2, 0, 0, 0];
+        let weighted = [k, block, radius, w, 1, 1, 2, 0, 0, 0];
+        let faded = [k, block, radius, 1, 1, 1, 2, u, 0, 0];
+        let possibly = [k, block, radius, 1, 1, 1, 2, u, v, 0];
+        for (all, least) in [(plain, 3), (weighted, 4), (faded, 8), (possibly, 9)] {
+            let whole = answers(&all, &f, &t);
+            for count in least..10 {
+                assert_eq!(answers(&all[..count], &f, &t), whole, "seed {seed}, {count} numbers");
+            }
+        }
+        assert_eq!(answers(&weighted, &f, &t).listed.0 == -12, w == 0 || w == 10, "seed {seed}");
+        assert_eq!(answers(&faded, &f, &t).listed.0 == -16, u == 501, "seed {seed}");
+        assert_eq!(answers(&possibly, &f, &t).listed.0 == -16, u == 501 || v == 501, "seed {seed}");
     }
 }
 
-/// Rows of one L each are paired as they are without it: same list, depths and joined count.
+/// Rows of one L each are paired as they are without it, unless they may surely lie apart in it: same list, depths and
+/// joined count.
 #[test]
 fn one_lightness_for_all() {
     for seed in 0..2_000 {
         let mut dice = Dice::new(seed + 5_000_001);
         let (f, t) = two_tables(&mut dice, Card::Old, 40);
         let asked = asked(&mut dice, Card::Old);
+        let asked = asked.possibly(asked.field_tolerance, asked.trim_tolerance);
         let lightness = dice.pick(&[0, 1, 5_000, 10_000]);
         let with = |t: &[i32]| t.chunks(4).flat_map(|row| [row, &[lightness]].concat()).collect::<Vec<_>>();
         assert_eq!(list(asked.on(Card::New), &with(&f), &with(&t)), list(asked, &f, &t), "seed {seed}");
@@ -197,7 +213,7 @@ fn the_places_of_refusals_10_and_15() {
     let (bad, rows) = ([0; 20], [1; 20]);
     let refused = |query: &[u32], f: &[i32]| {
         let found = answers(query, f, &bad);
-        assert_eq!((found.opened.1, found.listed.1, found.printed.1), ([7; 207], [7; 515], [7; 2_668]));
+        assert_eq!((found.opened.1, found.listed.1, found.printed.1), ([7; 210], [7; 515], [7; 2_668]));
         assert_eq!((found.opened.0, found.listed.0), (found.listed.0, found.printed.0), "{query:?}");
         found.opened.0
     };

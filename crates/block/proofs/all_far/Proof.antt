@@ -15,12 +15,15 @@ abbrev Asks : tie.Start → ℕ → Type 0
 Asks s n =
     let x = table n (s .args .x .now) in
     let y = table n (s .args .y .now) in
-    (HasRow x (s .args .i) × (s .args .k ≤ s .args .e) × HasRows y (s .args .e)) × SmallPairs (s .args .q .radius) x y
+    (HasRow x (s .args .i) × (s .args .k ≤ s .args .e) × HasRows y (s .args .e)) × SmallPairs (s .args .q) x y
 
 abbrev Gives : tie.Start → ℕ → Type 0
 Gives s n =
     NoneNear (terms (s .args .q)) (table n (s .args .x .now)) (s .args .i) (table n (s .args .y .now)) (s .args .k)
     (s .args .e)
+
+reach-requires : tie.Need-reach-requires
+reach-requires c κs = let small = c .pre .1 in (small .tolerances, small .within)
 
 returns : tie.Need-returns
 returns c = λ e. clash e refl
@@ -48,4 +51,4 @@ returns-3 c =
 pub all-far-spec : {M : Type 1} → statement M
 all-far-spec =
     tie.close
-    (tie.spec returns some-beside-requires returns-2 some-beside-requires-2 returns-3)
+    (tie.spec reach-requires returns some-beside-requires returns-2 some-beside-requires-2 returns-3)

@@ -10,7 +10,7 @@ use Rattle.block.proofs.any_beside.Tie as tie
 
 -- what the code for n asks, and what it gives
 abbrev Asks : tie.Start → ℕ → Type 0
-Asks s n = SmallPairs (s .args .q .radius) (table n (s .args .x .now)) (table n (s .args .y .now))
+Asks s n = SmallPairs (s .args .q) (table n (s .args .x .now)) (table n (s .args .y .now))
 
 abbrev Gives : tie.Start → ℕ → Type 0
 Gives s n = NoPair (terms (s .args .q)) (table n (s .args .x .now)) (table n (s .args .y .now))

@@ -242,7 +242,7 @@ loop-again-3 c =
     let a = s .args .keys .now in
     let last = live .live-rows2 .ensures in
     let passed : live .live-rows2 .result ≤ near .result = omega (arith, c .if1 .left) in
-    let none = none-beyond-second (s .args .q .radius) (x .rows) (y .rows) (live .live-rows2 .result) last (v .i) in
+    let none = none-beyond-second (s .args .q) (x .rows) (y .rows) (live .live-rows2 .result) last (v .i) in
     let here =
     Turns.skipped (terms (s .args .q)) (s .args .room) x y n a (v .i) (v .g) (v .keys) _ (v .j) (near .result)
     (near .ensures) (v .inv .5) in (
@@ -266,7 +266,7 @@ returns c =
     let a = s .args .keys .now in
     let last = live .before .live-rows .ensures in
     let passed : live .before .live-rows .result ≤ v .i = omega (arith, c .loop-test .left) in
-    let none = none-beyond-first (s .args .q .radius) (x .rows) (y .rows) (live .before .live-rows .result) last in
+    let none = none-beyond-first (s .args .q) (x .rows) (y .rows) (live .before .live-rows .result) last in
     let z : v .j ≡ 0 = v .inv .2 (omega (arith, c .loop-test .left)) in
     let met =
     subst (λ (j : ℕ). Turns.Met (terms (s .args .q)) (s .args .room) x y n a (v .i) j (v .g) (v .keys)) z (v .inv .5) in

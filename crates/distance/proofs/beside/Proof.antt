@@ -1,25 +1,26 @@
--- `beside` meets its contract: where a coordinate lies farther apart than the radius, the shades do. Assumes nothing.
+-- `beside` meets its contract: the coordinate whose test fails lies beyond. Assumes nothing.
 use mathlib.Core.Path.{_≡_, refl, sym, _∙_}
 use mathlib.Core.Bool.{false}
 use mathlib.Core.Logic.{⊎-elim}
 use Prim.Native.Nat.{_-_, _≤_, _<_}
+use native.Mathlib.Omega.{arith}
 use lib.Dec.{leb}
 use borrow.Author.Tests.{leb-false}
 use Rattle.lists.specs.Bools.{clash, and-none-out}
 use lib.IntN.{pos}
 use lib.ListN.{length, getD}
-use Rattle.rules.specs.Tables.{gap, qualifies}
+use Rattle.rules.specs.Tables.{gap}
+use Rattle.tolerances.specs.Counted.{Beyond}
 use Rattle.distance.proofs.Gap as G
-use Rattle.distance.proofs.Square as S
 use borrow.Author.Needs.{needs}
 use Rattle.distance.proofs.beside.Statement.{statement}
 use Rattle.distance.proofs.beside.Tie as tie
 
 abbrev Inv-loop : tie.InvT-loop
-Inv-loop radius x y all₀ k₀ all k = (k ≤ length x) × (all ≡ false → qualifies radius x y ≡ false)
+Inv-loop reach x y all₀ k₀ all k = (k ≤ length x) × (all ≡ false → Beyond reach x y)
 
 abbrev μ-loop : tie.MeasureT-loop
-μ-loop radius x y all₀ k₀ all k = length x - k
+μ-loop reach x y all₀ k₀ all k = length x - k
 
 loop-holds : tie.Need-loop-holds Inv-loop μ-loop
 loop-holds c = (search needs, λ e. clash refl e)
@@ -51,21 +52,21 @@ add-k c = search needs
 loop-less : tie.Need-loop-less Inv-loop μ-loop
 loop-less c = search needs
 
--- a coordinate farther apart than the radius
+-- the coordinate at hand
 far : (c : tie.After-no-farther Inv-loop μ-loop) → c .no-farther .result ≡ false
-    → let s = c .before .before .before .before .before .args in
-    qualifies (s .radius) (s .x .now) (s .y .now) ≡ false
+    → let s = c .before .before .before .before .before .args in Beyond (s .reach) (s .x .now) (s .y .now)
 far c e =
     let at = c .before .before .before in
     let s = at .before .before in
     let k = at .before .loop .k in
     let x = getD (s .args .x .now) k (pos 0) in
     let y = getD (s .args .y .now) k (pos 0) in
-    let test : leb (gap (G.held x) (G.held y)) (s .args .radius) ≡ false = sym (c .no-farther .ensures) ∙ e in
-    let more : s .args .radius < gap x y =
-    leb-false (gap x y) (s .args .radius)
+    let test : leb (gap (G.held x) (G.held y)) (s .args .reach) ≡ false = sym (c .no-farther .ensures) ∙ e in
+    let more : s .args .reach < gap x y =
+    leb-false (gap x y) (s .args .reach)
     (simp (G.held-is x (s .pre .0 .0 k), G.held-is y (s .pre .0 .1 k)) at test) in
-    S.too-far (s .args .x .now) (s .args .y .now) (s .pre .1 .0) k (s .args .radius) (at .loop-test .taken) more
+    let own = at .loop-test .taken in
+    (k, own, omega (arith, own, s .pre .1 .0), more)
 
 loop-again : tie.Need-loop-again Inv-loop μ-loop
 loop-again c =

@@ -1,22 +1,22 @@
--- `near_small` meets its contract: the squares of three small gaps fit, and their sum is the squared distance. Assumes
--- nothing.
+-- `near_small` meets its contract: the squares of three small gaps fit together. Assumes nothing.
 use mathlib.Core.Path.{_≡_, refl, ap, _∙_}
 use Prim.Native.Nat.{ℕ, _*_, _-_, _≤_}
 use native.Mathlib.Omega.{arith}
 use lib.Dec.{leb}
 use lib.ListN.{length, take}
-use Rattle.rules.specs.Tables.{squares, squaredDistance}
+use Rattle.rules.specs.Tables.{squares}
+use Rattle.tolerances.specs.Counted.{counted}
 use Rattle.distance.proofs.Square as S
 use borrow.Author.Needs.{needs}
 use Rattle.distance.proofs.near_small.Statement.{statement}
 use Rattle.distance.proofs.near_small.Tie as tie
 
 abbrev Inv-loop : tie.InvT-loop
-Inv-loop radius x y sum₀ k₀ sum k =
-    (k ≤ length x) × (sum ≤ 1073676289 * k) × (sum ≡ squaredDistance (take k x) (take k y))
+Inv-loop radius more less x y sum₀ k₀ sum k =
+    (k ≤ length x) × (sum ≤ 1140210289 * k) × (sum ≡ squares (counted more less) (take k x) (take k y))
 
 abbrev μ-loop : tie.MeasureT-loop
-μ-loop radius x y sum₀ k₀ sum k = length x - k
+μ-loop radius more less x y sum₀ k₀ sum k = length x - k
 
 loop-holds : tie.Need-loop-holds Inv-loop μ-loop
 unfolding squares
@@ -25,7 +25,7 @@ loop-holds c = (search needs, search needs, refl)
 small-square-at-requires : tie.Need-small-square-at-requires Inv-loop μ-loop
 small-square-at-requires c κs =
     let small = c .before .before .pre .0 in
-    (search needs, search needs, small .0, small .1)
+    (search needs, search needs, small .0, small .1, small .2)
 
 add-sum : tie.Need-add-sum Inv-loop μ-loop
 add-sum c = search needs
@@ -40,7 +40,8 @@ loop-again : tie.Need-loop-again Inv-loop μ-loop
 loop-again c =
     let s = c .before .before .before in
     let square = c .small-square-at in
-    let e = S.next (s .args .x .now) (s .args .y .now) (s .pre .1 .0) (c .before .before .loop .k) (square .result)
+    let f = counted (s .args .more) (s .args .less) in
+    let e = S.next f (s .args .x .now) (s .args .y .now) (s .pre .1 .0) (c .before .before .loop .k) (square .result)
     (c .before .loop-test .taken) (square .ensures .0) in
     (search needs, omega arith, omega (arith, e))
 
@@ -51,8 +52,10 @@ returns : tie.Need-returns Inv-loop μ-loop
 returns c =
     let s = c .before .before in
     let radius = s .args .radius in
-    ap (λ (d : ℕ). leb d (radius * radius)) (c .before .loop .inv .2)
-    ∙ S.sum-in (s .args .x .now) (s .args .y .now) (s .pre .1 .0) (c .before .loop .k) radius (omega arith)
+    let f = counted (s .args .more) (s .args .less) in
+    ap (λ (d : ℕ). leb d (radius * radius))
+    (c .before .loop .inv .2
+    ∙ S.whole f (s .args .x .now) (s .args .y .now) (s .pre .1 .0) (c .before .loop .k) (omega arith))
 
 pub near-small-spec : {M : Type 1} → statement M
 near-small-spec =

@@ -1,6 +1,6 @@
 -- `small_square_at` meets its contract: what it reads are the shades' own numbers. Assumes nothing.
-use mathlib.Core.Path.{ap}
-use Prim.Native.Nat.{ℕ, _*_}
+use mathlib.Core.Path.{ap, _∙_}
+use Prim.Native.Nat.{ℕ, _+_, _*_, _-_}
 use native.Mathlib.Omega.{arith}
 use lib.IntN.{pos}
 use lib.ListN.{getD}
@@ -31,20 +31,24 @@ apart-small-requires c κs =
       G.held-small (getD (s .args .y .now) k (pos 0)) (s .pre .3 k),
     )
 
+counted-requires : tie.Need-counted-requires
+counted-requires c κs = search needs
+
 mul-result : tie.Need-mul-result
-mul-result c = record { fits = omega (arith, S.square-small (c .apart-small .result) (c .apart-small .ensures .1)) }
+mul-result c = record { fits = omega (arith, S.square-small (c .counted .result) (c .counted .ensures .1)) }
 
 returns : tie.Need-returns
 unfolding squareAt
 returns c =
-    let s = c .before .before .before .args in
+    let s = c .before .before .before .before .args in
     let x = getD (s .x .now) (s .k) (pos 0) in
     let y = getD (s .y .now) (s .k) (pos 0) in
-    let gap = c .apart-small in (
-      ap (λ (g : ℕ). g * g)
-          (G.gap-of-passed (gap .result) x y (c .before .before .apart-small-arg .given)
-          (c .before .apart-small-arg2 .given) (gap .ensures .0)),
-      S.square-small (gap .result) (gap .ensures .1),
+    let gap = c .before .apart-small in
+    let e =
+    G.gap-of-passed (gap .result) x y (c .before .before .before .apart-small-arg .given)
+    (c .before .before .apart-small-arg2 .given) (gap .ensures .0) in (
+      ap (λ (g : ℕ). g * g) (c .counted .ensures .0 ∙ ap (λ (g : ℕ). g + s .more - s .less) e),
+      S.square-small (c .counted .result) (c .counted .ensures .1),
     )
 
 pub small-square-at-spec : {M : Type 1} → statement M
@@ -56,5 +60,6 @@ small-square-at-spec =
     mul-apart-small-2
     shared-slice-copy-out-apart-small-2
     apart-small-requires
+    counted-requires
     mul-result
     returns)

@@ -3,7 +3,7 @@ use mathlib.Core.Path.{_≡_, refl, ap, _∙_}
 use Prim.Native.Nat.{ℕ, _-_, _≤_, _^_, min}
 use native.Mathlib.Omega.{arith}
 use lib.ListN.{length, take}
-use Rattle.rules.specs.Tables.{squares, squaredDistance}
+use Rattle.rules.specs.Tables.{gap, squares, squaredDistance}
 use Rattle.distance.proofs.Square as S
 use borrow.Author.Needs.{needs}
 use Rattle.distance.proofs.squared_distance.Statement.{statement}
@@ -35,14 +35,15 @@ loop-again : tie.Need-loop-again Inv-loop μ-loop
 loop-again c =
     let s = c .before .before .before .before in
     let square = c .before .square-at in
-    let e = S.next (s .args .x .now) (s .args .y .now) (s .pre) (c .before .before .before .loop .k) (square .result)
+    let k = c .before .before .before .loop .k in
+    let e = S.next gap (s .args .x .now) (s .args .y .now) (s .pre) k (square .result)
     (c .before .before .loop-test .taken) (square .ensures) in
     (search needs, omega (arith, e))
 
 returns : tie.Need-returns Inv-loop μ-loop
 returns c =
     let s = c .before .before in
-    let e = S.whole (s .args .x .now) (s .args .y .now) (s .pre) (c .before .loop .k) (omega arith) in
+    let e = S.whole gap (s .args .x .now) (s .args .y .now) (s .pre) (c .before .loop .k) (omega arith) in
     c .before .loop .inv .1 ∙ ap (λ (d : ℕ). min d (2 ^ 64 - 1)) e
 
 pub squared-distance-spec : {M : Type 1} → statement M

@@ -13,8 +13,8 @@ use Rattle.rules.specs.Tables.{Table, fieldTable, trimTable}
 use Rattle.rules.specs.Calls.{openCall}
 use Rattle.record_layout.specs.Flat.{querySize, flatSize, queryIn, kindsIn}
 use Rattle.answers.specs.Refusals.{Numbered, open-refusal}
-use Rattle.flat_calls.specs.Calls.{leftIn, openStep, openNumber, openLeaves}
-use Rattle.flat_calls.specs.Unchanged.{refused-left, accepted-left}
+use Rattle.flat_calls.specs.Calls.{isNew, leftIn, openStep, openNumber, openLeaves}
+use Rattle.flat_calls.specs.Unchanged.{refused-left, new-left}
 use Rattle.flat_open.proofs.Openings.{not-opened}
 use Rattle.flat_calls.specs.Lengths.{right-long}
 use borrow.Author.Needs.{needs, sfits-of}
@@ -57,8 +57,8 @@ written c =
     let e = stepped (c .before) in
     ⊎-elim
     (λ w.
-    let accepted = ap (λ (a : Answer). said a .accepted) (w .1 .given .1) in
-    w .7 ∙ w .4 .ensures ∙ sym (accepted-left l r accepted) ∙ ap (leftIn l) e)
+    let new = ap (λ (a : Answer). isNew a) (w .1 .given .1) in
+    w .7 ∙ w .4 .ensures ∙ sym (new-left l r new) ∙ ap (leftIn l) e)
     (λ w.
     let q = queryIn (s .query .now) in
     let answer = ap (λ (x : Step). x .answer) e in

@@ -1,8 +1,6 @@
 -- `read` meets its contract. Assumes nothing.
 use mathlib.Core.Path.{_≡_, sym, ap, subst, _∙_}
 use mathlib.Core.Logic.{⊎-elim}
-use Prim.Native.Nat.{_≤_}
-use native.Mathlib.Omega.{arith}
 use lib.ListN.{length}
 use mir.Syntax.{w32}
 use mir.Facts.{toZ-ofZ}
@@ -16,10 +14,10 @@ use Rattle.rules.specs.Numbers.{said, signed}
 use Rattle.rules.specs.Query.{wasRead}
 use Rattle.rules.specs.Calls.{readCall}
 use Rattle.checks.proofs.Answers.{not-read}
-use Rattle.record_layout.specs.Flat.{flatSize, unflatten}
+use Rattle.record_layout.specs.Flat.{unflatten}
 use Rattle.answers.specs.Refusals.{Numbered, read-refusal}
-use Rattle.flat_calls.specs.Calls.{leftIn, readStep, readNumber, readLeaves}
-use Rattle.flat_calls.specs.Unchanged.{accepted-left}
+use Rattle.flat_calls.specs.Calls.{isNew, leftIn, readStep, readNumber, readLeaves}
+use Rattle.flat_calls.specs.Unchanged.{new-left}
 use Rattle.flat_read.specs.Unchanged.{read-left}
 use borrow.Author.Needs.{needs, sfits-of}
 use Rattle.flat_read.proofs.read.Statement.{statement}
@@ -46,7 +44,7 @@ stepped c =
     let s = start c .args in
     c .read .ensures
     ∙ ap (λ (r : Session). readCall (lentTable r (s .f .now)) (lentTable r (s .t .now)) r)
-    (c .before .unpack .ensures .0)
+    (c .before .unpack .ensures)
 
 -- what stands in the lent slice: the record of a read block, or what stood there
 written : (c : tie.At-match-came) → c .match .lent ≡ leftIn (start (c .before) .args .lent .now) (called (c .before))
@@ -57,15 +55,13 @@ written c =
     let e = stepped (c .before) in
     ⊎-elim
     (λ w.
-    let accepted = ap (λ (a : Answer). said a .accepted) (w .1 .given .1) in
-    w .7 ∙ w .4 .ensures ∙ sym (accepted-left l r accepted) ∙ ap (leftIn l) e)
+    let new = ap (λ (a : Answer). isNew a) (w .1 .given .1) in
+    w .7 ∙ w .4 .ensures ∙ sym (new-left l r new) ∙ ap (leftIn l) e)
     (λ w.
     let same = ap (λ (x : Step). x .answer) e in
     let other = not-read (fields (c .before)) (trims (c .before)) (unflatten l) (r .answer) same (w .0 .keys2) in
     let quiet = sym (ap (λ (x : Step). wasRead (x .answer)) e) ∙ other in
-    let at = c .before .before in
-    let long : flatSize ≤ length l = omega (arith, at .before .before .if1 .left) in
-    w .1 ∙ sym (read-left l (at .unpack .ensures .1) long (fields (c .before)) (trims (c .before)) quiet))
+    w .1 ∙ sym (read-left l (fields (c .before)) (trims (c .before)) (lent (c .before)) quiet))
     (c .match .came)
 
 short-requires : tie.Need-short-requires

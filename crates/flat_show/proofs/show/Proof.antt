@@ -46,7 +46,7 @@ returns-2 c =
       simp long
           (c .before .before .put-shown .ensures
           ∙ ap (λ (r : Session). laidAt 0 (shownNumbers (lentTable r f) (lentTable r t) r) (s .place .now))
-          (c .before .before .before .before .unpack .ensures .0)),
+          (c .before .before .before .before .unpack .ensures)),
     )
 
 pub show-spec : {M : Type 1} → statement M

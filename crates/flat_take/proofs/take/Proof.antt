@@ -15,8 +15,8 @@ use Rattle.rules.specs.Calls.{takeCall}
 use Rattle.checks.proofs.Answers.{not-given}
 use Rattle.record_layout.specs.Flat.{pairSize, flatSize, unflatten}
 use Rattle.answers.specs.Refusals.{Numbered, take-refusal}
-use Rattle.flat_calls.specs.Calls.{leftIn, writtenIn, takeStep, takeNumber, takeLeaves, takeWrites}
-use Rattle.flat_calls.specs.Unchanged.{accepted-left}
+use Rattle.flat_calls.specs.Calls.{isNew, leftIn, writtenIn, takeStep, takeNumber, takeLeaves, takeWrites}
+use Rattle.flat_calls.specs.Unchanged.{new-left}
 use Rattle.flat_take.specs.Unchanged.{take-left}
 use Rattle.flat_calls.specs.Lengths.{left-long, right-long}
 use borrow.Author.Needs.{needs, sfits-of}
@@ -44,7 +44,7 @@ stepped c =
     let s = start c .args in
     c .take .ensures
     ∙ ap (λ (r : Session). takeCall (lentTable r (s .f .now)) (lentTable r (s .t .now)) r)
-    (c .before .unpack .ensures .0)
+    (c .before .unpack .ensures)
 
 -- what stands in the lent slice: the record after a pair was given, or what stood there
 written : (c : tie.At-match-came) → c .match .lent ≡ leftIn (start (c .before) .args .lent .now) (called (c .before))
@@ -55,13 +55,11 @@ written c =
     let e = stepped (c .before) in
     ⊎-elim
     (λ w.
-    let accepted = ap (λ (a : Answer). said a .accepted) (w .1 .given .1) in
-    w .7 ∙ w .4 .ensures ∙ sym (accepted-left l r accepted) ∙ ap (leftIn l) e)
+    let new = ap (λ (a : Answer). isNew a) (w .1 .given .1) in
+    w .7 ∙ w .4 .ensures ∙ sym (new-left l r new) ∙ ap (leftIn l) e)
     (λ w.
     let quiet = sym (ap (λ (x : Step). wasGiven (x .answer)) e) ∙ not-given (r .answer) (w .0 .keys2) in
-    let at = c .before .before in
-    let long = left-long flatSize pairSize l (s .pair .now) (at .before .before .if1 .left) in
-    w .1 ∙ sym (take-left l (at .unpack .ensures .1) long (fields (c .before)) (trims (c .before)) quiet))
+    w .1 ∙ sym (take-left l (fields (c .before)) (trims (c .before)) (lent (c .before)) quiet))
     (c .match .came)
 
 short-requires : tie.Need-short-requires

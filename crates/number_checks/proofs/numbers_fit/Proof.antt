@@ -93,18 +93,26 @@ mul-most c =
 is-card-requires : tie.Need-is-card-requires
 is-card-requires c κs = search needs
 
+depths-fit-requires : tie.Need-depths-fit-requires
+depths-fit-requires c κs =
+    let at = c .before .before .before .before .before in
+    let q = fits (at .before .before .before .before) in
+    (q .field-tolerance, q .trim-tolerance)
+
 returns-4 : tie.Need-returns-4
 unfolding numbersFit
 returns-4 c =
-    let at = c .before .before .before .before .before in
+    let card = c .before in
+    let at = card .before .before .before .before .before in
     simp (
       eq-eqb _ _ (queried (at .before .before .before .before)),
       field (at .before .before),
       trim at,
-      c .before .before .before .mark-fits .ensures,
-      c .before .before .block-count .ensures .0,
-      c .before .block-count2 .ensures .0,
-      c .is-card .ensures,
+      card .before .before .before .mark-fits .ensures,
+      card .before .before .block-count .ensures .0,
+      card .before .block-count2 .ensures .0,
+      card .is-card .ensures,
+      c .depths-fit .ensures,
     )
     refl
 
@@ -125,4 +133,5 @@ numbers-fit-spec =
     block-count-requires-2
     mul-most
     is-card-requires
+    depths-fit-requires
     returns-4)

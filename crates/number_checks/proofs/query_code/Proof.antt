@@ -1,4 +1,4 @@
--- `query_code` meets its contract: 1, 2, 3, then 12 of either weight. Assumes nothing.
+-- `query_code` meets its contract: 1, 2, 3, then 12 of either weight and 16 of either tolerance. Assumes nothing.
 use Rattle.rules.specs.Calls.{queryCode}
 use borrow.Author.Needs.{needs}
 use Rattle.number_checks.proofs.query_code.Statement.{statement}
@@ -19,6 +19,12 @@ weight-code-requires c κs = search needs
 weight-code-requires-2 : tie.Need-weight-code-requires-2
 weight-code-requires-2 c κs = search needs
 
+tolerance-code-requires : tie.Need-tolerance-code-requires
+tolerance-code-requires c κs = search needs
+
+tolerance-code-requires-2 : tie.Need-tolerance-code-requires-2
+tolerance-code-requires-2 c κs = search needs
+
 first-requires : tie.Need-first-requires
 first-requires c κs = search needs
 
@@ -31,25 +37,35 @@ first-requires-3 c κs = search needs
 first-requires-4 : tie.Need-first-requires-4
 first-requires-4 c κs = search needs
 
+first-requires-5 : tie.Need-first-requires-5
+first-requires-5 c κs = search needs
+
+first-requires-6 : tie.Need-first-requires-6
+first-requires-6 c κs = search needs
+
 returns : tie.Need-returns
 unfolding queryCode
 returns c =
-    let weights = c .before .before .before in
-    let trim = weights .before in
-    let field = trim .before in
-    let radius = field .before in
+    let firsts = c .before .before .before .before in
+    let tolerances = firsts .before .before in
+    let weights = tolerances .before .before in
+    let radius = weights .before .before in
     let block = radius .before .before in
     simp (
-      c .before .before .first2 .ensures,
-      c .before .first3 .ensures,
-      weights .first .ensures,
-      trim .weight-code2 .ensures,
-      field .weight-code .ensures,
+      c .before .first5 .ensures,
+      c .before .before .first4 .ensures,
+      c .before .before .before .first3 .ensures,
+      firsts .first2 .ensures,
+      firsts .before .first .ensures,
+      tolerances .tolerance-code2 .ensures,
+      tolerances .before .tolerance-code .ensures,
+      weights .weight-code2 .ensures,
+      weights .before .weight-code .ensures,
       radius .unless3 .ensures,
       block .unless2 .ensures,
       block .before .before .before .unless .ensures,
     )
-    at (c .first4 .ensures)
+    at (c .first6 .ensures)
 
 pub query-code-spec : {M : Type 1} → statement M
 query-code-spec =
@@ -60,8 +76,12 @@ query-code-spec =
     unless-requires-3
     weight-code-requires
     weight-code-requires-2
+    tolerance-code-requires
+    tolerance-code-requires-2
     first-requires
     first-requires-2
     first-requires-3
     first-requires-4
+    first-requires-5
+    first-requires-6
     returns)

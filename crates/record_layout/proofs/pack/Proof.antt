@@ -112,7 +112,7 @@ returns c =
     (take-all placeCount (s .pairs) (omega (arith, v .inv .1)))
     ∙ ap (λ (r : List ℕ). take pairsAt r ++ pairs ++ drop fieldWeightAt r) (head .ensures)
     ∙ onto (flatHead s) pairs l pairsAt (pairSize * placeCount) refl)
-    ∙ onto (flatHead s ++ pairs) (flatTail s) l fieldWeightAt 3 long
+    ∙ onto (flatHead s ++ pairs) (flatTail s) l fieldWeightAt 6 long
 
 pub pack-spec : {M : Type 1} → statement M
 pack-spec =

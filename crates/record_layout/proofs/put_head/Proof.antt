@@ -2,6 +2,7 @@
 use mathlib.Core.Path.{refl, ap, _∙_}
 use mathlib.Core.List.{List, [], _∷_, _++_}
 use Prim.Native.Nat.{ℕ, _/_, _%_}
+use native.Mathlib.Omega.{arith}
 use lib.ListN.{take, drop}
 use Rattle.record_layout.specs.Flat.{word, flatHead}
 use Rattle.record_layout.proofs.Places.{onto}
@@ -13,7 +14,9 @@ cast-low : tie.Need-cast-low
 cast-low c = search needs
 
 cast-high : tie.Need-cast-high
-cast-high c = search needs
+cast-high c =
+    let fields = c .struct-known2 .given in
+    record { fits = omega (arith, fields .1 .1 .1 .1 .1 .1 .1 .0) }
 
 put-three-requires : tie.Need-put-three-requires
 put-three-requires c κs = search needs

@@ -10,6 +10,18 @@ number-or-requires c κs = search needs
 number-or-requires-2 : tie.Need-number-or-requires-2
 number-or-requires-2 c κs = search needs
 
+number-or-requires-3 : tie.Need-number-or-requires-3
+number-or-requires-3 c κs = search needs
+
+number-or-requires-4 : tie.Need-number-or-requires-4
+number-or-requires-4 c κs = search needs
+
+number-or-requires-5 : tie.Need-number-or-requires-5
+number-or-requires-5 c κs = search needs
+
+meaning-of-requires : tie.Need-meaning-of-requires
+meaning-of-requires c κs = search needs
+
 query-with-requires : tie.Need-query-with-requires
 query-with-requires c κs = search needs
 
@@ -19,4 +31,13 @@ returns c = cc
 
 pub query-in-spec : {M : Type 1} → statement M
 query-in-spec =
-    tie.close (tie.spec number-or-requires number-or-requires-2 query-with-requires returns)
+    tie.close
+    (tie.spec
+    number-or-requires
+    number-or-requires-2
+    number-or-requires-3
+    number-or-requires-4
+    number-or-requires-5
+    meaning-of-requires
+    query-with-requires
+    returns)

@@ -44,7 +44,7 @@ head-in-requires c κs = search needs
 loop-holds : tie.Need-loop-holds Inv-loop μ-loop
 unfolding withPairs pairsIn range
 loop-holds c =
-    let head = c .head-in .ensures .0 in (omega arith, ap (λ (s : Session). length (s .pairs)) head, head)
+    let head = c .head-in .ensures in (omega arith, ap (λ (s : Session). length (s .pairs)) head, head)
 
 pair-in-requires : tie.Need-pair-in-requires Inv-loop μ-loop
 pair-in-requires c κs = search needs
@@ -79,12 +79,10 @@ unfolding unflatten
 returns c =
     let l = c .before .before .before .before .args .l .now in
     let v = c .before .loop in
-    let e : v .i ≡ placeCount = omega (arith, v .inv .0, c .loop-test .left) in (
-      v .inv .2
-          ∙ ap (λ (i : ℕ). withPairs l (pairsIn l i ++ drop i zeros)) e
-          ∙ ap (withPairs l) (append-nil (pairsIn l placeCount)),
-      c .before .before .head-in .ensures .1,
-    )
+    let e : v .i ≡ placeCount = omega (arith, v .inv .0, c .loop-test .left) in
+    v .inv .2
+    ∙ ap (λ (i : ℕ). withPairs l (pairsIn l i ++ drop i zeros)) e
+    ∙ ap (withPairs l) (append-nil (pairsIn l placeCount))
 
 pub unpack-spec : {M : Type 1} → statement M
 unpack-spec =

@@ -12,7 +12,7 @@ use Rattle.skipping.proofs.are_far.Tie as tie
 far-requires : tie.Need-far-requires
 far-requires c κs =
     let s = c .before in
-    (card-least (s .args .n) (s .pre .0 .0), card-small (s .args .n) (s .pre .0 .0), s .pre .0 .2)
+    (card-least (s .args .n) (s .pre .0 .0), card-small (s .args .n) (s .pre .0 .0), s .pre .0 .2, s .pre .0 .3)
 
 returns : tie.Need-returns
 returns c =
@@ -27,7 +27,7 @@ returns c =
 far-requires-2 : tie.Need-far-requires-2
 far-requires-2 c κs =
     let s = c .before in
-    (card-least (s .args .n) (s .pre .0 .0), card-small (s .args .n) (s .pre .0 .0), s .pre .0 .1)
+    (card-least (s .args .n) (s .pre .0 .0), card-small (s .args .n) (s .pre .0 .0), s .pre .0 .1, s .pre .0 .3)
 
 returns-2 : tie.Need-returns-2
 returns-2 c =
@@ -38,7 +38,7 @@ returns-2 c =
     c .far2 .ensures y
     (sym
     (subst (λ b. sidesIn n (s .args .sides .now) ≡ rectangle (cond b x y)) (c .before .if1 .left) (s .pre .1)))
-    ∙ far-turned (s .args .radius) y x
+    ∙ far-turned (s .args .q) y x
 
 pub are-far-spec : {M : Type 1} → statement M
 are-far-spec = tie.close (tie.spec far-requires returns far-requires-2 returns-2)

@@ -39,7 +39,7 @@ enough c = simp (c .before .before .weighted .ensures .0, c .before .weighted2 .
 are-far-requires : tie.Need-are-far-requires
 are-far-requires c κs =
     let p = c .before .before .before .pre in
-    ((p .1 .0 .card, p .0 .0, p .0 .1), p .1 .1)
+    ((p .1 .0 .card, p .0 .0, p .0 .1, p .1 .0 .tolerances), p .1 .1)
 
 returns-2 : tie.Need-returns-2
 returns-2 c =

@@ -14,17 +14,22 @@ rows s =
     let a = s .args in
     accepted-rows (lentTable (a .s) (a .f .now)) (lentTable (a .s) (a .t .now)) (a .s) (s .pre)
 
+unsatisfiable-requires : tie.Need-unsatisfiable-requires
+unsatisfiable-requires c κs =
+    let q = c .pre .lent .fits .query in
+    (q .field-tolerance, q .trim-tolerance)
+
 is-empty-requires : tie.Need-is-empty-requires
-is-empty-requires c κs = rows c .0 .there
+is-empty-requires c κs = rows (c .before) .0 .there
 
 is-empty-requires-2 : tie.Need-is-empty-requires-2
-is-empty-requires-2 c κs = rows (c .before) .1 .there
+is-empty-requires-2 c κs = rows (c .before .before) .1 .there
 
 read-out-requires : tie.Need-read-out-requires
-read-out-requires c κs = rows (c .before .before) .0
+read-out-requires c κs = rows (c .before .before .before) .0
 
 read-out-requires-2 : tie.Need-read-out-requires-2
-read-out-requires-2 c κs = rows (c .before .before .before) .1
+read-out-requires-2 c κs = rows (c .before .before .before .before) .1
 
 returns : tie.Need-returns
 unfolding finished
@@ -35,9 +40,16 @@ returns c =
       at .before .read-out .ensures,
       at .before .before .is-empty2 .ensures,
       at .before .before .before .is-empty .ensures,
+      at .before .before .before .before .unsatisfiable .ensures,
     )
 
 pub is-finished-spec : {M : Type 1} → statement M
 is-finished-spec =
     tie.close
-    (tie.spec is-empty-requires is-empty-requires-2 read-out-requires read-out-requires-2 returns)
+    (tie.spec
+    unsatisfiable-requires
+    is-empty-requires
+    is-empty-requires-2
+    read-out-requires
+    read-out-requires-2
+    returns)
