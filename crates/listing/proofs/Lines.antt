@@ -9,8 +9,8 @@ use Rattle.rules.specs.Query.{inputLength, settledSession, list, pairLine, pair
 use Rattle.printing.specs.Put.{putAt, put-on}
 use Rattle.printing.specs.Lines.{lineLength, lastLength, line-length, query-length, last-length}
 use Rattle.printing.specs.Laid.{laid, laid-length}
-use Rattle.run_query.specs.declared.Outcome.{Outcome}
-use Rattle.run_query.specs.Outcomes.{queryOutcome, OutcomeOf}
+use Rattle.outcomes.specs.declared.Outcome.{Outcome}
+use Rattle.outcomes.specs.Outcomes.{queryOutcome, OutcomeOf}
 use Rattle.listing.specs.Shown.{lineOf, line-bytes, listLines}
 use Rattle.listing.specs.ListShown.{counted}
 use Rattle.rules.specs.Tables.{Table}

@@ -34,9 +34,9 @@ use Rattle.session_laws.specs.Calls.{open-out, call-out, Takes, was-read-out, w
 use Rattle.session_laws.specs.Take.{gives-some}
 use Rattle.distance.specs.Small.{Small}
 use Rattle.distance.proofs.Gap.{gap-mag}
-use Rattle.run_query.specs.declared.Outcome.{Outcome}
-use Rattle.run_query.specs.Until.{take-more, take-ends, list-few}
-use Rattle.run_query.specs.Outcomes.{queryOutcome, OutcomeOf, refused-none}
+use Rattle.outcomes.specs.declared.Outcome.{Outcome}
+use Rattle.outcomes.specs.Until.{take-more, take-ends, list-few}
+use Rattle.outcomes.specs.Outcomes.{queryOutcome, OutcomeOf, refused-none}
 use Rattle.listing.specs.Shown.{Shown}
 
 -- ---- Shades of rows that are not refused

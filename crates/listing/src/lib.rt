@@ -1,7 +1,7 @@
 // What is told of a pair, and a whole query's listing as bytes.
+use outcomes::Outcome;
 use printing::Line;
 use rules::Pair;
-use run_query::Outcome;
 ghost use mathlib.Core.Path.{_≡_};
 ghost use Prim.Native.Nat.{_+_, _*_, _-_, _≤_, _<_};
 ghost use lib.ListN.{length};
@@ -10,7 +10,7 @@ ghost use Rattle.rules.specs.Session.{placeCount};
 ghost use Rattle.rules.specs.Query.{listing};
 ghost use Rattle.printing.specs.Lines.{lineLength};
 ghost use Rattle.printing.specs.Put.{putAt};
-ghost use Rattle.run_query.specs.Outcomes.{OutcomeOf};
+ghost use Rattle.outcomes.specs.Outcomes.{OutcomeOf};
 ghost use Rattle.listing.specs.Shown.{RowOf, Shown, lineOf, listLines, listingRoom};
 
 // The bytes of the longest listing: the query's line, those of 64 pairs, the last.

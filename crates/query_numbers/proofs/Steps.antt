@@ -12,8 +12,8 @@ use Rattle.rules.specs.Query.{list}
 use Rattle.printing.specs.declared.Line.{Line}
 use Rattle.printing.specs.Put.{putAt, put-on}
 use Rattle.printing.specs.Laid.{laid}
-use Rattle.run_query.specs.declared.Outcome.{Outcome}
-use Rattle.run_query.specs.Outcomes.{queryOutcome, OutcomeOf}
+use Rattle.outcomes.specs.declared.Outcome.{Outcome}
+use Rattle.outcomes.specs.Outcomes.{queryOutcome, OutcomeOf}
 use Rattle.listing.specs.Shown.{lineOf}
 use Rattle.query_numbers.specs.Answers.{headLength, queryRoom, rootsRoom, pairNumbers, rootNumbers, listNumbers}
 use Rattle.query_numbers.specs.Answers.{listRoots, headNumbers, queryNumbers, answered}

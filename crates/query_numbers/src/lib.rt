@@ -1,6 +1,6 @@
 // The answer of a whole query as numbers, written into a lent slice.
+use outcomes::Outcome;
 use rules::Pair;
-use run_query::Outcome;
 ghost use mathlib.Core.Path.{_≡_};
 ghost use mathlib.Core.List.{[], _∷_};
 ghost use Prim.Native.Nat.{_+_, _*_, _≤_, _<_};
@@ -8,7 +8,7 @@ ghost use lib.ListN.{length};
 ghost use Rattle.rules.specs.Tables.{table};
 ghost use Rattle.rules.specs.Session.{placeCount};
 ghost use Rattle.printing.specs.Put.{putAt};
-ghost use Rattle.run_query.specs.Outcomes.{OutcomeOf};
+ghost use Rattle.outcomes.specs.Outcomes.{OutcomeOf};
 ghost use Rattle.listing.specs.Shown.{Shown};
 ghost use Rattle.query_numbers.specs.Answers.{pairLength, rootLength, pairNumbers, rootNumbers};
 ghost use Rattle.query_numbers.specs.Answers.{queryRoom, answered};

@@ -14,9 +14,9 @@ use Rattle.rules.specs.declared.Answer.the-variants.{Given}
 use Rattle.rules.specs.Session.{noPair, placeCount, places}
 use Rattle.rules.specs.Calls.{takeCall}
 use Rattle.rules.specs.Query.{wasGiven, takeUntilFinishedBy, takeUntilFinished}
-use Rattle.run_query.specs.declared.TakenOut.{TakenOut}
-use Rattle.run_query.specs.Until.{take-more, take-ends}
-use Rattle.run_query.specs.Outcomes.{takenOut}
+use Rattle.outcomes.specs.declared.TakenOut.{TakenOut}
+use Rattle.outcomes.specs.Until.{take-more, take-ends}
+use Rattle.outcomes.specs.Outcomes.{takenOut}
 use Rattle.rules.specs.Tables.{Table}
 
 -- the pairs that are still to come after n

@@ -1,30 +1,16 @@
 // One whole query over two lent tables, run once: opened, read until settled, taken until finished.
+use outcomes::Outcome;
+use outcomes::ReadOut;
+use outcomes::TakenOut;
+use outcomes::refusal;
 use rules::Answer;
 use rules::Kinds;
-use rules::Pair;
 use rules::Query;
 use rules::Session;
 ghost use mathlib.Core.Path.{_≡_};
 ghost use Rattle.rules.specs.Tables.{fieldTable, trimTable};
 ghost use Rattle.rules.specs.Session.{lentTable};
-ghost use Rattle.rules.specs.Numbers.{said, refusal};
-ghost use Rattle.run_query.specs.Outcomes.{readOut, takenOut, queryOutcome};
-
-// The refusal's number that goes with an answer; 0 where none does.
-pub fn refusal(a: Answer) -> u32
-    ensures { λ r. ⌜ r ≡ refusal (said a) ⌝ }
-{
-    match a {
-        Answer::Refused(n) => n,
-        _ => 0,
-    }
-}
-
-// A record of which no read reads a block more, and what the read that did not is refused by; 0 where it is settled.
-struct ReadOut {
-    code: u32,
-    session: Session,
-}
+ghost use Rattle.outcomes.specs.Outcomes.{readOut, takenOut, queryOutcome};
 
 // Reads until settled.
 fn read_on(f: &[i32], t: &[i32], s: Session) -> ReadOut
@@ -43,12 +29,6 @@ fn read_on(f: &[i32], t: &[i32], s: Session) -> ReadOut
         let next = r.session;
         at = next;
     }
-}
-
-// Pairs, from the front, in a record's 64 places, and how many they are.
-struct TakenOut {
-    pairs: [Pair; rules::PLACES],
-    count: usize,
 }
 
 // Takes until finished.
@@ -70,19 +50,6 @@ fn take_on(f: &[i32], t: &[i32], s: Session) -> TakenOut
         n += 1;
     }
     TakenOut { pairs, count: n }
-}
-
-// All that a whole query comes to.
-pub struct Outcome {
-    pub query: Query,
-    // What the opening is refused by, and what the last read is; 0 where neither is.
-    pub opening: u32,
-    pub reading: u32,
-    // The record when its reading ended.
-    pub session: Session,
-    // The list, from the front, and how many pairs it has.
-    pub pairs: [Pair; rules::PLACES],
-    pub count: usize,
 }
 
 // Opens, reads until settled and takes until finished. A refused opening's record is zeros: reading it ends with 5, and

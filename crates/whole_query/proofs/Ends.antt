@@ -15,8 +15,8 @@ use Rattle.rules.specs.Calls.{openCode}
 use Rattle.rules.specs.Query.{settledSession}
 use Rattle.record_layout.specs.Flat.{querySize, queryIn}
 use Rattle.answers.specs.Refusals.{open-refusal, read-refusal}
-use Rattle.run_query.specs.declared.Outcome.{Outcome}
-use Rattle.run_query.specs.Outcomes.{readCode, queryOutcome, opening-code, OutcomeOf, is-outcome, lent-outcome}
+use Rattle.outcomes.specs.declared.Outcome.{Outcome}
+use Rattle.outcomes.specs.Outcomes.{readCode, queryOutcome, opening-code, OutcomeOf, is-outcome, lent-outcome}
 use Rattle.whole_query.specs.Asked.{askedCode, asked, writtenUnless}
 use Rattle.rules.specs.Tables.{Table}
 

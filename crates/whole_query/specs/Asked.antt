@@ -11,7 +11,7 @@ use Rattle.rules.specs.Calls.{openCode}
 use Rattle.rules.specs.Query.{list, listing}
 use Rattle.record_layout.specs.Flat.{querySize, queryIn, kindsIn}
 use Rattle.printing.specs.Put.{putAt}
-use Rattle.run_query.specs.Outcomes.{readCode}
+use Rattle.outcomes.specs.Outcomes.{readCode}
 use Rattle.listing.specs.Shown.{listingRoom}
 use Rattle.query_numbers.specs.Answers.{queryRoom, answered}
 

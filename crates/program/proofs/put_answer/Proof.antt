@@ -4,8 +4,8 @@ use Rattle.rules.specs.Tables.{fieldTable, trimTable}
 use Rattle.rules.specs.Session.{lentTable}
 use Rattle.rules.specs.Calls.{openCode}
 use Rattle.rules.specs.Query.{listing}
-use Rattle.run_query.specs.declared.Outcome.{Outcome}
-use Rattle.run_query.specs.Outcomes.{queryOutcome, OutcomeOf, is-outcome, lent-outcome}
+use Rattle.outcomes.specs.declared.Outcome.{Outcome}
+use Rattle.outcomes.specs.Outcomes.{queryOutcome, OutcomeOf, is-outcome, lent-outcome}
 use Rattle.program.specs.Program.{Written, answerBytes}
 use Rattle.program.proofs.Steps.{written-as, refused-as, passed-as}
 use borrow.Author.Needs.{needs}

@@ -14,9 +14,9 @@ use Rattle.session_laws.specs.Read.{unreadRows}
 use Rattle.session_laws.specs.Until.{fewer-unread}
 use Rattle.session_laws.specs.Cards.{read-tables}
 use Rattle.checks.proofs.Answers.{not-read}
-use Rattle.run_query.specs.declared.ReadOut.{ReadOut}
-use Rattle.run_query.specs.Until.{readOn, read-more, read-ends}
-use Rattle.run_query.specs.Outcomes.{refusedBy, readOut}
+use Rattle.outcomes.specs.declared.ReadOut.{ReadOut}
+use Rattle.outcomes.specs.Until.{readOn, read-more, read-ends}
+use Rattle.outcomes.specs.Outcomes.{refusedBy, readOut}
 use Rattle.run_query.proofs.read_on.Statement.{statement}
 use Rattle.run_query.proofs.read_on.Tie as tie
 

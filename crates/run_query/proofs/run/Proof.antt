@@ -11,11 +11,11 @@ use Rattle.rules.specs.Numbers.{said, refusal}
 use Rattle.rules.specs.Session.{lentTable, places}
 use Rattle.rules.specs.Calls.{openCall}
 use Rattle.rules.specs.Query.{settledSession, list}
-use Rattle.run_query.specs.declared.ReadOut.{ReadOut}
-use Rattle.run_query.specs.declared.TakenOut.{TakenOut}
-use Rattle.run_query.specs.Until.{readOn, settled-on, list-taken}
-use Rattle.run_query.specs.Outcomes.{refusedBy, readOut, takenOut, queryOutcome, opening-code, read-begun}
-use Rattle.run_query.specs.Outcomes.{take-done}
+use Rattle.outcomes.specs.declared.ReadOut.{ReadOut}
+use Rattle.outcomes.specs.declared.TakenOut.{TakenOut}
+use Rattle.outcomes.specs.Until.{readOn, settled-on, list-taken}
+use Rattle.outcomes.specs.Outcomes.{refusedBy, readOut, takenOut, queryOutcome, opening-code, read-begun}
+use Rattle.outcomes.specs.Outcomes.{take-done}
 use Rattle.run_query.proofs.run.Statement.{statement}
 use Rattle.run_query.proofs.run.Tie as tie
 use Rattle.rules.specs.Tables.{Table, fieldTable, trimTable}

@@ -10,8 +10,8 @@ use Rattle.rules.proofs.Answer as Answers
 use Rattle.rules.specs.declared.Answer.{Answer}
 use Rattle.rules.specs.declared.Answer.the-variants.{Refused, Opened, Read, Settled, Given, NotYet, Finished}
 use Rattle.rules.specs.Numbers.{said, refusal}
-use Rattle.run_query.proofs.refusal.Statement.{statement}
-use Rattle.run_query.proofs.refusal.Tie as tie
+use Rattle.outcomes.proofs.refusal.Statement.{statement}
+use Rattle.outcomes.proofs.refusal.Tie as tie
 
 not-refused : (a : Answer) → OneOf (1 ∷ 2 ∷ 3 ∷ 4 ∷ 5 ∷ 6 ∷ []) (tagOf Answers.the-type a) → 0 ≡ refusal (said a)
 not-refused (Refused n) h =

@@ -16,10 +16,10 @@ use Rattle.rules.specs.Tables.{Table}
 use Rattle.rules.specs.Session.{lentTable, placeCount, places, twoTables, opened, zeros}
 use Rattle.rules.specs.Calls.{step, openCode, openCall, readCall}
 use Rattle.rules.specs.Query.{wasRead, wasGiven, takeUntilFinished, settledSession, list}
-use Rattle.run_query.specs.declared.ReadOut.{ReadOut}
-use Rattle.run_query.specs.declared.TakenOut.{TakenOut}
-use Rattle.run_query.specs.declared.Outcome.{Outcome}
-use Rattle.run_query.specs.Until.{readOn, read-ends, take-ends, settled-on, list-taken}
+use Rattle.outcomes.specs.declared.ReadOut.{ReadOut}
+use Rattle.outcomes.specs.declared.TakenOut.{TakenOut}
+use Rattle.outcomes.specs.declared.Outcome.{Outcome}
+use Rattle.outcomes.specs.Until.{readOn, read-ends, take-ends, settled-on, list-taken}
 use Rattle.session_laws.specs.Zeros.{zeros-read, zeros-take, refused-zeros}
 use Rattle.session_laws.specs.Cards.{lent-again, settled-again}
 
