@@ -26,17 +26,17 @@ impl Fault {
 
 /// Where in its file a refusal is.
 fn place(refusal: &Refusal) -> String {
-    match refusal {
-        Refusal { row: 0, number: 9 } => ", header".to_string(),
-        Refusal { row: 0, .. } => String::new(),
-        Refusal { row, .. } => format!(", row {row}"),
+    match (refusal, refusal.row()) {
+        (_, Some(row)) => format!(", row {row}"),
+        (Refusal::BadColumn { .. }, None) => ", header".to_string(),
+        (_, None) => String::new(),
     }
 }
 
 fn reason(refusal: &Refusal) -> String {
-    let Refusal { number, .. } = refusal;
     format!(
-        "refused by {number}, {}: {}",
+        "refused by {}, {}: {}",
+        refusal.number(),
         refusal.word(),
         refusal.meaning()
     )

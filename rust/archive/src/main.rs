@@ -1,7 +1,6 @@
 //! The pairing list of two strict files of up to 65,535 rows, as the pairing program prints it.
 //!
 //! Reading, checking, pairing and the listing's bytes are the proved library's; here are arguments, files and words.
-use furzeladle::Table;
 use std::ffi::OsString;
 use std::io::{self, Write};
 use std::process::ExitCode;
@@ -15,8 +14,8 @@ use fault::Fault;
 
 /// Both files are checked whole, the field file first, before the query is looked at.
 fn listing(wanted: &Wanted) -> Result<Vec<u8>, Fault> {
-    let field = table::rows(&wanted.field, Table::Field)?;
-    let trim = table::rows(&wanted.trim, Table::Trim)?;
+    let field = table::from(&wanted.field)?;
+    let trim = table::from(&wanted.trim)?;
     let asked = wanted.asked.over(&field, &trim);
     asked.listing().map_err(Fault::Query)
 }
