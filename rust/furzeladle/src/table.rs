@@ -114,8 +114,9 @@ impl<S: Side> TableOf<S> {
     /// # Ok::<(), Refusal>(())
     /// ```
     pub fn from_file(bytes: &[u8]) -> Result<TableOf<S>, Refusal> {
-        let own = Kind::named_by(bytes).filter(|kind| kind.table == S::TABLE);
-        Self::from_file_on(bytes, own.map_or(Card::Old, |kind| kind.card))
+        // a file of the other table is refused by 10 on either card
+        let card = Kind::named_by(bytes).map_or(Card::Old, |kind| kind.card);
+        Self::from_file_on(bytes, card)
     }
 
     /// Reads a strict file that is to be on this card. Refused by 8, 9, 10, 4, 6 or 7.
