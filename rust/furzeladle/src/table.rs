@@ -203,6 +203,15 @@ pub(crate) fn rows_of(
 }
 
 /// One pattern: its number, its sales score, its leading shade in hundredths.
+///
+/// ```
+/// use furzeladle::{Card, Refusal, TrimTable};
+/// let trim = TrimTable::from_numbers([201, 70, 3, 4, 202, 0, 3, 4], Card::Old)?;
+/// let row = trim.row(1).unwrap();
+/// assert_eq!((row.pattern, row.score, row.a, row.b, row.lightness), (201, 70, 3, 4, None));
+/// assert_eq!(trim.rows().filter(|row| row.is_withdrawn()).count(), 1);
+/// # Ok::<(), Refusal>(())
+/// ```
 #[derive(Clone, Copy, Debug, PartialEq, Eq, Hash)]
 #[non_exhaustive]
 pub struct Row {

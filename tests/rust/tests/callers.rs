@@ -256,6 +256,21 @@ fn tables_on_different_cards() {
     }
 }
 
+/// Tables are lent to many threads, and a session goes on in another.
+#[test]
+fn sessions_on_several_threads() {
+    let (_, asked, field, trim) = seeded(11);
+    let wanted = list(asked, field.numbers(), trim.numbers()).unwrap();
+    std::thread::scope(|threads| {
+        for reads in 0..4 {
+            let mut session = Session::open(asked, &field, &trim).unwrap();
+            (0..reads).for_each(|_| _ = session.read());
+            let wanted = &wanted;
+            threads.spawn(move || assert_eq!(&session.into_list(), wanted));
+        }
+    });
+}
+
 /// What is said of a query stands in whatever order it is said, and a query may still be written out.
 #[test]
 fn queries_in_any_order() {
