@@ -134,8 +134,8 @@ impl Kind {
         Kind::ALL.into_iter().find(|kind| kind.number() == number)
     }
 
-    /// The kind that a strict file names: columns 7-12 are five blanks and its digit. Nothing else of the file is looked
-    /// at, so that whatever is wrong with it is left to the reading.
+    /// The kind that a strict file names: columns 7-12 are five blanks and its digit. Nothing else of the file is
+    /// looked at, so that whatever is wrong with it is left to the reading.
     #[must_use]
     pub fn named_by(bytes: &[u8]) -> Option<Kind> {
         let columns = bytes.get(6..12)?;

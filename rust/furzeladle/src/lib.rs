@@ -15,15 +15,15 @@
 //! }
 //! ```
 //!
-//! - A table is a [`FieldTable`] or a [`TrimTable`]: checked whole, from a strict file's bytes or from numbers. It knows
-//!   its shade card.
+//! - A table is a [`FieldTable`] or a [`TrimTable`]: checked whole, from a strict file's bytes or from numbers. It
+//!   knows its shade card.
 //! - A [`Query`] says how many pairs are wanted, how many rows are read at a time and how far apart shades may lie; its
 //!   methods say the rest ([`Asked`]).
-//! - [`Over::list`] and [`Over::listing`] run a query out. A [`Session`] goes step by step, and [`Session::pairs`] gives
-//!   the pairs best first, each before the rest is read.
+//! - [`Over::list`] and [`Over::listing`] run a query out. A [`Session`] goes step by step, and [`Session::pairs`]
+//!   gives the pairs best first, each before the rest is read.
 //! - What does not fit is a [`Refusal`].
-//! - [`check`], [`load`], [`list`] and [`listing`] take plain slices, and so does [`raw`], which has records and refusals
-//!   as numbers too. [`sys`] has the exports as they are.
+//! - [`check`], [`load`], [`list`] and [`listing`] take plain slices, and so does [`raw`], which has records and
+//!   refusals as numbers too. [`sys`] has the exports as they are.
 //!
 //! Rows are numbered from 1. Nothing here trusts its input, and nothing panics.
 //!

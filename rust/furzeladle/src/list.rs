@@ -23,7 +23,8 @@ pub fn root(n: u64) -> Root {
     Root { root, rest }
 }
 
-/// A pair of the list, with the pattern numbers of its rows and their squared distance, as the tables have their shades.
+/// A pair of the list, with the pattern numbers of its rows and their squared distance, as the tables have their
+/// shades.
 #[derive(Clone, Copy, Debug, PartialEq, Eq, Hash)]
 pub struct Listed {
     /// The pair: its sum and its two rows.

@@ -80,12 +80,12 @@ impl<'a> Session<'a> {
     }
 
     /// Takes a session up again over its two tables. Refused by 5 where no session can have the record, by 15 and 4
-    /// where its tables were on another card or had other row counts (tables of as many rows are not told from its own),
-    /// and by 11 where numbers are missing. Of a record that was stored before records had so many, none are: what was
-    /// added since is as it was then, weights 1 and 1, the old card, no tolerances.
+    /// where its tables were on another card or had other row counts (tables of as many rows are not told from its
+    /// own), and by 11 where numbers are missing. Of a record that was stored before records had so many, none are:
+    /// what was added since is as it was then, weights 1 and 1, the old card, no tolerances.
     ///
     /// ```
-    /// # use furzeladle::{Card, FieldTable, Query, Refusal, Session, TrimTable};
+    /// # use furzeladle::{Card, FieldTable, Query, Refusal, Session, TrimTable, RECORD_SIZE};
     /// # let field = FieldTable::from_numbers([101, 90, 0, 0, 102, 80, 100, 0], Card::Old)?;
     /// # let trim = TrimTable::from_numbers([201, 70, 400, 0, 202, 50, 3, 4], Card::Old)?;
     /// let mut session = Session::open(Query::new(2).block(1).radius(5), &field, &trim)?;
@@ -95,7 +95,7 @@ impl<'a> Session<'a> {
     /// let session = Session::from_record(&stored, &field, &trim)?;
     /// assert_eq!(session.depths().0.0, 1);
     /// assert_eq!(session.into_list().pairs[0].pair.sum, 140);
-    /// assert_eq!(Session::from_record(&[7; 210], &field, &trim).unwrap_err(), Refusal::Record);
+    /// assert_eq!(Session::from_record(&[7; RECORD_SIZE], &field, &trim).unwrap_err(), Refusal::Record);
     /// # Ok::<(), Refusal>(())
     /// ```
     pub fn from_record(
@@ -156,8 +156,8 @@ impl<'a> Session<'a> {
         })
     }
 
-    /// The pairs that are still to come, best first, each as soon as it is secured: rows are read as far as the next one
-    /// needs, and no further.
+    /// The pairs that are still to come, best first, each as soon as it is secured: rows are read as far as the next
+    /// one needs, and no further.
     ///
     /// Among pairs of equal sums a later one may rank ahead of one that has come out before it was read; who wants them
     /// in rank, as [`list`](crate::list) has them, calls [`settle`](Session::settle) first.

@@ -1,8 +1,8 @@
 //! The exports of libfurzeladle.a as they are, with the sizes and places of include/furzeladle.h.
 //!
 //! Names and numbers are the header's, less its prefix; what each function does and answers is said there. A slice is a
-//! pointer and a count of elements. The pointer is never null, also at length 0, and what a call writes overlaps nothing
-//! else that is lent to it. [`raw`](crate::raw) has all of them as safe functions.
+//! pointer and a count of elements. The pointer is never null, also at length 0, and what a call writes overlaps
+//! nothing else that is lent to it. [`raw`](crate::raw) has those over slices as safe functions.
 
 /// A query's numbers at least: k, block and radius.
 pub const QUERY_LEAST: usize = 3;

@@ -1,6 +1,7 @@
-//! Sessions over checked tables beside those over plain slices: the same answers and records, pairs that come as soon as
-//! they are secured, sessions taken up again, and records that nobody made.
+//! Sessions over checked tables beside those over plain slices: the same answers and records, pairs that come as soon
+//! as they are secured, sessions taken up again, and records that nobody made.
 use furzeladle::raw;
+use furzeladle::RECORD_SIZE;
 use furzeladle::{list, listing, Asked, Card, FieldTable, FieldTolerance, FieldWeight, Listed, Query, Refusal};
 use furzeladle::{FieldRows, Meaning, Progress, Session, Taken, TrimRows, TrimTable, TrimTolerance, TrimWeight};
 use furzeladle_tests::cases::{asked, card, table, withdraw, Dice, Spread};
@@ -172,7 +173,7 @@ fn sessions_not_taken_up() {
     session.read();
     let record = session.into_record();
     let refused = |record: &[u32], trim: &TrimTable| Session::from_record(record, &field, trim).map(drop).unwrap_err();
-    assert_eq!(refused(&[0; 210], &trim), Refusal::Record);
+    assert_eq!(refused(&[0; RECORD_SIZE], &trim), Refusal::Record);
     let deeper = |at: usize, number: u32| {
         let mut record = record;
         record[at] = number;

@@ -1,9 +1,9 @@
 //! The library over plain slices and flat records, refusals by their numbers: for who has slices, for who keeps
 //! records, and for tests.
 //!
-//! It is as safe as what stands above it, and less is a matter of types: a table is any `&[i32]`, four numbers to a row
-//! on the old card and five on the new one, a query says which card it is about (the old one where it says nothing), and
-//! each call checks whatever it is given. What does not fit is refused by the rules' number.
+//! All of it is safe, but less of it is a matter of types: a table is any `&[i32]`, four numbers to a row on the old
+//! card and five on the new one, a query says which card it is about (the old one where it says nothing), and each call
+//! checks whatever it is given. What does not fit is refused by the rules' number.
 //!
 //! ```
 //! use furzeladle::raw::{Refusal, Session};

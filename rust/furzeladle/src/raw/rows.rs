@@ -60,8 +60,8 @@ impl Rows {
     }
 }
 
-/// How many rows the numbers of a whole table are, on this card. Refused by 4, or by 6 or 7 of the first row that is not
-/// legal, with its number.
+/// How many rows the numbers of a whole table are, on this card. Refused by 4, or by 6 or 7 of the first row that is
+/// not legal, with its number.
 ///
 /// The library does the checking: of a session that has read a table to some depth, a take checks every row down to
 /// there. So a session is opened over the table as fields, and its record is made to say that all of them are read. No

@@ -56,8 +56,8 @@ impl Session {
     }
 
     /// The same of numbers that may have been stored before a record had as many: those that were added since are what
-    /// they stand for in such a session, weights 1 and 1, the old card, no tolerances. Refused by 11 where even the pair
-    /// places are cut; numbers behind a record are left.
+    /// they stand for in such a session, weights 1 and 1, the old card, no tolerances. Refused by 11 where even the
+    /// pair places are cut; numbers behind a record are left.
     pub fn from_numbers(numbers: &[u32]) -> Result<Session, Refusal> {
         if numbers.len() < sys::AT_FIELD_WEIGHT {
             return Err(Refusal { number: 11, row: 0 });
@@ -122,8 +122,8 @@ impl Session {
     /// Takes the next pair. Refused by 5, 4, 6 or 7: the session is as it was.
     pub fn take(&mut self, field: &[i32], trim: &[i32]) -> Result<Taken, Refusal> {
         let mut pair = [0; sys::PAIR_SIZE];
-        // SAFETY: references to so many numbers each; record and pair are written, and nothing overlaps what is borrowed
-        // for that.
+        // SAFETY: references to so many numbers each; record and pair are written, and nothing overlaps what is
+        // borrowed for that.
         let answer = unsafe {
             sys::furzeladle_take(
                 field.as_ptr(),
