@@ -42,6 +42,7 @@ mod refusal;
 mod session;
 pub mod sys;
 mod table;
+mod version;
 pub use asked::{Asked, FieldTolerance, FieldWeight, Meaning, Query, TrimTolerance, TrimWeight};
 pub use card::{Card, Kind, Table};
 pub use list::{list, listing, root, List, Listed, Over, Root};
@@ -51,6 +52,7 @@ pub use sys::RECORD_SIZE;
 pub use table::{
     AnyTable, Field, FieldRows, FieldTable, Row, Side, TableOf, Trim, TrimRows, TrimTable,
 };
+pub use version::{version, Version};
 
 /// A strict file's bytes, checked alone: its row count. The kind is a [`Kind`], or its number. No row goes with a
 /// refusal; [`load`] and [`AnyTable::from_file`] tell it.

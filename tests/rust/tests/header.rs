@@ -72,4 +72,5 @@ fn version() {
     let names = names();
     let [major, minor, patch] = ["MAJOR", "MINOR", "PATCH"].map(|part| names[format!("VERSION_{part}").as_str()]);
     assert_eq!(format!("{major}.{minor}.{patch}"), env!("CARGO_PKG_VERSION"));
+    assert_eq!(furzeladle::version().to_string(), env!("CARGO_PKG_VERSION"));
 }
