@@ -6,6 +6,7 @@ use std::fs;
 use std::io::Write;
 use std::net::Shutdown;
 use std::os::fd::OwnedFd;
+use std::os::unix::ffi::OsStrExt;
 use std::os::unix::net::UnixStream;
 use std::path::{Path, PathBuf};
 use std::process::{Command, Output, Stdio};
@@ -613,6 +614,30 @@ fn a_page_holds_no_markup_of_a_name() {
     let page = done(&output, "page");
     assert!(page.contains("rows of &lt;i&gt;F&amp;T&lt;|i&gt;.TAB and "));
     assert!(!page.contains("<i>") && !page.contains("<script") && !page.contains("://"));
+}
+
+/// A name is any bytes that the system takes.
+#[test]
+fn names_that_are_no_text() {
+    let folder = Folder::with_tables("bytes");
+    let name = OsStr::from_bytes(b"F\xff");
+    fs::rename(folder.0.join("F"), folder.0.join(name)).unwrap();
+    let list = |words: &[&OsStr]| {
+        let mut command = Command::new(COMMAND);
+        command.arg("list").args(words).current_dir(&folder.0);
+        command.output().unwrap()
+    };
+    let page = done(&list(&[name, "T".as_ref(), "--html=-".as_ref()]), "page");
+    assert!(page.contains(" rows of F\u{fffd} and "));
+    let [trim, html, out] = ["T", "--html", "page\u{e4}"].map(OsStr::new);
+    done(
+        &list(&[name, trim, html, OsStr::from_bytes(b"page\xe4")]),
+        "bytes",
+    );
+    done(&list(&[name, trim, html, out]), "text");
+    assert_eq!(fs::read_dir(&folder.0).unwrap().count(), 4);
+    let output = list(&[name, trim, OsStr::from_bytes(b"--html=\xe4")]);
+    assert!(not_done(&output, 2, "joined").starts_with("furzeladle list: unknown option "));
 }
 
 /// Debian's validator has nothing to say of the stored pages, where it is installed.

@@ -1,5 +1,5 @@
 //! `furzeladle list`: the pairing list of two strict files.
-use crate::arguments::{Known, Wrong};
+use crate::arguments::{Known, Words, Wrong};
 use crate::fault::Fault;
 use crate::formats::Format;
 use crate::source::Source;
@@ -31,6 +31,7 @@ enum Page {
     Output,
 }
 
+/// What the words ask for.
 struct Wanted {
     field: Source,
     trim: Source,
@@ -72,11 +73,19 @@ impl Wanted {
             trim,
             asked: asked.tolerating(FieldTolerance(t), TrimTolerance(u), meaning),
             format: words.choice("--format", &Format::ALL)?,
-            page: words.value("--html").map(|out| match out.to_str() {
-                Some("-") => Page::Output,
-                _ => Page::File(out.into()),
-            }),
+            page: page(&words)?,
         })
+    }
+}
+
+/// Standard output takes the list or the page, not both.
+fn page(words: &Words) -> Result<Option<Page>, Wrong> {
+    match words.value("--html") {
+        Some(out) if out == "-" && words.has("--format") => {
+            Err("--format and '--html -' both want standard output".to_string())
+        }
+        Some(out) if out == "-" => Ok(Some(Page::Output)),
+        out => Ok(out.map(|path| Page::File(path.into()))),
     }
 }
 
@@ -91,7 +100,7 @@ pub fn run(given: &[OsString]) -> Result<(), Fault> {
         // nothing else is wanted of it: the library's own bytes
         return output::print(&over.listing().map_err(Fault::Query)?);
     }
-    let list = found(over)?;
+    let list = list(over)?;
     let (field, trim) = (&field, &trim);
     let found = Found {
         asked,
@@ -103,7 +112,7 @@ pub fn run(given: &[OsString]) -> Result<(), Fault> {
 }
 
 /// The list, with progress on a terminal.
-fn found(over: Over) -> Result<List, Fault> {
+fn list(over: Over) -> Result<List, Fault> {
     if !progress::is_shown() {
         return over.list().map_err(Fault::Query);
     }

@@ -17,13 +17,20 @@ pub enum Standing {
     Nothing,
     /// A file of these very bytes.
     Same,
+    /// Something else.
     Other,
 }
 
+/// A file of another length is not read: it may be of any.
 pub fn standing(path: &Path, bytes: &[u8]) -> Standing {
-    match fs::read(path) {
-        Ok(found) if found == bytes => Standing::Same,
+    match fs::metadata(path) {
         Err(error) if error.kind() == io::ErrorKind::NotFound => Standing::Nothing,
+        Ok(about) if about.is_file() && about.len() == bytes.len() as u64 => {
+            match fs::read(path).is_ok_and(|found| found == bytes) {
+                true => Standing::Same,
+                false => Standing::Other,
+            }
+        }
         _ => Standing::Other,
     }
 }
