@@ -313,6 +313,8 @@ fn arguments_that_are_wrong() {
         );
         assert!(said.ends_with(&format!("'furzeladle {subcommand} --help' says more.\n")));
     }
+    let unnamed = not_done(&run(&["sample", ""]), 2, "no name");
+    assert!(unnamed.starts_with("furzeladle sample: takes one folder, and '' names none\n"));
     assert!(!folder.0.join("a").exists());
     for line in ["--version 1", "--help list", "list-all", "--list F T"] {
         assert!(not_done(&folder.run(line), 2, line).starts_with("usage: furzeladle list "));
@@ -572,14 +574,14 @@ fn pages_replace_pages_alone() {
     let field = folder.read("F");
     for out in ["F", "T"] {
         let said = not_done(&folder.run(&format!("list F T --html {out}")), 3, out);
-        assert_eq!(
-            said,
-            format!(
-                "furzeladle: {out}: left as it is: it is there already and is no page; name \
-                 another for --html\n"
-            )
-        );
+        let why = "it is there already and is no page of a list";
+        assert_eq!(said, format!("furzeladle: {out}: left as it is: {why}\n"));
     }
+    folder.file(
+        "index.html",
+        b"<!DOCTYPE html>\n<html lang=\"en\">\n<head>\n<title>Ours</title>",
+    );
+    not_done(&folder.run("list F T --html index.html"), 3, "another page");
     assert_eq!(folder.read("F"), field);
     folder.file("empty", b"");
     done(&folder.run("list F T --html empty"), "empty");
@@ -702,21 +704,32 @@ fn nothing_near(folder: &Folder, rows: i32) {
     folder.file("T", &file(2, &table(1)));
 }
 
-/// On a terminal the rows read so far are shown, and wiped; the list is the same. `script` lends a terminal where it is
-/// installed.
+/// What a command shows on a terminal that `script` lends it. None where there is no such thing.
+fn on_a_terminal(folder: &Folder, line: &str) -> Option<String> {
+    let script = |line: &str| {
+        let mut script = Command::new("script");
+        script
+            .args(["-qec", line, "/dev/null"])
+            .current_dir(&folder.0);
+        script.stdin(Stdio::null()).output().ok()
+    };
+    script("true").filter(|output| output.status.success())?;
+    let output = script(line)?;
+    assert_eq!(output.status.code(), Some(0), "{line}");
+    Some(out(&output))
+}
+
+/// The rows read so far are shown, and wiped; the list is the same.
 #[test]
 fn progress_on_a_terminal() {
     let folder = Folder::new("terminal");
     nothing_near(&folder, 14_000);
     let list = "list F T --radius 0 --block 1";
     let wanted = done(&folder.run(list), "no terminal");
-    let mut script = Command::new("script");
-    script.args(["-qec", &format!("{COMMAND} {list} >listing"), "/dev/null"]);
-    let Ok(output) = script.current_dir(&folder.0).stdin(Stdio::null()).output() else {
-        return println!("no script here");
+    let Some(shown) = on_a_terminal(&folder, &format!("{COMMAND} {list} >listing")) else {
+        return println!("no terminal here");
     };
     assert_eq!(folder.read("listing"), wanted.as_bytes());
-    let shown = out(&output);
     let lines: Vec<&str> = shown
         .split('\r')
         .filter(|line| !line.trim().is_empty())
@@ -729,4 +742,24 @@ fn progress_on_a_terminal() {
         );
     }
     assert!(shown.ends_with(" \r"), "{shown:?}");
+}
+
+/// On a terminal a list is found step by step: every stored one is the same.
+#[test]
+fn lists_on_a_terminal() {
+    let folder = Folder::new("steps");
+    for case in folders("archive/stored") {
+        for format in ["listing", "csv", "json"] {
+            let tables = format!("{0}/FIELD.TAB {0}/TRIM.TAB", case.display());
+            let args = stored(&case, "args");
+            let list = format!("{COMMAND} list {tables} {} --format {format}", args.trim());
+            let Some(shown) = on_a_terminal(&folder, &format!("{list} >list")) else {
+                return println!("no terminal here");
+            };
+            assert_eq!(
+                (shown.as_str(), folder.read("list")),
+                ("", stored(&case, format).into())
+            );
+        }
+    }
 }

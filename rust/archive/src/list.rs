@@ -73,13 +73,13 @@ impl Wanted {
             trim,
             asked: asked.tolerating(FieldTolerance(t), TrimTolerance(u), meaning),
             format: words.choice("--format", &Format::ALL)?,
-            page: page(&words)?,
+            page: wanted_page(&words)?,
         })
     }
 }
 
 /// Standard output takes the list or the page, not both.
-fn page(words: &Words) -> Result<Option<Page>, Wrong> {
+fn wanted_page(words: &Words) -> Result<Option<Page>, Wrong> {
     match words.value("--html") {
         Some(out) if out == "-" && words.has("--format") => {
             Err("--format and '--html -' both want standard output".to_string())
@@ -135,7 +135,7 @@ fn write(wanted: &Wanted, found: &Found) -> Result<(), Fault> {
 /// A table that was named by mistake is no page, and stays.
 fn write_page(path: &Path, page: &str) -> Result<(), Fault> {
     if output::begins_otherwise(path, page::BEGINNING.as_bytes()) {
-        let why = "it is there already and is no page; name another for --html";
+        let why = "it is there already and is no page of a list";
         return Err(Fault::Kept(path.into(), why));
     }
     output::replace(path, page.as_bytes())

@@ -17,6 +17,7 @@ const KNOWN: Known = Known {
     bare: &["--force"],
 };
 
+/// What the words ask for.
 struct Wanted {
     folder: PathBuf,
     rows: [u32; 2],
@@ -29,6 +30,9 @@ impl Wanted {
     fn of(given: &[OsString]) -> Result<Wanted, Wrong> {
         let words = KNOWN.sort(given)?;
         let [folder] = words.exactly("one folder")?;
+        if folder.is_empty() {
+            return Err("takes one folder, and '' names none".to_string());
+        }
         let (field, trim) = words.two("--rows", (38_000, 12_000))?;
         Ok(Wanted {
             folder: folder.into(),

@@ -8,8 +8,10 @@ use furzeladle::{Listed, Row};
 mod words;
 use words::hundredths;
 
-/// How every page begins.
-pub const BEGINNING: &str = "<!DOCTYPE html>\n<html lang=\"en\">";
+/// How every page begins, and no other file: by it an earlier page is known.
+pub const BEGINNING: &str = "<!DOCTYPE html>\n<html lang=\"en\">\n<head>\n\
+                             <meta charset=\"utf-8\">\n\
+                             <meta name=\"generator\" content=\"furzeladle\">\n";
 
 const STYLE: &str = include_str!("page.css");
 
@@ -47,8 +49,7 @@ pub fn page(found: &Found, field: &Source, trim: &Source) -> String {
     let reading = words::reading(found, &field.short_name(), &trim.short_name());
     let legend = legend(found, &pairs);
     format!(
-        "{BEGINNING}\n<head>\n<meta charset=\"utf-8\">\n\
-         <meta name=\"viewport\" content=\"width=device-width, initial-scale=1\">\n\
+        "{BEGINNING}<meta name=\"viewport\" content=\"width=device-width, initial-scale=1\">\n\
          <title>{}</title>\n<style>\n{STYLE}</style>\n</head>\n<body>\n<main>\n\
          <h1>Pairing list</h1>\n{}<h2>How it was found</h2>\n<p>Read: {reading}</p>\n\
          <p>Asked: {}</p>\n{legend}</main>\n</body>\n</html>\n",
@@ -95,15 +96,26 @@ fn row(pair: &Shown) -> String {
 fn pattern(row: &Row) -> String {
     let colour = colour(row);
     let mark = if colour.is_clipped { MARK } else { "" };
-    let lightness = row.lightness.map(|l| format!("L* {} ", hundredths(l)));
-    let shade = format!("a* {} b* {}", hundredths(row.a), hundredths(row.b));
+    let (number, shade) = (row.pattern, shade(row));
     format!(
-        "<div><p><b>{}</b>{mark}<br><small>{}{shade}</small></p>\
+        "<div><p><b>{number}</b>{mark}<br><small>{shade}</small></p>\
          <svg viewBox=\"0 0 1 1\" preserveAspectRatio=\"none\" aria-hidden=\"true\">\
-         <rect width=\"1\" height=\"1\" fill=\"{colour}\"/></svg></div>",
-        row.pattern,
-        lightness.unwrap_or_default(),
+         <rect width=\"1\" height=\"1\" fill=\"{colour}\"/></svg></div>"
     )
+}
+
+/// A shade in numbers. Lines break between its coordinates alone.
+fn shade(row: &Row) -> String {
+    let coordinates = [
+        ("L*", row.lightness),
+        ("a*", Some(row.a)),
+        ("b*", Some(row.b)),
+    ];
+    let known = coordinates
+        .iter()
+        .filter_map(|(name, value)| value.map(|value| (name, value)));
+    let words = known.map(|(name, value)| format!("{name}\u{a0}{}", hundredths(value)));
+    words.collect::<Vec<_>>().join(" ")
 }
 
 fn colour(row: &Row) -> Colour {
