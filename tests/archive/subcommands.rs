@@ -117,7 +117,7 @@ fn stored(case: &Path, name: &str) -> String {
 #[test]
 fn stored_forms() {
     let cases = folders("archive/stored");
-    assert!(cases.len() >= 7);
+    assert!(cases.len() >= 8);
     for case in cases {
         let what = case.display().to_string();
         let list = format!("list FIELD.TAB TRIM.TAB {}", stored(&case, "args"));
