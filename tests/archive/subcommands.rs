@@ -334,7 +334,7 @@ fn help_and_version() {
     assert!(text.starts_with("usage: furzeladle list "));
     assert!(text.contains("furzeladle FIELD TRIM K BLOCK RADIUS [FIELD-WEIGHT TRIM-WEIGHT]"));
     assert_eq!(done(&said("-h"), "-h"), text);
-    let version = format!("furzeladle {}\n", env!("CARGO_PKG_VERSION"));
+    let version = format!("furzeladle {0} (library {0})\n", env!("CARGO_PKG_VERSION"));
     assert_eq!(done(&said("--version"), ""), version);
     assert_eq!(done(&said("-V"), ""), version);
     // help is help behind anything but --

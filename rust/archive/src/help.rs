@@ -9,7 +9,11 @@ pub const LIST: Help = Help(include_str!("help/list.txt"));
 pub const CHECK: Help = Help(include_str!("help/check.txt"));
 pub const SAMPLE: Help = Help(include_str!("help/sample.txt"));
 
-pub const VERSION: &str = concat!("furzeladle ", env!("CARGO_PKG_VERSION"), "\n");
+/// The command's version, and that of the library which it was linked with.
+pub fn version() -> String {
+    let (command, library) = (env!("CARGO_PKG_VERSION"), furzeladle::version());
+    format!("furzeladle {command} (library {library})\n")
+}
 
 /// All forms of the command, and where there is more.
 pub fn usage() -> String {

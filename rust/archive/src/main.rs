@@ -77,7 +77,7 @@ fn run(given: &[OsString]) -> Result<(), Fault> {
     }
     match first.to_str() {
         Some("--help" | "-h") if rest.is_empty() => output::print(help::MAIN.0.as_bytes()),
-        Some("--version" | "-V") if rest.is_empty() => output::print(help::VERSION.as_bytes()),
+        Some("--version" | "-V") if rest.is_empty() => output::print(help::version().as_bytes()),
         _ => old::run(given),
     }
 }
