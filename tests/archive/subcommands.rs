@@ -219,7 +219,7 @@ fn options_in_any_order() {
     ] {
         assert_eq!(list(line), wanted, "{line}");
     }
-    let defaults = "list F T --pairs 10 --block 128 --radius 255 --weights 1,1 --tolerance 0,0";
+    let defaults = "list F T --pairs 10 --block 64 --radius 255 --weights 1,1 --tolerance 0,0";
     assert_eq!(list("list F T"), list(defaults));
     assert_eq!(list("list F T"), list("list F T --format=listing"));
     assert_eq!(list("list F T").lines().count(), 6);

@@ -10,9 +10,9 @@ use crate::{Card, FieldTable, Over, Table, TrimTable};
 /// ```
 /// use furzeladle::{FieldWeight, Query, TrimWeight};
 /// let query = Query::new(10).radius(128);
-/// assert_eq!(query, Query { k: 10, block: 128, radius: 128 });
-/// let asked = query.weights(FieldWeight(1), TrimWeight(3)).block(64);
-/// assert_eq!((asked.query.block, asked.trim_weight), (64, TrimWeight(3)));
+/// assert_eq!(query, Query { k: 10, block: 64, radius: 128 });
+/// let asked = query.weights(FieldWeight(1), TrimWeight(3)).block(16);
+/// assert_eq!((asked.query.block, asked.trim_weight), (16, TrimWeight(3)));
 /// ```
 #[derive(Clone, Copy, Debug, PartialEq, Eq, Hash)]
 pub struct Query {
@@ -74,8 +74,8 @@ pub struct Asked {
 }
 
 impl Query {
-    /// The block where none is said.
-    pub const BLOCK: u32 = 128;
+    /// The block where none is said: over the benchmark's radii the one that does best (docs/BENCHMARKS.md).
+    pub const BLOCK: u32 = 64;
     /// The radius where none is said.
     pub const RADIUS: u32 = 255;
 
