@@ -16,25 +16,152 @@
 extern "C" {
 #endif
 
-/* The shed's numbers for refusals. */
+/* ---- Version
+ *
+ * This header's, as one number and by its parts. furzeladle_version tells that of the library which was linked. A
+ * greater minor number adds names and raises sizes, and leaves the rest: what was written against a smaller one is
+ * compiled again and gets the same answers. */
+#define FURZELADLE_VERSION_MAJOR 1
+#define FURZELADLE_VERSION_MINOR 0
+#define FURZELADLE_VERSION_PATCH 0
+#define FURZELADLE_VERSION \
+    (10000 * FURZELADLE_VERSION_MAJOR + 100 * FURZELADLE_VERSION_MINOR + FURZELADLE_VERSION_PATCH)
+
+uint32_t furzeladle_version(void);
+
+/* ---- Sizes
+ *
+ * Macros, so that a caller may both allocate by them and ask for them in #if. Everything else that has a name is an
+ * enumerator. Allocate by the name: a request may raise a number. */
+
+/* A row's numbers on each card, its bytes in a strict file, the bytes of a file's header, and the rows of the longest
+ * table. */
+#define FURZELADLE_OLD_ROW 4
+#define FURZELADLE_NEW_ROW 5
+#define FURZELADLE_OLD_ROW_BYTES 27
+#define FURZELADLE_NEW_ROW_BYTES 33
+#define FURZELADLE_HEADER_BYTES 13
+#define FURZELADLE_MOST_ROWS 65535
+
+/* How many numbers a query has at least, with both weights, and in all. FURZELADLE_QUERY_MOST is from before there were
+ * kinds and stands: who lends a query of that size asks about the old card, as ever. FURZELADLE_QUERY_ALL grew from 7:
+ * zeros behind the kinds ask for what was asked without them. */
+#define FURZELADLE_QUERY_LEAST 3
+#define FURZELADLE_QUERY_MOST 5
+#define FURZELADLE_QUERY_ALL 10
+
+/* The numbers of a session's record, of a pair that a take gives, and of a place that a show gives. */
+#define FURZELADLE_RECORD_SIZE 210
+#define FURZELADLE_PAIR_SIZE 3
+#define FURZELADLE_PLACE_SIZE 3
+
+/* What a whole query wants lent for its answer: so many numbers; so many with the roots, which stand from
+ * FURZELADLE_ROOTS on; or so many bytes of a listing. */
+#define FURZELADLE_QUERY_SIZE 387
+#define FURZELADLE_ROOTS 387
+#define FURZELADLE_ROOTS_SIZE 515
+#define FURZELADLE_LISTING_SIZE 2668
+
+/* ---- Names, in three families: FURZELADLE_REFUSED_, FURZELADLE_ANSWER_, FURZELADLE_AT_. Those without a family are
+ * from before and stay: the same numbers. */
+
+/* Refusals, by the shed's numbers. A call that refuses answers minus one of them. */
 enum furzeladle_refusal {
-    FURZELADLE_LIST_LENGTH = 1,
-    FURZELADLE_BLOCK = 2,
-    FURZELADLE_RADIUS = 3,
-    FURZELADLE_TABLE_SIZE = 4,
-    FURZELADLE_RECORD = 5,
-    FURZELADLE_ROW_LIMIT = 6,
-    FURZELADLE_ROW_ORDER = 7,
-    FURZELADLE_CUT_FILE = 8,
-    FURZELADLE_BAD_COLUMN = 9,
-    FURZELADLE_KIND = 10,
-    FURZELADLE_SHORT_SLICE = 11,
-    FURZELADLE_WEIGHT = 12,
-    FURZELADLE_CARDS = 15,
-    FURZELADLE_TOLERANCE = 16
+    FURZELADLE_REFUSED_LIST_LENGTH = 1,
+    FURZELADLE_REFUSED_BLOCK = 2,
+    FURZELADLE_REFUSED_RADIUS = 3,
+    FURZELADLE_REFUSED_TABLE_SIZE = 4,
+    FURZELADLE_REFUSED_RECORD = 5,
+    FURZELADLE_REFUSED_ROW_LIMIT = 6,
+    FURZELADLE_REFUSED_ROW_ORDER = 7,
+    FURZELADLE_REFUSED_CUT_FILE = 8,
+    FURZELADLE_REFUSED_BAD_COLUMN = 9,
+    FURZELADLE_REFUSED_KIND = 10,
+    FURZELADLE_REFUSED_SHORT_SLICE = 11,
+    FURZELADLE_REFUSED_WEIGHT = 12,
+    FURZELADLE_REFUSED_CARDS = 15,
+    FURZELADLE_REFUSED_TOLERANCE = 16,
+    /* from before */
+    FURZELADLE_LIST_LENGTH = FURZELADLE_REFUSED_LIST_LENGTH,
+    FURZELADLE_BLOCK = FURZELADLE_REFUSED_BLOCK,
+    FURZELADLE_RADIUS = FURZELADLE_REFUSED_RADIUS,
+    FURZELADLE_TABLE_SIZE = FURZELADLE_REFUSED_TABLE_SIZE,
+    FURZELADLE_RECORD = FURZELADLE_REFUSED_RECORD,
+    FURZELADLE_ROW_LIMIT = FURZELADLE_REFUSED_ROW_LIMIT,
+    FURZELADLE_ROW_ORDER = FURZELADLE_REFUSED_ROW_ORDER,
+    FURZELADLE_CUT_FILE = FURZELADLE_REFUSED_CUT_FILE,
+    FURZELADLE_BAD_COLUMN = FURZELADLE_REFUSED_BAD_COLUMN,
+    FURZELADLE_KIND = FURZELADLE_REFUSED_KIND,
+    FURZELADLE_SHORT_SLICE = FURZELADLE_REFUSED_SHORT_SLICE,
+    FURZELADLE_WEIGHT = FURZELADLE_REFUSED_WEIGHT,
+    FURZELADLE_CARDS = FURZELADLE_REFUSED_CARDS,
+    FURZELADLE_TOLERANCE = FURZELADLE_REFUSED_TOLERANCE
 };
 
-/* The kinds of tables and of strict files. On the old card a shade is a and b, on the new one a, b and L. */
+/* Answers of open, read, take and show where they do not refuse. */
+enum furzeladle_answer {
+    FURZELADLE_ANSWER_DONE = 0,     /* open: accepted; read: a block was read; show: written */
+    FURZELADLE_ANSWER_SETTLED = 1,  /* read: nothing unread can matter, nothing was read */
+    FURZELADLE_ANSWER_GIVEN = 2,    /* take: a pair came out */
+    FURZELADLE_ANSWER_NOT_YET = 3,  /* take: no held pair is secured yet; read on */
+    FURZELADLE_ANSWER_FINISHED = 4, /* take: the list is complete */
+    /* from before */
+    FURZELADLE_DONE = FURZELADLE_ANSWER_DONE,
+    FURZELADLE_SETTLED = FURZELADLE_ANSWER_SETTLED,
+    FURZELADLE_GIVEN = FURZELADLE_ANSWER_GIVEN,
+    FURZELADLE_NOT_YET = FURZELADLE_ANSWER_NOT_YET,
+    FURZELADLE_FINISHED = FURZELADLE_ANSWER_FINISHED
+};
+
+/* Places in a session's record, which is FURZELADLE_RECORD_SIZE numbers that belong to the caller. It may be kept,
+ * copied, stored and taken up again later. Any numbers may come in: a record that no session can have is refused by 5.
+ * One of 207 numbers, stored before there were tolerances, goes on once three zeros are written behind them; one of
+ * 206, stored before there were cards, once FURZELADLE_OLD_CARD and three zeros are; one of 204, stored before there
+ * were weights, once 1, 1, FURZELADLE_OLD_CARD and three zeros are. */
+enum furzeladle_record {
+    FURZELADLE_AT_K = 0,            /* the query: list length, 1 to 64 */
+    FURZELADLE_AT_BLOCK = 1,        /* block size in rows, 1 to 1,024 */
+    FURZELADLE_AT_RADIUS = 2,       /* radius, 0 to 40,000 */
+    FURZELADLE_AT_FIELD_ROWS = 3,   /* row counts */
+    FURZELADLE_AT_TRIM_ROWS = 4,
+    FURZELADLE_AT_FIELD_DEPTH = 5,  /* rows read */
+    FURZELADLE_AT_TRIM_DEPTH = 6,
+    FURZELADLE_AT_LAST = 7,         /* the table read last: 0 none, 1 field, 2 trim */
+    FURZELADLE_AT_OUT = 8,          /* pairs out */
+    FURZELADLE_AT_HELD = 9,         /* pairs held */
+    FURZELADLE_AT_JOINED = 10,      /* block pairs joined, at most 4,294,836,225: this number .. */
+    FURZELADLE_AT_JOINED_HIGH = 11, /* .. and its upper 32 bits, 0 in every session's record */
+    FURZELADLE_AT_PAIRS = 12,       /* 64 places of three numbers: sum, field row, trim row; zeros beyond those held */
+    FURZELADLE_AT_FIELD_WEIGHT = 204, /* the query's weights, 1 to 9 */
+    FURZELADLE_AT_TRIM_WEIGHT = 205,
+    FURZELADLE_AT_CARD = 206,            /* the card of both tables, 2 or 3 */
+    FURZELADLE_AT_FIELD_TOLERANCE = 207, /* the query's tolerances, 0 to 500 */
+    FURZELADLE_AT_TRIM_TOLERANCE = 208,
+    FURZELADLE_AT_MEANING = 209, /* and its meaning: 0 possibly, any other number surely */
+    /* from before */
+    FURZELADLE_K = FURZELADLE_AT_K,
+    FURZELADLE_BLOCK_ROWS = FURZELADLE_AT_BLOCK,
+    FURZELADLE_RADIUS_AT = FURZELADLE_AT_RADIUS,
+    FURZELADLE_FIELD_ROWS = FURZELADLE_AT_FIELD_ROWS,
+    FURZELADLE_TRIM_ROWS = FURZELADLE_AT_TRIM_ROWS,
+    FURZELADLE_FIELD_DEPTH = FURZELADLE_AT_FIELD_DEPTH,
+    FURZELADLE_TRIM_DEPTH = FURZELADLE_AT_TRIM_DEPTH,
+    FURZELADLE_LAST = FURZELADLE_AT_LAST,
+    FURZELADLE_OUT = FURZELADLE_AT_OUT,
+    FURZELADLE_HELD = FURZELADLE_AT_HELD,
+    FURZELADLE_JOINED = FURZELADLE_AT_JOINED,
+    FURZELADLE_JOINED_HIGH = FURZELADLE_AT_JOINED_HIGH,
+    FURZELADLE_PAIRS = FURZELADLE_AT_PAIRS,
+    FURZELADLE_FIELD_WEIGHT = FURZELADLE_AT_FIELD_WEIGHT,
+    FURZELADLE_TRIM_WEIGHT = FURZELADLE_AT_TRIM_WEIGHT,
+    FURZELADLE_CARD = FURZELADLE_AT_CARD,
+    FURZELADLE_FIELD_TOLERANCE = FURZELADLE_AT_FIELD_TOLERANCE,
+    FURZELADLE_TRIM_TOLERANCE = FURZELADLE_AT_TRIM_TOLERANCE,
+    FURZELADLE_MEANING = FURZELADLE_AT_MEANING
+};
+
+/* What callers lend: the kinds of tables and of strict files; the cards, each by the number of a shade's coordinates, a
+ * and b on the old one, a, b and L on the new one; and what is made of tolerances. */
 enum furzeladle_kind {
     FURZELADLE_FIELD = 1,
     FURZELADLE_TRIM = 2,
@@ -42,19 +169,11 @@ enum furzeladle_kind {
     FURZELADLE_NEW_TRIM = 4
 };
 
-/* A card goes by the number of a shade's coordinates. */
 enum furzeladle_card { FURZELADLE_OLD_CARD = 2, FURZELADLE_NEW_CARD = 3 };
 
-/* A row's numbers on each card, its bytes in a strict file, the bytes of a file's header, and the rows of the longest
- * table. */
-enum {
-    FURZELADLE_OLD_ROW = 4,
-    FURZELADLE_NEW_ROW = 5,
-    FURZELADLE_OLD_ROW_BYTES = 27,
-    FURZELADLE_NEW_ROW_BYTES = 33,
-    FURZELADLE_HEADER_BYTES = 13,
-    FURZELADLE_MOST_ROWS = 65535
-};
+enum furzeladle_meaning { FURZELADLE_POSSIBLY = 0, FURZELADLE_SURELY = 1 };
+
+/* ---- Strict files */
 
 /* A strict file's `len` bytes, checked alone. `kind` is the wanted one, FURZELADLE_FIELD to FURZELADLE_NEW_TRIM.
  * The row count (0 to 65,535), or minus the refusal. */
@@ -86,55 +205,7 @@ int32_t furzeladle_load(const uint8_t *bytes, size_t len, int32_t kind, int32_t 
  * With tolerances a shade may lie anywhere within its table's, on every coordinate. A pair qualifies possibly if some
  * such places of its two shades lie within the radius, surely if all do. The meaning FURZELADLE_POSSIBLY asks for the
  * first, every other number for the second; without tolerances they are the same. A surely query that no two shades
- * can meet is settled as it opens: nothing is read, and the list is empty.
- *
- * How many numbers it has at least, with both weights, and in all. FURZELADLE_QUERY_MOST is from before there were
- * kinds and stands: who lends a query of that size asks about the old card, as ever. FURZELADLE_QUERY_ALL grew from 7:
- * zeros behind the kinds ask for what was asked without them. */
-enum { FURZELADLE_QUERY_LEAST = 3, FURZELADLE_QUERY_MOST = 5, FURZELADLE_QUERY_ALL = 10 };
-
-/* What is made of tolerances. */
-enum furzeladle_meaning { FURZELADLE_POSSIBLY = 0, FURZELADLE_SURELY = 1 };
-
-/* A session's record is FURZELADLE_RECORD_SIZE numbers that belong to the caller. It may be kept, copied, stored and
- * taken up again later. Any numbers may come in: a record that no session can have is refused by 5. One of 207 numbers,
- * stored before there were tolerances, goes on once three zeros are written behind them; one of 206, stored before there
- * were cards, once FURZELADLE_OLD_CARD and three zeros are; one of 204, stored before there were weights, once 1, 1,
- * FURZELADLE_OLD_CARD and three zeros are. */
-enum furzeladle_record {
-    FURZELADLE_K = 0,           /* the query: list length, 1 to 64 */
-    FURZELADLE_BLOCK_ROWS = 1,  /* block size in rows, 1 to 1,024 */
-    FURZELADLE_RADIUS_AT = 2,   /* radius, 0 to 40,000 */
-    FURZELADLE_FIELD_ROWS = 3,  /* row counts */
-    FURZELADLE_TRIM_ROWS = 4,
-    FURZELADLE_FIELD_DEPTH = 5, /* rows read */
-    FURZELADLE_TRIM_DEPTH = 6,
-    FURZELADLE_LAST = 7,        /* the table read last: 0 none, 1 field, 2 trim */
-    FURZELADLE_OUT = 8,         /* pairs out */
-    FURZELADLE_HELD = 9,        /* pairs held */
-    FURZELADLE_JOINED = 10,     /* block pairs joined, at most 4,294,836,225: this number .. */
-    FURZELADLE_JOINED_HIGH = 11, /* .. and its upper 32 bits, 0 in every session's record */
-    FURZELADLE_PAIRS = 12,      /* 64 places of three numbers each: sum, field row, trim row; zeros beyond those held */
-    FURZELADLE_FIELD_WEIGHT = 204, /* the query's weights, 1 to 9 */
-    FURZELADLE_TRIM_WEIGHT = 205,
-    FURZELADLE_CARD = 206,         /* the card of both tables, 2 or 3 */
-    FURZELADLE_FIELD_TOLERANCE = 207, /* the query's tolerances, 0 to 500 */
-    FURZELADLE_TRIM_TOLERANCE = 208,
-    FURZELADLE_MEANING = 209,         /* and its meaning: 0 possibly, any other number surely */
-    FURZELADLE_RECORD_SIZE = 210
-};
-
-/* The numbers of a pair and of a place, below. */
-enum { FURZELADLE_PAIR_SIZE = 3, FURZELADLE_PLACE_SIZE = 3 };
-
-/* What a call answers where it does not refuse. A refusal is minus its number. */
-enum furzeladle_answer {
-    FURZELADLE_DONE = 0,     /* open: accepted; read: a block was read; show: written */
-    FURZELADLE_SETTLED = 1,  /* read: nothing unread can matter, nothing was read */
-    FURZELADLE_GIVEN = 2,    /* take: a pair came out */
-    FURZELADLE_NOT_YET = 3,  /* take: no held pair is secured yet; read on */
-    FURZELADLE_FINISHED = 4  /* take: the list is complete */
-};
+ * can meet is settled as it opens: nothing is read, and the list is empty. */
 
 /* Too short a slice (query, session, pair or place) is -11. It is looked at before anything else, because no record can
  * be seen then. A refused call changes nothing that is lent. Numbers behind those named here stay unread and unchanged.
@@ -175,15 +246,11 @@ int32_t furzeladle_show(const int32_t *f, size_t f_len, const int32_t *t, size_t
  *
  * Who lends FURZELADLE_ROOTS_SIZE numbers or more gets each pair's distance as well, from number FURZELADLE_ROOTS on,
  * behind the places of 64 pairs: two numbers a pair, the root of the squared distance and the remainder (below). */
-enum { FURZELADLE_QUERY_SIZE = 387, FURZELADLE_ROOTS = 387, FURZELADLE_ROOTS_SIZE = 515 };
-
 int32_t furzeladle_query(const uint32_t *query, size_t query_len, const int32_t *f, size_t f_len, const int32_t *t,
                          size_t t_len, uint64_t *out, size_t out_len);
 
 /* The same query, its listing as the pairing program prints it, k, block and radius alone at its head: how many bytes,
  * or minus the refusal. 11 for the place of the answer, last, is fewer than FURZELADLE_LISTING_SIZE bytes lent. */
-enum { FURZELADLE_LISTING_SIZE = 2668 };
-
 int32_t furzeladle_listing(const uint32_t *query, size_t query_len, const int32_t *f, size_t f_len, const int32_t *t,
                            size_t t_len, uint8_t *out, size_t out_len);
 

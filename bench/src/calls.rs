@@ -1,7 +1,8 @@
 //! One call of a settled session over tables of one row: what is left when nothing is to be read is the record's handling.
 use crate::blockwise::{Checks, Join};
 use crate::clock;
-use furzeladle::{Progress, Query, Session};
+use furzeladle::raw::Session;
+use furzeladle::{Progress, Query};
 use std::hint::black_box;
 
 const CALLS: u32 = 200_000;

@@ -10,13 +10,16 @@ pub struct Contender {
     join: Join,
 }
 
+/// A join of a query over two tables.
+type OverTables<Q> = fn(Q, &[i32], &[i32]) -> Outcome;
+
 /// A join of rows of four numbers, and that of rows of five.
 enum Join {
     /// Weighs the scores itself.
-    Weighing([fn(Asked, &[i32], &[i32]) -> Outcome; 2]),
+    Weighing([OverTables<Asked>; 2]),
     /// Knows neither weights nor withdrawn rows and checks nothing: it joins live rows whose scores were weighed before,
     /// outside the timing. At weights 1 and 1 these are the front of the tables themselves.
-    Plain([fn(Query, &[i32], &[i32]) -> Outcome; 2]),
+    Plain([OverTables<Query>; 2]),
 }
 
 impl Contender {

@@ -1,6 +1,7 @@
 //! The proved library: call by call, and as one whole query.
 use crate::outcome::Outcome;
-use furzeladle::{Asked, Progress, Session, Taken};
+use furzeladle::raw::{self, Session};
+use furzeladle::{Asked, Progress, Taken};
 
 /// Opened, read until settled, taken until finished: every call checks what it is given.
 pub fn session(asked: Asked, field: &[i32], trim: &[i32]) -> Outcome {
@@ -20,7 +21,7 @@ pub fn session(asked: Asked, field: &[i32], trim: &[i32]) -> Outcome {
 
 /// The same in one call.
 pub fn whole_query(asked: Asked, field: &[i32], trim: &[i32]) -> Outcome {
-    let list = furzeladle::list(asked, field, trim).unwrap();
+    let list = raw::list(asked, field, trim).unwrap();
     Outcome {
         sums: list.pairs.iter().map(|listed| listed.pair.sum).collect(),
         depths: list.depths.into(),

@@ -3,6 +3,7 @@ use measure::{measure, Measured};
 use std::time::Instant;
 
 mod block_printed;
+mod blocks;
 mod blockwise;
 mod calls;
 mod checks;
@@ -84,10 +85,11 @@ fn main() {
         ["calls"] => calls::run(),
         ["roots"] => roots::run(),
         ["tolerances"] => tolerances::run(),
+        ["blocks"] => blocks::run(),
         ["short", plot_to] => queries(false, 3, plot_to),
         ["full", plot_to] => queries(true, 5, plot_to),
         _ => {
-            eprintln!("usage: bench/run [short|full|files|calls|roots|tolerances]");
+            eprintln!("usage: bench/run [short|full|files|calls|roots|tolerances|blocks]");
             eprintln!(
                 "   or: bench/run profile CONTENDER RADIUS K BLOCK RUNS [new] [drifting|apart] [surely|possibly T]"
             );

@@ -3,8 +3,8 @@ use crate::measure::Case;
 use crate::tables::Shape;
 use furzeladle::{Asked, Card, FieldWeight, Query, TrimWeight};
 
-const ARCHIVE: (u32, u32) = (38_000, 12_000);
-const RADII: [u32; 6] = [3, 13, 26, 128, 255, 1_000];
+pub const ARCHIVE: (u32, u32) = (38_000, 12_000);
+pub const RADII: [u32; 6] = [3, 13, 26, 128, 255, 1_000];
 const LENGTHS: [u32; 3] = [1, 10, 64];
 const BLOCKS: [u32; 4] = [1, 16, 128, 1_024];
 /// Field and trim weights of the cases that have others than 1 and 1.
@@ -13,7 +13,7 @@ const GROWTH: [u32; 5] = [6_000, 12_000, 24_000, 48_000, 65_535];
 /// Those of them that a short run measures, and the radii of its clustered and adversarial tables.
 const FEW_GROWTH: [u32; 3] = [6_000, 24_000, 65_535];
 const FEW_RADII: [u32; 2] = [26, 255];
-const MIDDLE: Query = Query {
+pub const MIDDLE: Query = Query {
     k: 10,
     block: 128,
     radius: 26,

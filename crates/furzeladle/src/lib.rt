@@ -6,7 +6,16 @@ mod roots; // roots.rt: a squared distance as a distance
 
 ghost use mathlib.Core.Path.{_≡_};
 ghost use Rattle.rules.specs.File.{checkAlone, loadNumbers};
+ghost use Rattle.version.specs.Version.{version};
 ghost use Rattle.file_numbers.specs.Answers.{loadSigned};
+
+// The library's version: 10,000 times its first part, 100 times its second, and its third.
+#[no_mangle]
+pub extern "C" fn furzeladle_version() -> u32
+    ensures { λ r. ⌜ r ≡ version ⌝ }
+{
+    version::number()
+}
 
 // A file's bytes checked alone: the row count, or minus the refusal's number.
 #[no_mangle]

@@ -1,11 +1,26 @@
 //! What a list is asked for.
-use crate::{Card, Over, Rows, Table};
+use crate::sys::QUERY_ALL;
+use crate::{Card, FieldTable, Over, Table, TrimTable};
 
 /// List length (1 to 64), block size in rows (1 to 1,024), radius (0 to 40,000).
+///
+/// These three stay three: whatever requests add stands in [`Asked`], which a query turns into wherever something is
+/// asked, and is said by methods, each with its default.
+///
+/// ```
+/// use furzeladle::{FieldWeight, Query, TrimWeight};
+/// let query = Query::new(10).radius(128);
+/// assert_eq!(query, Query { k: 10, block: 64, radius: 128 });
+/// let asked = query.weights(FieldWeight(1), TrimWeight(3)).block(16);
+/// assert_eq!((asked.query.block, asked.trim_weight), (16, TrimWeight(3)));
+/// ```
 #[derive(Clone, Copy, Debug, PartialEq, Eq, Hash)]
 pub struct Query {
+    /// How many pairs are wanted at most.
     pub k: u32,
+    /// How many rows are read at a time.
     pub block: u32,
+    /// How far apart two shades may lie, in hundredths.
     pub radius: u32,
 }
 
@@ -40,14 +55,15 @@ pub enum Meaning {
 #[derive(Clone, Copy, Debug, PartialEq, Eq, Hash)]
 #[non_exhaustive]
 pub struct Asked {
+    /// List length, block and radius.
     pub query: Query,
     /// 1 where nothing is said.
     pub field_weight: FieldWeight,
     /// 1 where nothing is said.
     pub trim_weight: TrimWeight,
-    /// The old one where nothing is said.
+    /// The old one where nothing is said. A checked table brings its own.
     pub field_card: Card,
-    /// The old one where nothing is said.
+    /// The old one where nothing is said. A checked table brings its own.
     pub trim_card: Card,
     /// 0 where nothing is said.
     pub field_tolerance: FieldTolerance,
@@ -58,7 +74,35 @@ pub struct Asked {
 }
 
 impl Query {
+    /// The block where none is said: over the benchmark's radii the one that does best (docs/BENCHMARKS.md).
+    pub const BLOCK: u32 = 64;
+    /// The radius where none is said.
+    pub const RADIUS: u32 = 255;
+
+    /// So many pairs, in blocks of [`Query::BLOCK`] rows, within [`Query::RADIUS`].
+    #[must_use]
+    pub const fn new(k: u32) -> Query {
+        Query {
+            k,
+            block: Query::BLOCK,
+            radius: Query::RADIUS,
+        }
+    }
+
+    /// The same query, so many rows read at a time.
+    #[must_use]
+    pub const fn block(self, block: u32) -> Query {
+        Query { block, ..self }
+    }
+
+    /// The same query within this radius.
+    #[must_use]
+    pub const fn radius(self, radius: u32) -> Query {
+        Query { radius, ..self }
+    }
+
     /// The same query with these weights.
+    #[must_use]
     pub fn weights(self, field: FieldWeight, trim: TrimWeight) -> Asked {
         Asked::from(self).weights(field, trim)
     }
@@ -73,12 +117,13 @@ impl Query {
     /// let pairs = list(query.on(Card::New), &field, &trim).unwrap().pairs;
     /// assert_eq!((pairs.len(), pairs[0].field_number, pairs[0].squared_distance), (1, 102, 25));
     /// ```
+    #[must_use]
     pub fn on(self, card: Card) -> Asked {
         Asked::from(self).on(card)
     }
 
-    /// The same query over two tables as they were read, on their cards.
-    pub fn over<'a>(self, field: &'a Rows, trim: &'a Rows) -> Over<'a> {
+    /// The same query over two checked tables, on their cards.
+    pub fn over<'a>(self, field: &'a FieldTable, trim: &'a TrimTable) -> Over<'a> {
         Asked::from(self).over(field, trim)
     }
 
@@ -95,18 +140,42 @@ impl Query {
     /// assert_eq!(list(query.possibly(u, v), &field, &trim)?.pairs.len(), 1);
     /// # Ok::<(), furzeladle::Refusal>(())
     /// ```
+    #[must_use]
     pub fn surely(self, field: FieldTolerance, trim: TrimTolerance) -> Asked {
         Asked::from(self).surely(field, trim)
     }
 
     /// The same query for pairs that qualify somewhere within these tolerances.
+    #[must_use]
     pub fn possibly(self, field: FieldTolerance, trim: TrimTolerance) -> Asked {
         Asked::from(self).possibly(field, trim)
     }
 }
 
+/// Ten pairs.
+impl Default for Query {
+    fn default() -> Query {
+        Query::new(10)
+    }
+}
+
 impl Asked {
+    /// The same, so many rows read at a time.
+    #[must_use]
+    pub fn block(self, block: u32) -> Asked {
+        let query = self.query.block(block);
+        Asked { query, ..self }
+    }
+
+    /// The same within this radius.
+    #[must_use]
+    pub fn radius(self, radius: u32) -> Asked {
+        let query = self.query.radius(radius);
+        Asked { query, ..self }
+    }
+
     /// The same with these weights.
+    #[must_use]
     pub fn weights(self, field: FieldWeight, trim: TrimWeight) -> Asked {
         Asked {
             field_weight: field,
@@ -116,11 +185,13 @@ impl Asked {
     }
 
     /// The same over tables on this card.
+    #[must_use]
     pub fn on(self, card: Card) -> Asked {
         self.cards(card, card)
     }
 
     /// The same over tables each on its own card. Two different ones are refused by 15.
+    #[must_use]
     pub fn cards(self, field: Card, trim: Card) -> Asked {
         Asked {
             field_card: field,
@@ -129,22 +200,25 @@ impl Asked {
         }
     }
 
-    /// The same over two tables as they were read, on their cards.
-    pub fn over<'a>(self, field: &'a Rows, trim: &'a Rows) -> Over<'a> {
+    /// The same over two checked tables, on their cards.
+    pub fn over<'a>(self, field: &'a FieldTable, trim: &'a TrimTable) -> Over<'a> {
         Over::new(self, field, trim)
     }
 
     /// The same for pairs that qualify wherever their shades lie within these tolerances.
+    #[must_use]
     pub fn surely(self, field: FieldTolerance, trim: TrimTolerance) -> Asked {
         self.tolerating(field, trim, Meaning::Surely)
     }
 
     /// The same for pairs that qualify somewhere within these tolerances.
+    #[must_use]
     pub fn possibly(self, field: FieldTolerance, trim: TrimTolerance) -> Asked {
         self.tolerating(field, trim, Meaning::Possibly)
     }
 
     /// The same with these tolerances, and this made of them.
+    #[must_use]
     pub fn tolerating(self, field: FieldTolerance, trim: TrimTolerance, meaning: Meaning) -> Asked {
         Asked {
             field_tolerance: field,
@@ -155,7 +229,7 @@ impl Asked {
     }
 
     /// The numbers that the library is lent for it, in their order.
-    pub(crate) fn numbers(self) -> [u32; 10] {
+    pub(crate) fn numbers(self) -> [u32; QUERY_ALL] {
         let Query { k, block, radius } = self.query;
         let (v, w) = (self.field_weight.0, self.trim_weight.0);
         let field_kind = Table::Field.kind(self.field_card) as u32;
@@ -178,5 +252,12 @@ impl From<Query> for Asked {
             trim_tolerance: TrimTolerance(0),
             meaning: Meaning::Possibly,
         }
+    }
+}
+
+/// Ten pairs.
+impl Default for Asked {
+    fn default() -> Asked {
+        Query::default().into()
     }
 }

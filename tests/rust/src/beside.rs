@@ -1,7 +1,8 @@
 //! The library's calls beside the model's.
 use crate::lent;
 use crate::model::{self, Opening, Record, Said};
-use furzeladle::{Asked, Pair, Progress, Refusal, Session, Table, Taken};
+use furzeladle::raw::{Refusal, Session};
+use furzeladle::{Asked, Pair, Progress, Table, Taken};
 
 fn read_said(answer: Result<Progress, Refusal>) -> Said {
     match answer {

@@ -13,7 +13,7 @@ pub type Answer = Result<u32, (u32, u32)>;
 
 /// The exported check: the row count, or minus the refusal's number.
 pub fn check(bytes: &[u8], kind: i32) -> i32 {
-    match furzeladle::check(bytes, kind) {
+    match furzeladle::raw::check(bytes, kind) {
         Ok(count) => count as i32,
         Err(refusal) => -(refusal.number as i32),
     }
@@ -21,7 +21,7 @@ pub fn check(bytes: &[u8], kind: i32) -> i32 {
 
 /// The exported reading.
 pub fn load(bytes: &[u8], kind: i32, out: &mut [i32]) -> Answer {
-    furzeladle::load(bytes, kind, out).map_err(|refusal| (refusal.number, refusal.row))
+    furzeladle::raw::load(bytes, kind, out).map_err(|refusal| (refusal.number, refusal.row))
 }
 
 /// How wide the columns of a row are; the last one is on the new card only.

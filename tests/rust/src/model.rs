@@ -149,7 +149,7 @@ impl<'a> Lent<'a> {
     }
 
     fn size_fits(&self) -> bool {
-        self.numbers.len() % self.wide == 0 && self.rows() <= 65_535
+        self.numbers.len().is_multiple_of(self.wide) && self.rows() <= 65_535
     }
 }
 

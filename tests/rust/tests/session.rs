@@ -1,6 +1,7 @@
 //! The session beside the model of the rules and the plain double loop: seeded tables on both cards, random calls.
-use furzeladle::{Asked, Card, FieldTolerance, FieldWeight, Meaning, Pair, Progress, Query, Refusal, Session, Table};
-use furzeladle::{Rows, Taken, TrimTolerance, TrimWeight, RECORD_SIZE};
+use furzeladle::raw::{Refusal, Rows, Session};
+use furzeladle::{Asked, Card, FieldTolerance, FieldWeight, Meaning, Pair, Progress, Query, Table};
+use furzeladle::{Taken, TrimTolerance, TrimWeight, RECORD_SIZE};
 use furzeladle_tests::beside::{self, answers, call, run, show};
 use furzeladle_tests::cases::WITHDRAWN;
 use furzeladle_tests::cases::{asked, card, scored, scored_on, table, tie_by_weights, withdraw, Dice, Light, Spread};
@@ -1066,24 +1067,15 @@ fn records_on_other_cards() {
     }
 }
 
-/// Tables that know their card, from file to list.
+/// Tables that know their card, from files.
 #[test]
 fn rows_that_know_their_card() {
     let file = |kind: u32| furzeladle_tests::file(kind, &[[1, 9, 0, 0, 0], [2, 8, 0, 0, 10_000]]);
     let old = |kind: u32| furzeladle_tests::file(kind, &[[1, 9, 0, 0], [2, 8, 0, 0]]);
     let field = Rows::read(&file(3), Table::Field, Card::New).unwrap();
-    let trim = Rows::read(&file(4), Table::Trim, Card::New).unwrap();
     let plain = Rows::read(&old(2), Table::Trim, Card::Old).unwrap();
     assert_eq!((field.card(), field.count(), field.numbers().len()), (Card::New, 2, 10));
     assert_eq!((plain.card(), plain.count(), plain.numbers().len()), (Card::Old, 2, 8));
-    let pairs = over(4, 1).over(&field, &trim).list().unwrap().pairs;
-    assert_eq!(pairs.iter().map(|listed| listed.pair.sum).collect::<Vec<_>>(), [18, 16]);
-    let fifteen = Refusal { number: 15, row: 0 };
-    assert_eq!(over(4, 1).over(&field, &plain).list(), Err(fifteen));
-    assert_eq!(over(4, 1).over(&field, &plain).listing(), Err(fifteen));
-    assert_eq!(over(4, 1).over(&field, &plain).open(), Err(fifteen));
-    let session = over(4, 1).over(&field, &trim).open().unwrap();
-    assert_eq!(session, Session::open(over(4, 1).on(Card::New), field.numbers(), trim.numbers()).unwrap());
     let refused = |bytes: &[u8], table, card| Rows::read(bytes, table, card).unwrap_err();
     assert_eq!(refused(&file(3), Table::Trim, Card::New).number, 10);
     assert_eq!(refused(&file(3), Table::Field, Card::Old).number, 10);

@@ -1,7 +1,7 @@
 //! Shades known within tolerances: pairs that qualify surely or possibly, by all places of their shades; the query that
 //! nothing can meet; gaps between blocks; and the numbers of a query and of a record that say so.
-use furzeladle::{list, Asked, Card, FieldTolerance, Meaning, Pair, Progress, Query, Refusal, Session, Taken};
-use furzeladle::{TrimTolerance, RECORD_SIZE};
+use furzeladle::raw::{list, Refusal, Session};
+use furzeladle::{Asked, Card, FieldTolerance, Meaning, Pair, Progress, Query, Taken, TrimTolerance, RECORD_SIZE};
 use furzeladle_tests::beside::{answers, call, opened, run};
 use furzeladle_tests::cases::{asked, card, scored_on, table, weighted, withdraw, Dice, Spread};
 use furzeladle_tests::lent;

@@ -1,7 +1,7 @@
 //! The whole query beside the model, on both cards: its list, depths and joined count, its refusals, and the listing's
 //! lines.
-use furzeladle::{list, listing, root, Asked, Card, FieldTolerance, FieldWeight, List, Listed, Query, Refusal};
-use furzeladle::{TrimTolerance, TrimWeight};
+use furzeladle::raw::{list, listing, List, Refusal};
+use furzeladle::{root, Asked, Card, FieldTolerance, FieldWeight, Listed, Query, TrimTolerance, TrimWeight};
 use furzeladle_tests::cases::{asked, card, query, scored_on, table, withdraw, Dice, Spread, WITHDRAWN};
 use furzeladle_tests::lent::answers;
 use furzeladle_tests::model::{self, Opening, Said};
@@ -255,7 +255,7 @@ fn roots_beside_rusts_own() {
         let s = n >> (32 + dice.below(32));
         (0..3).for_each(|i| whole((s * s).wrapping_sub(1).wrapping_add(i)));
     }
-    (0..1_000).for_each(|i| whole(i));
+    (0..1_000).for_each(whole);
     (0..1_000).for_each(|i| whole(u64::MAX - i));
     assert_eq!((root(25).root, root(25).rest), (5, 0));
     assert_eq!((root(26).root, root(26).rest), (5, 1));
