@@ -25,7 +25,7 @@
 //! - [`check`], [`load`], [`list`] and [`listing`] take plain slices, and so does [`raw`], which has records and
 //!   refusals as numbers too. [`sys`] has the exports as they are.
 //!
-//! Rows are numbered from 1. Nothing here trusts its input, and nothing panics.
+//! Rows are numbered from 1. Nothing here trusts its input.
 //!
 //! A shade may be known within a tolerance: [`Query::surely`] and [`Query::possibly`] say what is made of it.
 //!
