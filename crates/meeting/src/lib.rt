@@ -161,7 +161,7 @@ fn meet_blocks(
     let mut c: usize = 0;
     let mut i: usize = 0;
     while i < n {
-        let g = block::lesser(c + block, depth);
+        let g = near_rows::lesser(c + block, depth);
         let old = Span { from: c, to: g };
         let x = either(field, new, old);
         let y = either(field, old, new);

@@ -9,9 +9,9 @@ use Rattle.rules.specs.Qualifying.{places-far}
 use Rattle.rules.specs.Widths.{row-below, rows-row}
 use Rattle.tolerances.specs.Counted.{Beyond}
 use Rattle.tolerances.specs.Reach.{beyond-reach}
-use Rattle.block.specs.Near.{row-more}
-use Rattle.block.proofs.some_beside.Statement.{statement}
-use Rattle.block.proofs.some_beside.Tie as tie
+use Rattle.near_rows.specs.Near.{row-more}
+use Rattle.near_rows.proofs.some_beside.Statement.{statement}
+use Rattle.near_rows.proofs.some_beside.Tie as tie
 
 abbrev Inv-loop : tie.InvT-loop
 Inv-loop n x i y k e reach seen₀ j₀ seen j =

@@ -2,9 +2,9 @@
 use mathlib.Core.Path.{sym, _∙_}
 use native.Mathlib.Omega.{arith}
 use Rattle.rules.specs.Tables.{table, terms}
-use Rattle.block.specs.Near.{none-on}
-use Rattle.block.proofs.next_near.Statement.{statement}
-use Rattle.block.proofs.next_near.Tie as tie
+use Rattle.near_rows.specs.Near.{none-on}
+use Rattle.near_rows.proofs.next_near.Statement.{statement}
+use Rattle.near_rows.proofs.next_near.Tie as tie
 
 next-candidate-requires : tie.Need-next-candidate-requires
 next-candidate-requires c κs = c .pre

@@ -7,9 +7,9 @@ use borrow.Author.Needs.{needs}
 use Rattle.lists.specs.Bools.{or-none-out}
 use Rattle.rules.specs.Tables.{table, terms, rowCount}
 use Rattle.rules.specs.Widths.{has-row, has-rows, count-most}
-use Rattle.block.specs.Near.{NoneOf, none-of-more}
-use Rattle.block.proofs.any_beside_at.Statement.{statement}
-use Rattle.block.proofs.any_beside_at.Tie as tie
+use Rattle.near_rows.specs.Near.{NoneOf, none-of-more}
+use Rattle.near_rows.proofs.any_beside_at.Statement.{statement}
+use Rattle.near_rows.proofs.any_beside_at.Tie as tie
 
 abbrev Inv-loop : tie.InvT-loop
 Inv-loop n q x y l m seen₀ i₀ seen i =

@@ -2,8 +2,8 @@
 use mathlib.Core.Path.{subst₂}
 use borrow.Author.Needs.{needs}
 use Rattle.tolerances.specs.Counted.{Beyond}
-use Rattle.block.proofs.beside_at.Statement.{statement}
-use Rattle.block.proofs.beside_at.Tie as tie
+use Rattle.near_rows.proofs.beside_at.Statement.{statement}
+use Rattle.near_rows.proofs.beside_at.Tie as tie
 
 shade-requires : tie.Need-shade-requires
 shade-requires c κs = search needs

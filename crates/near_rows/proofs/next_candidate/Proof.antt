@@ -7,10 +7,10 @@ use borrow.Author.Needs.{needs}
 use Rattle.rules.specs.Tables.{table, row, rowCount, terms}
 use Rattle.rules.specs.Widths.{row-below, has-row, has-rows, count-most}
 use Rattle.tolerances.specs.Counted.{wide}
-use Rattle.block.specs.Near.{NoneNear, none-more, none-on}
-use Rattle.block.specs.Candidate.{standNear, stand-far, stand-near}
-use Rattle.block.proofs.next_candidate.Statement.{statement}
-use Rattle.block.proofs.next_candidate.Tie as tie
+use Rattle.near_rows.specs.Near.{NoneNear, none-more, none-on}
+use Rattle.near_rows.specs.Candidate.{standNear, stand-far, stand-near}
+use Rattle.near_rows.proofs.next_candidate.Statement.{statement}
+use Rattle.near_rows.proofs.next_candidate.Tie as tie
 
 abbrev Inv-loop : tie.InvT-loop
 Inv-loop n q x i y m j wide k₀ k =

@@ -5,10 +5,10 @@ use borrow.Author.Tests.{not-true}
 use Rattle.lists.specs.Bools.{clash}
 use Rattle.rules.specs.Tables.{table, terms, HasRow, HasRows}
 use Rattle.session_laws.specs.Record.{card-other}
-use Rattle.block.specs.Near.{NoneNear}
-use Rattle.block.specs.Small.{SmallPairs}
-use Rattle.block.proofs.all_far.Statement.{statement}
-use Rattle.block.proofs.all_far.Tie as tie
+use Rattle.near_rows.specs.Near.{NoneNear}
+use Rattle.near_rows.specs.Small.{SmallPairs}
+use Rattle.near_rows.proofs.all_far.Statement.{statement}
+use Rattle.near_rows.proofs.all_far.Tie as tie
 
 -- what the code for n asks, and what it gives
 abbrev Asks : tie.Start → ℕ → Type 0

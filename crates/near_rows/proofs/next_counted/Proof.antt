@@ -4,9 +4,9 @@ use Prim.Native.Nat.{_-_, _≤_}
 use native.Mathlib.Omega.{arith}
 use Rattle.rules.specs.Tables.{table, terms}
 use Rattle.rules.specs.Widths.{has-row}
-use Rattle.block.specs.Near.{NoneNear, none-more}
-use Rattle.block.proofs.next_counted.Statement.{statement}
-use Rattle.block.proofs.next_counted.Tie as tie
+use Rattle.near_rows.specs.Near.{NoneNear, none-more}
+use Rattle.near_rows.proofs.next_counted.Statement.{statement}
+use Rattle.near_rows.proofs.next_counted.Tie as tie
 
 abbrev Inv-loop : tie.InvT-loop
 Inv-loop n q x i y m j k₀ k =

@@ -6,8 +6,8 @@ use Rattle.rules.specs.Tables.{table, HasRow, row}
 use Rattle.rules.specs.Calls.{isCard}
 use Rattle.session_laws.specs.Record.{card-other}
 use Rattle.distance.specs.Small.{Small}
-use Rattle.block.proofs.near_by.Statement.{statement}
-use Rattle.block.proofs.near_by.Tie as tie
+use Rattle.near_rows.proofs.near_by.Statement.{statement}
+use Rattle.near_rows.proofs.near_by.Tie as tie
 
 -- what the code for n asks
 abbrev Asks : tie.Start → ℕ → Type 0

@@ -10,8 +10,8 @@ use Rattle.session_laws.specs.Record.{card-small}
 use Rattle.session_laws.specs.ReadOut.{rows-qualify-in}
 use Rattle.tolerances.specs.Counted.{counted}
 use Rattle.tolerances.specs.Reach.{qualifies-counted}
-use Rattle.block.proofs.counts_near.Statement.{statement}
-use Rattle.block.proofs.counts_near.Tie as tie
+use Rattle.near_rows.proofs.counts_near.Statement.{statement}
+use Rattle.near_rows.proofs.counts_near.Tie as tie
 
 shade-requires : tie.Need-shade-requires
 shade-requires c κs = search needs

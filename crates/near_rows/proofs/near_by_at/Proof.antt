@@ -8,9 +8,9 @@ use Rattle.rules.specs.Tables.{gap, squaredDistance}
 use Rattle.rules.specs.Squares.{squares-each}
 use Rattle.session_laws.specs.Record.{card-small}
 use Rattle.tolerances.specs.Counted.{counted}
-use Rattle.block.specs.Candidate.{standNear}
-use Rattle.block.proofs.near_by_at.Statement.{statement}
-use Rattle.block.proofs.near_by_at.Tie as tie
+use Rattle.near_rows.specs.Candidate.{standNear}
+use Rattle.near_rows.proofs.near_by_at.Statement.{statement}
+use Rattle.near_rows.proofs.near_by_at.Tie as tie
 
 shade-requires : tie.Need-shade-requires
 shade-requires c κs = search needs

@@ -3,10 +3,10 @@ use mathlib.Core.Path.{_≡_, sym, subst}
 use Prim.Native.Nat.{ℕ}
 use Rattle.rules.specs.Tables.{table, terms}
 use Rattle.session_laws.specs.Record.{card-other}
-use Rattle.block.specs.Near.{NoPair}
-use Rattle.block.specs.Small.{SmallPairs}
-use Rattle.block.proofs.any_beside.Statement.{statement}
-use Rattle.block.proofs.any_beside.Tie as tie
+use Rattle.near_rows.specs.Near.{NoPair}
+use Rattle.near_rows.specs.Small.{SmallPairs}
+use Rattle.near_rows.proofs.any_beside.Statement.{statement}
+use Rattle.near_rows.proofs.any_beside.Tie as tie
 
 -- what the code for n asks, and what it gives
 abbrev Asks : tie.Start → ℕ → Type 0

@@ -13,8 +13,8 @@ use Rattle.session_laws.specs.Record.{card-small}
 use Rattle.session_laws.specs.ReadOut.{rows-qualify-in}
 use Rattle.tolerances.specs.Counted.{wide}
 use Rattle.tolerances.specs.Reach.{not-wide, wide-exact}
-use Rattle.block.specs.Near.{NoneNear}
-use Rattle.block.specs.Small.{SmallPairs}
+use Rattle.near_rows.specs.Near.{NoneNear}
+use Rattle.near_rows.specs.Small.{SmallPairs}
 
 -- two rows lie within the radius, as they stand
 unfoldable pub standNear : ℕ → Row → Row → Bool
