@@ -101,6 +101,9 @@ fn wrong_pairs() {
     listed(b"too far apart", 1, pair(11, 1, 3), judge::TOO_FAR);
     listed(b"another sum than its own", 0, pair(17, 1, 1), judge::SUM);
     listed(b"a pair twice", 1, pair(16, 1, 1), judge::TWICE);
+}
+
+fn wrong_order() {
     listed(b"the best pair left out", 0, pair(13, 2, 2), judge::ORDER);
     let mut swapped = right();
     swapped.given[1] = pair(14, 1, 2);
@@ -240,6 +243,7 @@ fn wrong_refusals() {
 pub fn all() {
     finds(b"a right list, no fault", right(), 0);
     wrong_pairs();
+    wrong_order();
     wrong_light();
     wrong_tolerance();
     wrong_answers();
