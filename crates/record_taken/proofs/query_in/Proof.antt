@@ -1,4 +1,5 @@
 -- `query_in` meets its contract. Assumes nothing.
+use mathlib.Core.Path.{refl}
 use Rattle.record_layout.specs.Flat.{queryIn}
 use borrow.Author.Needs.{needs}
 use Rattle.record_taken.proofs.query_in.Statement.{statement}
@@ -27,7 +28,11 @@ query-with-requires c κs = search needs
 
 returns : tie.Need-returns
 unfolding queryIn
-returns c = cc
+returns c =
+    let five = c .before .before in
+    let three = five .before .before in
+    simp (c .query-with .ensures, c .before .meaning-of .ensures, five .number-or5 .ensures, five .before .number-or4 .ensures,
+      three .number-or3 .ensures, three .before .number-or2 .ensures, three .before .before .number-or .ensures) refl
 
 pub query-in-spec : {M : Type 1} → statement M
 query-in-spec =

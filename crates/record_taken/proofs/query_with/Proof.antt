@@ -1,4 +1,5 @@
 -- `query_with` meets its contract. Assumes nothing.
+use mathlib.Core.Path.{refl}
 use Rattle.record_layout.specs.Flat.{queryWith}
 use borrow.Author.Needs.{needs}
 use Rattle.record_taken.proofs.query_with.Statement.{statement}
@@ -15,7 +16,7 @@ number-or-requires-3 c κs = search needs
 
 returns : tie.Need-returns
 unfolding queryWith
-returns c = cc
+returns c = simp (c .number-or3 .ensures, c .before .number-or2 .ensures, c .before .before .number-or .ensures) refl
 
 pub query-with-spec : {M : Type 1} → statement M
 query-with-spec =

@@ -1,4 +1,5 @@
 -- `asked_code` meets its contract. Assumes nothing.
+use mathlib.Core.Path.{refl}
 use borrow.Author.Needs.{needs}
 use Rattle.whole_query.proofs.asked_code.Statement.{statement}
 use Rattle.whole_query.proofs.asked_code.Tie as tie
@@ -19,7 +20,10 @@ first-requires-3 : tie.Need-first-requires-3
 first-requires-3 c κs = search needs
 
 returns : tie.Need-returns
-returns c = cc
+returns c =
+    let unless = c .before .before .before in
+    simp (c .first3 .ensures, c .before .first2 .ensures, c .before .before .first .ensures,
+      unless .unless2 .ensures, unless .before .unless .ensures) refl
 
 pub asked-code-spec : {M : Type 1} → statement M
 asked-code-spec =
