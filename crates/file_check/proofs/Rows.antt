@@ -26,7 +26,7 @@ use Rattle.rules.specs.File.{fileTable, fileRowCode, andRow, rowsLoaded}
 use Rattle.file_laws.specs.Columns.{start-next, signed-back, size-back, column-ends}
 use Rattle.file_laws.specs.Parts.{row-parts}
 use Rattle.file_laws.specs.Table.{table-length, table-num}
-use Rattle.tables.specs.Ranges.{in-range-parts}
+use Rattle.row_checks.specs.Ranges.{in-range-parts}
 use Rattle.column.specs.declared.Column.{Column}
 use Rattle.column.specs.Column.{columnHeld, number-held}
 use Rattle.file_check.specs.Held.{heldAt, columnsHeld, coordinateHeld, numbersHeld, frontHeld, rowHeld}

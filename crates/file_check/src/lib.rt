@@ -5,12 +5,12 @@ ghost use lib.ListN.{length};
 ghost use Rattle.rules.specs.Tables.{width, mostRows};
 ghost use Rattle.rules.specs.File.{columnStart, rowBytes, rowStart, fileTable, rowsLoaded, wanted, checkFile};
 ghost use Rattle.file_check.specs.Held.{headerHeld, heldHeadCode, frontHeld, rowHeld, heldRowCode};
+use codes::first;
+use codes::unless;
 use column::column_at;
 use column::row_bytes;
+use row_checks::coordinate_fits;
 use rules::Loaded;
-use tables::coordinate_fits;
-use tables::first;
-use tables::unless;
 
 // The header's numbers, and whether its columns and LF are formed as they must be.
 struct Header {
@@ -80,7 +80,7 @@ fn read_front(bytes: &[u8], o: usize) -> Row
     let score = column_at(bytes, o + 6, 6, false);
     let a = column_at(bytes, o + 12, 7, true);
     let b = column_at(bytes, o + 19, 7, true);
-    let inside = tables::in_range(pattern.number, score.number);
+    let inside = row_checks::in_range(pattern.number, score.number);
     let shade = coordinate_fits(0, a.number) & coordinate_fits(1, b.number);
     Row {
         fits: pattern.fits & (score.fits & (a.fits & b.fits)),

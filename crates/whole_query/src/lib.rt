@@ -9,9 +9,9 @@ ghost use Rattle.whole_query.specs.Asked.{lentQueryAnswer, lentQueryNumb
 fn asked_code(there: bool, opening: u32, reading: u32, room: bool) -> u32
     ensures { λ r. ⌜ r ≡ first (unless there shortSlice ∷ opening ∷ reading ∷ unless room shortSlice ∷ []) ⌝ }
 {
-    let seen = tables::unless(there, rules::SHORT_SLICE);
-    let last = tables::unless(room, rules::SHORT_SLICE);
-    tables::first(seen, tables::first(opening, tables::first(reading, last)))
+    let seen = codes::unless(there, rules::SHORT_SLICE);
+    let last = codes::unless(room, rules::SHORT_SLICE);
+    codes::first(seen, codes::first(opening, codes::first(reading, last)))
 }
 
 // One whole query over two lent tables: how many pairs there are, or minus the refusal's number. Refused, no number of

@@ -9,8 +9,8 @@ use borrow.Author.Tests.{eq-eqb, ne-eqb}
 use Rattle.rules.specs.Tables.{table, rowInOrder}
 use Rattle.rules.specs.Widths.{rows-row}
 use borrow.Author.Needs.{needs, sfits-of}
-use Rattle.tables.proofs.in_order.Statement.{statement}
-use Rattle.tables.proofs.in_order.Tie as tie
+use Rattle.row_checks.proofs.in_order.Statement.{statement}
+use Rattle.row_checks.proofs.in_order.Tie as tie
 
 returns : tie.Need-returns
 unfolding rowInOrder

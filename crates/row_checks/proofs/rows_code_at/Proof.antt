@@ -10,8 +10,8 @@ use borrow.Author.Needs.{needs}
 use Rattle.rules.specs.Tables.{Table, table}
 use Rattle.rules.specs.Widths.{rows-row}
 use Rattle.rules.specs.Calls.{rowCode, rowsCode}
-use Rattle.tables.proofs.rows_code_at.Statement.{statement}
-use Rattle.tables.proofs.rows_code_at.Tie as tie
+use Rattle.row_checks.proofs.rows_code_at.Statement.{statement}
+use Rattle.row_checks.proofs.rows_code_at.Tie as tie
 
 -- the first refused row decides where none before it is refused
 here : (t : Table) (a i : ℕ) → rowsCode t a i ≡ 0 → rowsCode t a (i + 1) ≡ rowCode t (a + i)

@@ -3,8 +3,8 @@ use mathlib.Core.Path.{_≡_, refl, subst}
 use Prim.Native.Nat.{ℕ, _+_, _≤_}
 use Rattle.rules.specs.Tables.{table, HasRows, mostRows}
 use borrow.Author.Needs.{needs}
-use Rattle.tables.proofs.rows_code.Statement.{statement}
-use Rattle.tables.proofs.rows_code.Tie as tie
+use Rattle.row_checks.proofs.rows_code.Statement.{statement}
+use Rattle.row_checks.proofs.rows_code.Tie as tie
 
 -- what the code for n asks, from row a + 1 on
 abbrev Has : tie.Start → ℕ → ℕ → Type 0

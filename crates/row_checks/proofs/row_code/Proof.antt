@@ -3,8 +3,8 @@ use mathlib.Core.Path.{refl, sym, _∙_}
 use borrow.Author.Tests.{not-true, not-false}
 use Rattle.rules.specs.Calls.{rowCode}
 use borrow.Author.Needs.{needs}
-use Rattle.tables.proofs.row_code.Statement.{statement}
-use Rattle.tables.proofs.row_code.Tie as tie
+use Rattle.row_checks.proofs.row_code.Statement.{statement}
+use Rattle.row_checks.proofs.row_code.Tie as tie
 
 row-in-range-requires : tie.Need-row-in-range-requires
 row-in-range-requires c κs = search needs

@@ -1,7 +1,7 @@
 -- `first` meets its contract. Assumes nothing.
 use borrow.Author.Tests.{eq-eqb, ne-eqb}
-use Rattle.tables.proofs.first.Statement.{statement}
-use Rattle.tables.proofs.first.Tie as tie
+use Rattle.codes.proofs.first.Statement.{statement}
+use Rattle.codes.proofs.first.Tie as tie
 
 returns : tie.Need-returns
 returns c = simp (eq-eqb _ _ (c .if1 .taken))
