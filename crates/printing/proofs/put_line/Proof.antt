@@ -49,7 +49,7 @@ returns c =
     let two = three .before .before .before .before in
     let one = two .before .before .before .before .before .before in
     and-two 6 12 _ _ _ _ _ refl (one .put-two .ensures) (and-two 6 12 _ _ _ _ _ refl (two .put-two2 .ensures)
-      (and-two 8 16 _ _ _ _ _ refl (three .put-two3 .ensures) (feed .put-feed .ensures)))
+    (and-two 8 16 _ _ _ _ _ refl (three .put-two3 .ensures) (feed .put-feed .ensures)))
 
 pub put-line-spec : {M : Type 1} → statement M
 put-line-spec =

@@ -31,8 +31,15 @@ unfolding queryIn
 returns c =
     let five = c .before .before in
     let three = five .before .before in
-    simp (c .query-with .ensures, c .before .meaning-of .ensures, five .number-or5 .ensures, five .before .number-or4 .ensures,
-      three .number-or3 .ensures, three .before .number-or2 .ensures, three .before .before .number-or .ensures) refl
+    simp (
+      c .query-with .ensures,
+      c .before .meaning-of .ensures,
+      five .number-or5 .ensures,
+      five .before .number-or4 .ensures,
+      three .number-or3 .ensures,
+      three .before .number-or2 .ensures,
+      three .before .before .number-or .ensures,
+    ) refl
 
 pub query-in-spec : {M : Type 1} → statement M
 query-in-spec =

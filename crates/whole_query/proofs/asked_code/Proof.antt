@@ -22,8 +22,13 @@ first-requires-3 c κs = search needs
 returns : tie.Need-returns
 returns c =
     let unless = c .before .before .before in
-    simp (c .first3 .ensures, c .before .first2 .ensures, c .before .before .first .ensures,
-      unless .unless2 .ensures, unless .before .unless .ensures) refl
+    simp (
+      c .first3 .ensures,
+      c .before .first2 .ensures,
+      c .before .before .first .ensures,
+      unless .unless2 .ensures,
+      unless .before .unless .ensures,
+    ) refl
 
 pub asked-code-spec : {M : Type 1} → statement M
 asked-code-spec =
