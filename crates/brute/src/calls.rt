@@ -113,8 +113,8 @@ const COUNT_HARMS: u32 = 13;
 
 pub const HARMS: u32 = PAIR_HARMS + QUERY_HARMS + COUNT_HARMS;
 
-// A record that 5 refuses, made of one that it does not. A harm that needs a longer block, a second row or a held pair is
-// another where there is none.
+// A record that 5 refuses, made of one that it does not. A harm that needs a longer block, a second row or a held pair
+// is another where there is none.
 pub fn harmed(s: Session, kind: u32) -> Session {
     if kind < PAIR_HARMS {
         return harmed_pairs(s, kind);
