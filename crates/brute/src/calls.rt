@@ -9,6 +9,7 @@ use crate::plain;
 use crate::plain::Sums;
 use crate::plain::Table;
 use crate::plain::pair;
+use outcomes::Outcome;
 use rules::Counts;
 use rules::FieldKind;
 use rules::Kinds;
@@ -91,6 +92,18 @@ pub fn shown(l: Lent, s: Session) -> u32 {
     let t = l.trim;
     let rows = showing::show(first(&f, l.fields), first(&t, l.trims), s);
     (rows.len() % 66) as u32
+}
+
+// A whole query at once.
+pub fn run(l: Lent, query: Query) -> Outcome {
+    let f = l.field;
+    let t = l.trim;
+    run_query::run(
+        query,
+        kinds_on(l.card),
+        first(&f, l.fields),
+        first(&t, l.trims),
+    )
 }
 
 // The number, if the call was answered by it and gave back this record; else 0.

@@ -1,4 +1,5 @@
-// The session against a plain double loop, over tables made from seeds. Prints totals; the comparer is tried first.
+// The session, and the whole query at once, against a plain double loop, over tables made from seeds. Prints totals; the
+// comparer is tried first.
 use crate::calls::Lent;
 use crate::due::Case;
 use crate::plain::Decided;
@@ -44,7 +45,7 @@ fn case(seed: u64, tally: &mut [u64; 48]) {
 fn played(seed: u64, c: Case, m: &Sums, l: Lent, tally: &mut [u64; 48]) {
     let seen = play::whole(c, m, l, seed, tally);
     let depth = seen.session.depth;
-    counted_end(c, seen.said, seen.fault, depth, tally);
+    counted_end(c, seen.said, play::fault_at_end(c, l, seen), depth, tally);
     counted_far(plain::far_blocks(m, depth), seen.session.joined, tally);
 }
 

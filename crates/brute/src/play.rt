@@ -118,6 +118,16 @@ fn turn(
     r
 }
 
+// What is wrong with a session at its end, or with the whole query at once, which must list the pairs that came out.
+pub fn fault_at_end(c: Case, l: Lent, seen: Seen) -> u32 {
+    let run = calls::run(l, c.query);
+    let pairs = run.pairs;
+    let given = seen.given;
+    let same = ((run.count % 65) as u32 == seen.count) & judge::same_pairs(pairs, given);
+    let accepted = (run.opening == 0) & (run.reading == 0);
+    judge::or(seen.fault, judge::when(same & accepted, 0, judge::LIST))
+}
+
 // A session from its opening to its end, and a read and a take after it.
 pub fn whole(c: Case, m: &Sums, l: Lent, seed: u64, tally: &mut [u64; 48]) -> Seen {
     let mut seen = opened(c, m, l);

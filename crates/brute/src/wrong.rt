@@ -212,6 +212,21 @@ fn wrong_records() {
     third_read(b"a better pair passed over", 5, judge::HELD);
 }
 
+// The whole query at once beside a right list, and beside one that lacks the best pair.
+fn wrong_lists() {
+    let m = sums(2, query());
+    let c = case(2, query(), &m);
+    let right_fault = play::fault_at_end(c, tables(), right());
+    line(
+        b"a whole query with the right list, no fault",
+        right_fault == 0,
+    );
+    let mut s = right();
+    s.given[0] = pair(13, 2, 2);
+    let fault = play::fault_at_end(c, tables(), s);
+    line(b"a whole query with another list", fault == judge::LIST);
+}
+
 // How many kinds of harm to a record are seen as a change.
 fn harms_seen(s: Session) -> u32 {
     let mut n = 0;
@@ -250,5 +265,6 @@ pub fn all() {
     wrong_depth();
     wrong_record();
     wrong_records();
+    wrong_lists();
     wrong_refusals();
 }

@@ -3,8 +3,8 @@ use mathlib.Core.Path.{sym}
 use lib.ListN.{List·getD-eq-default}
 use Rattle.record_layout.proofs.Places.{there}
 use borrow.Author.Needs.{needs}
-use Rattle.record_taken.proofs.number_or.Statement.{statement}
-use Rattle.record_taken.proofs.number_or.Tie as tie
+use Rattle.query_taken.proofs.number_or.Statement.{statement}
+use Rattle.query_taken.proofs.number_or.Tie as tie
 
 mul-result : tie.Need-mul-result
 mul-result c = search needs

@@ -1,8 +1,8 @@
 -- `asked_code` meets its contract. Assumes nothing.
 use mathlib.Core.Path.{refl}
 use borrow.Author.Needs.{needs}
-use Rattle.whole_query.proofs.asked_code.Statement.{statement}
-use Rattle.whole_query.proofs.asked_code.Tie as tie
+use Rattle.outcomes.proofs.asked_code.Statement.{statement}
+use Rattle.outcomes.proofs.asked_code.Tie as tie
 
 unless-requires : tie.Need-unless-requires
 unless-requires c κs = search needs

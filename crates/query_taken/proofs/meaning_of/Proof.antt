@@ -1,8 +1,8 @@
 -- `meaning_of` meets its contract. Assumes nothing.
 use borrow.Author.Tests.{eq-eqb, ne-eqb}
 use Rattle.record_layout.specs.Flat.{meaningOf}
-use Rattle.record_taken.proofs.meaning_of.Statement.{statement}
-use Rattle.record_taken.proofs.meaning_of.Tie as tie
+use Rattle.query_taken.proofs.meaning_of.Statement.{statement}
+use Rattle.query_taken.proofs.meaning_of.Tie as tie
 
 returns : tie.Need-returns
 unfolding meaningOf
