@@ -40,8 +40,6 @@ pub const HELD: u32 = 13;
 
 pub const SHOWN: u32 = 14;
 
-pub const LIST: u32 = 15;
-
 // A session as its caller sees it after a call.
 pub struct Seen {
     pub session: Session,
@@ -117,7 +115,7 @@ fn same_pair(a: Pair, b: Pair) -> bool {
     (a.sum == b.sum) & ((a.field == b.field) & (a.trim == b.trim))
 }
 
-pub fn same_pairs(a: [Pair; 64], b: [Pair; 64]) -> bool {
+fn same_pairs(a: [Pair; 64], b: [Pair; 64]) -> bool {
     let mut same = true;
     for i in 0usize..64 {
         same = same & same_pair(a[i], b[i]);

@@ -41,11 +41,12 @@ fn case(seed: u64, tally: &mut [u64; 48]) {
     );
 }
 
-// A session is played, and counted.
+// A session is played, its query run whole, and both are counted.
 fn played(seed: u64, c: Case, m: &Sums, l: Lent, tally: &mut [u64; 48]) {
     let seen = play::whole(c, m, l, seed, tally);
     let depth = seen.session.depth;
-    counted_end(c, seen.said, play::fault_at_end(c, l, seen), depth, tally);
+    let fault = judge::or(seen.fault, judge::fault(c, m, play::at_once(c, l)));
+    counted_end(c, seen.said, fault, depth, tally);
     counted_far(plain::far_blocks(m, depth), seen.session.joined, tally);
 }
 

@@ -118,14 +118,21 @@ fn turn(
     r
 }
 
-// What is wrong with a session at its end, or with the whole query at once, which must list the pairs that came out.
-pub fn fault_at_end(c: Case, l: Lent, seen: Seen) -> u32 {
+// A whole query at once, as its caller sees it.
+pub fn at_once(c: Case, l: Lent) -> Seen {
     let run = calls::run(l, c.query);
-    let pairs = run.pairs;
-    let given = seen.given;
-    let same = ((run.count % 65) as u32 == seen.count) & judge::same_pairs(pairs, given);
-    let accepted = (run.opening == 0) & (run.reading == 0);
-    judge::or(seen.fault, judge::when(same & accepted, 0, judge::LIST))
+    let session = run.session;
+    let given = run.pairs;
+    let refused = (run.opening != 0) | (run.reading != 0);
+    Seen {
+        session,
+        given,
+        count: (run.count % 65) as u32,
+        said: judge::when(refused, 0, due::FINISHED),
+        due: due::FINISHED,
+        record: 0,
+        fault: 0,
+    }
 }
 
 // A session from its opening to its end, and a read and a take after it.

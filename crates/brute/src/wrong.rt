@@ -212,19 +212,18 @@ fn wrong_records() {
     third_read(b"a better pair passed over", 5, judge::HELD);
 }
 
-// The whole query at once beside a right list, and beside one that lacks the best pair.
-fn wrong_lists() {
+// A query run whole, and one that asks for a pair less than it is judged by.
+fn wrong_query() {
     let m = sums(2, query());
     let c = case(2, query(), &m);
-    let right_fault = play::fault_at_end(c, tables(), right());
+    let right = play::at_once(c, tables());
     line(
-        b"a whole query with the right list, no fault",
-        right_fault == 0,
+        b"a query run whole, no fault",
+        judge::fault(c, &m, right) == 0,
     );
-    let mut s = right();
-    s.given[0] = pair(13, 2, 2);
-    let fault = play::fault_at_end(c, tables(), s);
-    line(b"a whole query with another list", fault == judge::LIST);
+    let other = play::at_once(case(2, openings::query(2, 2, 5), &m), tables());
+    let early = judge::fault(c, &m, other) == judge::EARLY;
+    line(b"a query run whole that lists too few", early);
 }
 
 // How many kinds of harm to a record are seen as a change.
@@ -265,6 +264,6 @@ pub fn all() {
     wrong_depth();
     wrong_record();
     wrong_records();
-    wrong_lists();
+    wrong_query();
     wrong_refusals();
 }

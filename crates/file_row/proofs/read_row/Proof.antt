@@ -9,12 +9,12 @@ use Rattle.rules.specs.Tables.{width, coordinateFits}
 use Rattle.rules.specs.File.{columnStart, rowBytes, endsLine}
 use Rattle.file_laws.specs.Columns.{start-up}
 use Rattle.column.specs.declared.Column.{Column}
-use Rattle.file_check.specs.declared.Row.{Row}
-use Rattle.file_check.specs.Held.{heldAt, columnsHeld, numbersHeld, frontHeld, rowHeld}
-use Rattle.file_check.proofs.Rows.{columns-more, numbers-more, back-held, back-next, back-fits}
+use Rattle.file_row.specs.declared.Row.{Row}
+use Rattle.file_row.specs.Held.{heldAt, columnsHeld, numbersHeld, frontHeld, rowHeld}
+use Rattle.file_row.proofs.Rows.{columns-more, numbers-more, back-held, back-next, back-fits}
 use borrow.Author.Needs.{needs, sfits-of}
-use Rattle.file_check.proofs.read_row.Statement.{statement}
-use Rattle.file_check.proofs.read_row.Tie as tie
+use Rattle.file_row.proofs.read_row.Statement.{statement}
+use Rattle.file_row.proofs.read_row.Tie as tie
 
 abbrev Inv-loop : tie.InvT-loop
 Inv-loop n bytes o front fits₀ inside₀ at₀ k₀ fits inside at k =

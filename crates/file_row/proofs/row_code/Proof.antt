@@ -1,10 +1,10 @@
 -- `row_code` meets its contract: 9, then 6, then 7. Assumes nothing.
 use mir.Syntax.{w32}
 use mir.Facts.{toZ-ofZ}
-use Rattle.file_check.specs.Held.{heldRowCode}
+use Rattle.file_row.specs.Held.{heldRowCode}
 use borrow.Author.Needs.{needs, sfits-of}
-use Rattle.file_check.proofs.row_code.Statement.{statement}
-use Rattle.file_check.proofs.row_code.Tie as tie
+use Rattle.file_row.proofs.row_code.Statement.{statement}
+use Rattle.file_row.proofs.row_code.Tie as tie
 
 unless-requires : tie.Need-unless-requires
 unless-requires c κs = search needs

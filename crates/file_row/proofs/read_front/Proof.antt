@@ -2,10 +2,10 @@
 use mir.Syntax.{w32}
 use mir.Facts.{toZ-ofZ}
 use Rattle.rules.specs.File.{columnStart}
-use Rattle.file_check.proofs.Rows.{front-is}
+use Rattle.file_row.proofs.Rows.{front-is}
 use borrow.Author.Needs.{needs, sfits-of}
-use Rattle.file_check.proofs.read_front.Statement.{statement}
-use Rattle.file_check.proofs.read_front.Tie as tie
+use Rattle.file_row.proofs.read_front.Statement.{statement}
+use Rattle.file_row.proofs.read_front.Tie as tie
 
 column-at-requires : tie.Need-column-at-requires
 unfolding columnStart
