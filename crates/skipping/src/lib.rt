@@ -5,7 +5,7 @@ ghost use mathlib.Core.Bool.{true, cond};
 ghost use Rattle.rules.specs.Tables.{table, rectangle, farApart, HasRow};
 ghost use Rattle.rules.specs.Calls.{isCard};
 ghost use Rattle.tolerances.specs.Counted.{TolerancesFit};
-ghost use Rattle.rectangles.specs.Sides.{sidesIn};
+ghost use Rattle.sides.specs.Sides.{sidesIn};
 ghost use Rattle.near_rows.specs.Small.{SmallPairs};
 ghost use Rattle.skipping.specs.Effect.{Effect};
 

@@ -5,9 +5,9 @@ use native.Mathlib.Omega.{arith}
 use Rattle.rules.specs.Tables.{table, side}
 use Rattle.rules.specs.Widths.{rows-row}
 use borrow.Author.Needs.{needs}
-use Rattle.rectangles.proofs.Ends as E
-use Rattle.rectangles.proofs.side.Statement.{statement}
-use Rattle.rectangles.proofs.side.Tie as tie
+use Rattle.sides.proofs.Ends as E
+use Rattle.sides.proofs.side.Statement.{statement}
+use Rattle.sides.proofs.side.Tie as tie
 
 abbrev Inv-loop : tie.InvT-loop
 Inv-loop n t m k x s₀ i₀ s i = (1 ≤ i) × (i ≤ m) × (s ≡ side (table n t) k (i - 1))

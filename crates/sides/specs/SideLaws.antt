@@ -9,7 +9,7 @@ use lib.Seq.{ext-getD}
 use Rattle.lists.specs.Parts.{length-map-range, map-range-at}
 use Rattle.rules.specs.Tables.{Table, rowCount, HasRows, firstRows, side, rectangle}
 use Rattle.rules.specs.Rectangles.{noSide, rectangle-length, first-side}
-use Rattle.rectangles.specs.Sides.{sideIn, sidesIn, firstSides}
+use Rattle.sides.specs.Sides.{sideIn, sidesIn, firstSides}
 
 module _ (n : ℕ) (l : List ℤ) where
   pub in-length : length (sidesIn n l) ≡ n

@@ -5,12 +5,12 @@ use native.Mathlib.Omega.{arith}
 use Rattle.rules.specs.declared.Side.{Side}
 use Rattle.rules.specs.Tables.{table, side}
 use Rattle.rules.specs.Widths.{row-below, has-rows}
-use Rattle.rectangles.specs.Sides.{firstSides}
-use Rattle.rectangles.specs.SideLaws.{all-written, all-first}
-use Rattle.rectangles.proofs.Stored as S
+use Rattle.sides.specs.Sides.{firstSides}
+use Rattle.sides.specs.SideLaws.{all-written, all-first}
+use Rattle.sides.proofs.Stored as S
 use borrow.Author.Needs.{needs}
-use Rattle.rectangles.proofs.put_sides.Statement.{statement}
-use Rattle.rectangles.proofs.put_sides.Tie as tie
+use Rattle.sides.proofs.put_sides.Statement.{statement}
+use Rattle.sides.proofs.put_sides.Tie as tie
 
 abbrev Inv-loop : tie.InvT-loop
 Inv-loop n t out₀ m k₀ out k = (k ≤ n) × S.Stand (λ j. side (table n t) j (m - 1)) out k

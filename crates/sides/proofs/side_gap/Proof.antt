@@ -6,9 +6,9 @@ use mir.Syntax.{w32, w64}
 use mir.Val.{SFits, toZ}
 use Rattle.rules.specs.declared.Side.{Side}
 use Rattle.rules.specs.Tables.{sideGap}
-use Rattle.rectangles.proofs.Gaps as G
-use Rattle.rectangles.proofs.side_gap.Statement.{statement}
-use Rattle.rectangles.proofs.side_gap.Tie as tie
+use Rattle.sides.proofs.Gaps as G
+use Rattle.sides.proofs.side_gap.Statement.{statement}
+use Rattle.sides.proofs.side_gap.Tie as tie
 
 abbrev start : tie.After-struct-told → tie.Start
 start c = c .before .before

@@ -8,7 +8,7 @@ use lib.IntN.{ℤ, pos}
 use lib.ListN.{length, set, length-set}
 use lib.Seq.{getD-set-same, getD-set-other}
 use Rattle.rules.specs.declared.Side.{Side}
-use Rattle.rectangles.specs.Sides.{sideIn, withSide}
+use Rattle.sides.specs.Sides.{sideIn, withSide}
 
 module _ (l : List ℤ) (k : ℕ) (s : Side) where
   abbrev first : List ℤ

@@ -11,7 +11,7 @@ use mir.Val.{SFits, toZ, ofZ}
 use mir.Facts.{toZ-ofZ}
 use Rattle.rules.specs.declared.Side.{Side}
 use Rattle.rules.specs.Tables.{Table, num, side}
-use Rattle.rectangles.specs.Sides.{widened}
+use Rattle.sides.specs.Sides.{widened}
 
 -- a 32-bit number, as the code has it
 abbrev pub held : ℤ → ℤ

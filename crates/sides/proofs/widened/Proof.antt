@@ -5,9 +5,9 @@ use mathlib.Core.Logic.{⊎-elim}
 use lib.Signed.{leZ}
 use mir.Syntax.{w32}
 use mir.Val.{SFits, toZ}
-use Rattle.rectangles.proofs.Ends as E
-use Rattle.rectangles.proofs.widened.Statement.{statement}
-use Rattle.rectangles.proofs.widened.Tie as tie
+use Rattle.sides.proofs.Ends as E
+use Rattle.sides.proofs.widened.Statement.{statement}
+use Rattle.sides.proofs.widened.Tie as tie
 
 abbrev start : tie.After-struct-told → tie.Start
 start c = c .before .before
