@@ -1,5 +1,5 @@
-// The session, and the whole query at once, against a plain double loop, over tables made from seeds. Prints totals; the
-// comparer is tried first.
+// The session, and the whole query at once, against a plain double loop, over tables made from seeds. Prints totals;
+// the comparer is tried first.
 use crate::calls::Lent;
 use crate::due::Case;
 use crate::plain::Decided;

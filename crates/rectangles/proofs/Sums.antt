@@ -10,10 +10,8 @@ use native.Mathlib.Numerals.{add-one}
 use lib.Dec.{ltb}
 use lib.IntN.{ℤ}
 use lib.ListN.{getD, take}
-use lib.Signed.{mag}
-use mir.Syntax.{w32, w64}
-use mir.Val.{Fits, toZ, ofZ}
-use mir.Facts.{toZ-ofZ}
+use mir.Syntax.{w64}
+use mir.Val.{Fits}
 use borrow.Author.Tests.{lt-ltb, le-ltb, ltb-false}
 use Rattle.rules.specs.declared.Query.{Query}
 use Rattle.rules.specs.declared.Side.{Side}
@@ -24,10 +22,6 @@ use Rattle.rules.specs.Squares.{squareAt, squares-more, squares-first, squares-
 use Rattle.rules.specs.Rectangles.{noSide, apartSquare, far-first}
 use Rattle.sides.specs.Sides.{sideIn, sidesIn, firstSides}
 use Rattle.sides.specs.SideLaws.{in-length, in-at, first-length, first-at, first-rectangle, all-first}
-
--- a 32-bit number, as the code has it, is itself
-pub passed : (z : ℤ) → mag z < 2 ^ 31 → toZ w32 (ofZ w32 z) ≡ z
-passed z h = toZ-ofZ {w = w32} {z = z} (record { sfits = h })
 
 pub square-fits : (n : ℕ) → n < 2 ^ 32 → Fits w64 (n * n)
 square-fits n h =
