@@ -11,9 +11,9 @@ use Rattle.rules.specs.declared.Pair.{Pair}
 use Rattle.rules.specs.Tables.{Terms, Block, row, rowCount, pairAt, ahead}
 use Rattle.keys.specs.Held.{keyOf, Narrow, Keyed, Put}
 use Rattle.keys.specs.Keys.{keyed-length}
+use Rattle.near_rows.specs.Near.{NextNear}
 use Rattle.block.specs.Block.{metRow, metRows, Joined}
 use Rattle.block.specs.Full.{off, put-off, to-ordered}
-use Rattle.block.specs.Near.{NextNear}
 use Rattle.block.specs.Twin.{metTo, to-next, row-joins, row-leaves, row-skips, rows-skip, met-is}
 
 module _ (w : Terms) (room : ℕ) (x y : Block) (n : ℕ) (a : List ℕ) where

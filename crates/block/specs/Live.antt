@@ -1,6 +1,6 @@
 -- The rows of a block that are not withdrawn stand above all others, and no other qualifies. Assumes nothing.
 use mathlib.Core.Path.{_≡_}
-use mathlib.Core.Bool.{true, false}
+use mathlib.Core.Bool.{false}
 use Prim.Native.Nat.{ℕ, _≤_, _<_}
 use native.Mathlib.Nat.{mul-le-mul}
 use native.Mathlib.Omega.{arith}
@@ -9,13 +9,8 @@ use Rattle.lists.specs.Bools.{clash, fails}
 use Rattle.rules.specs.declared.Query.{Query}
 use Rattle.rules.specs.Tables.{Table, row, rowCount, withdrawn, rowsQualify, weighted, terms}
 use Rattle.session_laws.specs.ReadOut.{rows-qualify-out}
+use Rattle.near_rows.specs.Live.{Live}
 use Rattle.block.specs.Block.{Below, Rows}
-
--- the first n rows are not withdrawn, those from there on are
-pub record Live (rows : Table) (n : ℕ) : Type 0 where
-  pub upto : n ≤ rowCount rows
-  pub live : (i : ℕ) → i < n → withdrawn (row rows i) ≡ false
-  pub beyond : (i : ℕ) → n ≤ i → i < rowCount rows → withdrawn (row rows i) ≡ true
 
 -- scores fall
 pub rows-below : (a : ℕ) (rows : Table) → Rows a rows → Below rows

@@ -9,6 +9,7 @@ use crate::plain;
 use crate::plain::Sums;
 use crate::plain::Table;
 use crate::plain::pair;
+use outcomes::Outcome;
 use rules::Counts;
 use rules::FieldKind;
 use rules::Kinds;
@@ -93,6 +94,18 @@ pub fn shown(l: Lent, s: Session) -> u32 {
     (rows.len() % 66) as u32
 }
 
+// A whole query at once.
+pub fn run(l: Lent, query: Query) -> Outcome {
+    let f = l.field;
+    let t = l.trim;
+    run_query::run(
+        query,
+        kinds_on(l.card),
+        first(&f, l.fields),
+        first(&t, l.trims),
+    )
+}
+
 // The number, if the call was answered by it and gave back this record; else 0.
 pub fn kept(step: Step, s: Session, code: u32) -> u32 {
     let r = step.session;
@@ -104,12 +117,32 @@ pub fn kept(step: Step, s: Session, code: u32) -> u32 {
 // No call was made: the harm chosen does not fit the record or the tables.
 const NONE: u32 = 40;
 
-// Kinds of harm to a record.
-pub const HARMS: u32 = 30;
+// Kinds of harm to a record: to its pairs, its query, its counts.
+const PAIR_HARMS: u32 = 7;
 
-// A record that 5 refuses, made of one that it does not. The first pair place is harmed whether a pair is held there or
-// none is; a harm that needs a longer block, a second row or a held pair is another where there is none.
+const QUERY_HARMS: u32 = 10;
+
+const COUNT_HARMS: u32 = 13;
+
+pub const HARMS: u32 = PAIR_HARMS + QUERY_HARMS + COUNT_HARMS;
+
+// A record that 5 refuses, made of one that it does not. A harm that needs a longer block, a second row or a held pair
+// is another where there is none.
 pub fn harmed(s: Session, kind: u32) -> Session {
+    if kind < PAIR_HARMS {
+        return harmed_pairs(s, kind);
+    }
+    let others = kind - PAIR_HARMS;
+    if QUERY_HARMS <= others {
+        return harmed_counts(s, others - QUERY_HARMS);
+    }
+    let mut r = s;
+    r.query = harmed_query(s, others);
+    r
+}
+
+// The first pair place is harmed whether a pair is held there or none is.
+fn harmed_pairs(s: Session, kind: u32) -> Session {
     let mut r = s;
     match kind {
         0 => r.pairs[0] = pair(179983, 1, 1),
@@ -117,31 +150,47 @@ pub fn harmed(s: Session, kind: u32) -> Session {
         2 => r.pairs[0] = pair(5, 1, 0),
         3 => r.pairs[0] = pair(5, wrapping_add_u32(s.depth.field.0, 1), 1),
         4 => r.pairs[0] = pair(5, 1, wrapping_add_u32(s.depth.trim.0, 1)),
-        5 => r.query.k = 0,
-        6 => r.query.k = 65,
-        7 => r.query.block = 0,
-        8 => r.query.block = 1025,
-        9 => r.query.radius = 40001,
-        10 => r.out = 65,
-        11 => r.held = 65,
-        12 => r.last = 3,
-        13 => r.rows.field.0 = 65536,
-        14 => r.rows.trim.0 = 65536,
-        15 => r.depth.field.0 = wrapping_add_u32(s.rows.field.0, 1),
-        16 => r.depth.trim.0 = wrapping_add_u32(s.rows.trim.0, 1),
-        17 => r.last = (s.last == 0) as u32,
-        18 => return harmed_depth(s),
-        19 => r.joined = 1099511627776,
-        20 => r.pairs[1] = held_twice(s),
-        21 => r.query.weights.field.0 = 0,
-        22 => r.query.weights.trim.0 = 10,
-        23 => r.rows.card = 0,
-        24 => r.rows.card = 1,
-        25 => r.rows.card = 4,
-        26 => r.query.tolerances.field.0 = 501,
-        27 => r.query.tolerances.trim.0 = 501,
-        28 => return harmed_meaning(s),
+        5 => r.pairs[1] = held_twice(s),
         _ => r.pairs[63] = pair(20000, 0, 0),
+    }
+    r
+}
+
+fn harmed_query(s: Session, kind: u32) -> Query {
+    let mut q = s.query;
+    match kind {
+        0 => q.k = 0,
+        1 => q.k = 65,
+        2 => q.block = 0,
+        3 => q.block = 1025,
+        4 => q.radius = 40001,
+        5 => q.weights.field.0 = 0,
+        6 => q.weights.trim.0 = 10,
+        7 => q.tolerances.field.0 = 501,
+        8 => q.tolerances.trim.0 = 501,
+        _ => return unmeetable(s),
+    }
+    q
+}
+
+fn harmed_counts(s: Session, kind: u32) -> Session {
+    let field = wrapping_add_u32(s.rows.field.0, 1);
+    let trim = wrapping_add_u32(s.rows.trim.0, 1);
+    let mut r = s;
+    match kind {
+        0 => r.out = 65,
+        1 => r.held = 65,
+        2 => r.last = 3,
+        3 => r.last = (s.last == 0) as u32,
+        4 => r.rows.field.0 = 65536,
+        5 => r.rows.trim.0 = 65536,
+        6 => r.depth.field.0 = field,
+        7 => r.depth.trim.0 = trim,
+        8 => r.rows.card = 0,
+        9 => r.rows.card = 1,
+        10 => r.rows.card = 4,
+        11 => return harmed_depth(s),
+        _ => r.joined = 1099511627776,
     }
     r
 }
@@ -157,12 +206,11 @@ fn harmed_depth(s: Session) -> Session {
     r
 }
 
-// Rows are read of a query that nothing can meet; where none is, a tolerance is too high.
-fn harmed_meaning(s: Session) -> Session {
-    let mut r = s;
-    r.query = openings::surely(judge::when(has_read(s.depth), 500, 501), 0, s.query);
-    r.query.radius = 0;
-    r
+// A query that nothing can meet, where rows are read; where none is, one with a tolerance that is too high.
+fn unmeetable(s: Session) -> Query {
+    let mut q = openings::surely(judge::when(has_read(s.depth), 500, 501), 0, s.query);
+    q.radius = 0;
+    q
 }
 
 // The first held pair; without one a pair that no record holds.
@@ -275,23 +323,47 @@ const BAD: [i32; 10] = [
     10001,
 ];
 
+// What a seed chooses: a read or a take, a table, a row of it, a way to harm and a kind of that.
+struct Harm {
+    is_read: bool,
+    of_field: bool,
+    row: u32,
+    way: u32,
+    kind: u32,
+}
+
+fn chosen(seed: u64, place: u64) -> Harm {
+    let is_read = dice::one_in(seed, wrapping_add_u64(place, 40000), 2);
+    let of_field = dice::one_in(seed, wrapping_add_u64(place, 50000), 2);
+    let kind = dice::below(seed, wrapping_add_u64(place, 10000), 2160);
+    let row = wrapping_add_u32(dice::below(seed, wrapping_add_u64(place, 20000), 12), 1);
+    let way = dice::below(seed, wrapping_add_u64(place, 30000), 10);
+    Harm {
+        is_read,
+        of_field,
+        row,
+        way,
+        kind,
+    }
+}
+
 // A row that was read has a number out of range.
-fn harmed_range(l: Lent, s: Session, of_field: bool, kind: u32, row: u32, is_read: bool) -> u32 {
-    if !was_read(s.depth, of_field, row) {
+fn harmed_range(l: Lent, s: Session, h: Harm) -> u32 {
+    if !was_read(s.depth, h.of_field, h.row) {
         return NONE;
     }
-    let bad = if l.card == 3 { kind % 10 } else { kind % 8 };
-    let h = with_number(l, of_field, row, bad / 2, BAD[(bad % 10) as usize]);
-    kept(call(h, s, is_read), s, 6)
+    let bad = if l.card == 3 { h.kind % 10 } else { h.kind % 8 };
+    let other = with_number(l, h.of_field, h.row, bad / 2, BAD[(bad % 10) as usize]);
+    kept(call(other, s, h.is_read), s, 6)
 }
 
 // A row that was read has a score above the row before.
-fn harmed_order(l: Lent, s: Session, of_field: bool, row: u32, is_read: bool) -> u32 {
-    if !(was_read(s.depth, of_field, row) & can_rise(l, of_field, row)) {
+fn harmed_order(l: Lent, s: Session, h: Harm) -> u32 {
+    if !(was_read(s.depth, h.of_field, h.row) & can_rise(l, h.of_field, h.row)) {
         return NONE;
     }
-    let h = with_number(l, of_field, row, 1, 9999);
-    kept(call(h, s, is_read), s, 7)
+    let other = with_number(l, h.of_field, h.row, 1, 9999);
+    kept(call(other, s, h.is_read), s, 7)
 }
 
 // A read with another number in a column of rows i and j.
@@ -317,20 +389,26 @@ fn harmed_block(c: Case, m: &Sums, l: Lent, s: Session, kind: u32) -> u32 {
     with_both(l, s, i, j, 0, 0, 6)
 }
 
+// A row is harmed: one that was read, or the next of each table.
+fn harmed_row(c: Case, m: &Sums, l: Lent, s: Session, h: Harm) -> u32 {
+    let way = h.way;
+    match way {
+        3 => harmed_range(l, s, h),
+        4 | 5 => harmed_order(l, s, h),
+        _ => harmed_block(c, m, l, s, h.kind),
+    }
+}
+
 // The list of calls that must be refused: one of them, chosen by the seed.
 pub fn some(c: Case, m: &Sums, l: Lent, s: Session, seed: u64, place: u64) -> u32 {
-    let is_read = dice::one_in(seed, wrapping_add_u64(place, 40000), 2);
-    let of_field = dice::one_in(seed, wrapping_add_u64(place, 50000), 2);
-    let kind = dice::below(seed, wrapping_add_u64(place, 10000), 2160);
-    let row = wrapping_add_u32(dice::below(seed, wrapping_add_u64(place, 20000), 12), 1);
-    match dice::below(seed, wrapping_add_u64(place, 30000), 10) {
-        0 | 1 => harmed_record(l, s, kind % HARMS, is_read),
-        2 => kept(call(resized(l, of_field, kind), s, is_read), s, 4),
-        3 => harmed_range(l, s, of_field, kind, row, is_read),
-        4 | 5 => harmed_order(l, s, of_field, row, is_read),
-        6 => harmed_block(c, m, l, s, kind),
-        7 => openings::harmed(l, s.query, kind % 14),
-        8 => openings::unlike(l, s.query, kind % 28),
-        _ => harmed_card(l, s, is_read),
+    let h = chosen(seed, place);
+    let way = h.way;
+    match way {
+        0 | 1 => harmed_record(l, s, h.kind % HARMS, h.is_read),
+        2 => kept(call(resized(l, h.of_field, h.kind), s, h.is_read), s, 4),
+        3 | 4 | 5 | 6 => harmed_row(c, m, l, s, h),
+        7 => openings::harmed(l, s.query, h.kind % 14),
+        8 => openings::unlike(l, s.query, h.kind % 28),
+        _ => harmed_card(l, s, h.is_read),
     }
 }

@@ -1,6 +1,9 @@
-// The session against a plain double loop, over tables made from seeds. Prints totals; the comparer is tried first.
+// The session, and the whole query at once, against a plain double loop, over tables made from seeds. Prints totals;
+// the comparer is tried first.
+use crate::calls::Lent;
 use crate::due::Case;
 use crate::plain::Decided;
+use crate::plain::Sums;
 use libc::STDOUT_FILENO;
 use rules::Counts;
 
@@ -15,27 +18,36 @@ mod play;
 mod tally;
 mod wrong;
 
-// A case: its session is played, and counted. The first 4,000 are on the old card, the others on the new.
+// A case: its tables are made and its session is played. The first 4,000 are on the old card, the others on the new.
 fn case(seed: u64, tally: &mut [u64; 48]) {
     let card = judge::when(seed < 4000, 2, 3);
     let field = made::table(seed, card);
     let trim = made::table(std::num::wrapping_add_u64(seed, 1000000), card);
     let rows = plain::counts(dice::below(seed, 10, 13), dice::below(seed, 11, 13));
     let query = made::query(seed, card);
-    let sums = plain::sums(query, card, &field, &trim, rows);
-    let live = plain::counts(
-        plain::live(card, &field, rows.field.0),
-        plain::live(card, &trim, rows.trim.0),
-    );
-    let c = due::case_of(query, card, rows, live, &sums);
-    let lent = calls::first_rows(card, field, trim, rows);
-    let seen = play::whole(c, &sums, lent, seed, tally);
-    counted(c, seen.said, seen.fault, seen.session.depth, tally);
     let decided = plain::deciders(query, card, &field, &trim, rows);
     counted_on(card, decided, tally);
-    tally::count_if(tally, c.none, tally::UNSATISFIABLE);
-    let far = plain::far_blocks(&sums, seen.session.depth);
-    counted_far(far, seen.session.joined, tally);
+    let sums = plain::sums(query, card, &field, &trim, rows);
+    let fields = plain::live(card, &field, rows.field.0);
+    let trims = plain::live(card, &trim, rows.trim.0);
+    let c = due::case_of(query, card, rows, plain::counts(fields, trims), &sums);
+    counted(c, tally);
+    played(
+        seed,
+        c,
+        &sums,
+        calls::first_rows(card, field, trim, rows),
+        tally,
+    );
+}
+
+// A session is played, its query run whole, and both are counted.
+fn played(seed: u64, c: Case, m: &Sums, l: Lent, tally: &mut [u64; 48]) {
+    let seen = play::whole(c, m, l, seed, tally);
+    let depth = seen.session.depth;
+    let fault = judge::or(seen.fault, judge::fault(c, m, play::at_once(c, l)));
+    counted_end(c, seen.said, fault, depth, tally);
+    counted_far(plain::far_blocks(m, depth), seen.session.joined, tally);
 }
 
 // By how many block pairs of its reading lie too far apart, and how many others are joined.
@@ -52,14 +64,23 @@ fn counted_on(card: u32, decided: Decided, tally: &mut [u64; 48]) {
     tally::count_if(tally, 0 < decided.by_tolerance, tally::BY_TOLERANCE);
 }
 
-fn counted(c: Case, said: u32, fault: u32, d: Counts, tally: &mut [u64; 48]) {
-    let empty = (c.rows.field.0 == 0) | (c.rows.trim.0 == 0);
-    let exact = !empty & (plain::higher(d.field.0, d.trim.0) == c.limit);
+// By what its tables have, and whether anything can meet its query.
+fn counted(c: Case, tally: &mut [u64; 48]) {
     tally::count(tally, tally::CASES);
-    tally::count_if(tally, empty, tally::EMPTY);
+    tally::count_if(tally, is_empty(c), tally::EMPTY);
     let field = c.live.field.0 < c.rows.field.0;
     let trim = c.live.trim.0 < c.rows.trim.0;
     tally::count_if(tally, field | trim, tally::WITHDRAWN);
+    tally::count_if(tally, c.none, tally::UNSATISFIABLE);
+}
+
+fn is_empty(c: Case) -> bool {
+    (c.rows.field.0 == 0) | (c.rows.trim.0 == 0)
+}
+
+// By how it ended, and whether the row limit was met exactly.
+fn counted_end(c: Case, said: u32, fault: u32, d: Counts, tally: &mut [u64; 48]) {
+    let exact = !is_empty(c) & (plain::higher(d.field.0, d.trim.0) == c.limit);
     tally::count_if(tally, said != due::FINISHED, tally::UNFINISHED);
     tally::count_if(tally, fault != 0, tally::MISMATCHES);
     tally::count_if(tally, exact, tally::EXACT);
@@ -86,7 +107,8 @@ fn line(tally: [u64; 48], i: u32, name: &[u8]) {
     }
 }
 
-fn totals(a: [u64; 48]) {
+// The cases, by kind.
+fn cases(a: [u64; 48]) {
     line(a, tally::CASES, b"cases: ");
     line(a, tally::OLD_CARD, b"on the old card: ");
     line(a, tally::NEW_CARD, b"on the new card: ");
@@ -109,6 +131,10 @@ fn totals(a: [u64; 48]) {
     );
     line(a, tally::EMPTY, b"with an empty table: ");
     line(a, tally::WITHDRAWN, b"with a withdrawn row: ");
+}
+
+// The calls, by answer; how often the row limit was met.
+fn answers(a: [u64; 48]) {
     line(a, due::READ, b"blocks read: ");
     line(a, due::SETTLED, b"settled: ");
     line(a, due::GIVEN, b"pairs: ");
@@ -150,7 +176,8 @@ fn main() {
     all_cases(&mut tally);
     let long = [0i32; 327680];
     too_long(&long, &mut tally);
-    totals(tally);
+    cases(tally);
+    answers(tally);
     refusals(tally);
     line(tally, tally::UNFINISHED, b"never finished: ");
     line(tally, tally::MISMATCHES, b"mismatches: ");

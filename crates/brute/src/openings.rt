@@ -91,25 +91,37 @@ fn sized(l: Lent, fields: u32, trims: u32) -> Lent {
     r
 }
 
-// An opening with a number of the query out of range, or a table of a part of a row: of 7 numbers, or of whole rows on
-// the other card only.
+// An opening with a number of the query out of range, or a table of a part of a row, or both.
 pub fn harmed(l: Lent, q: Query, kind: u32) -> u32 {
-    let other = judge::when(l.card == 3, 48, 50);
+    match kind {
+        0 | 1 | 2 | 3 | 4 => harmed_query(l, q, kind),
+        5 | 8 | 9 | 10 => harmed_size(l, q, kind),
+        6 => opening(sized(l, l.fields, 7), weighing(10, 1, q), 12),
+        7 => opening(l, weighing(1, 0, q), 12),
+        11 => opening(l, surely(501, 0, q), 16),
+        12 => opening(sized(l, 7, l.trims), surely(0, 501, q), 16),
+        _ => opening(l, surely(501, 501, weighing(1, 10, q)), 12),
+    }
+}
+
+fn harmed_query(l: Lent, q: Query, kind: u32) -> u32 {
     match kind {
         0 => opening(l, query(0, q.block, q.radius), 1),
         1 => opening(l, query(65, q.block, q.radius), 1),
         2 => opening(l, query(q.k, 0, q.radius), 2),
         3 => opening(l, query(q.k, 1025, q.radius), 2),
-        4 => opening(l, weighing(0, 10, query(q.k, q.block, 40001)), 3),
-        5 => opening(sized(l, 7, l.trims), q, 4),
-        6 => opening(sized(l, l.fields, 7), weighing(10, 1, q), 12),
-        7 => opening(l, weighing(1, 0, q), 12),
-        8 => opening(sized(l, l.fields, 7), q, 4),
-        9 => opening(sized(l, other, l.trims), q, 4),
-        10 => opening(sized(l, l.fields, other), q, 4),
-        11 => opening(l, surely(501, 0, q), 16),
-        12 => opening(sized(l, 7, l.trims), surely(0, 501, q), 16),
-        _ => opening(l, surely(501, 501, weighing(1, 10, q)), 12),
+        _ => opening(l, weighing(0, 10, query(q.k, q.block, 40001)), 3),
+    }
+}
+
+// A table of 7 numbers, or of whole rows on the other card only.
+fn harmed_size(l: Lent, q: Query, kind: u32) -> u32 {
+    let other = judge::when(l.card == 3, 48, 50);
+    let size = judge::when(kind < 9, 7, other);
+    if kind % 4 == 1 {
+        opening(sized(l, size, l.trims), q, 4)
+    } else {
+        opening(sized(l, l.fields, size), q, 4)
     }
 }
 

@@ -118,6 +118,23 @@ fn turn(
     r
 }
 
+// A whole query at once, as its caller sees it.
+pub fn at_once(c: Case, l: Lent) -> Seen {
+    let run = calls::run(l, c.query);
+    let session = run.session;
+    let given = run.pairs;
+    let refused = (run.opening != 0) | (run.reading != 0);
+    Seen {
+        session,
+        given,
+        count: (run.count % 65) as u32,
+        said: judge::when(refused, 0, due::FINISHED),
+        due: due::FINISHED,
+        record: 0,
+        fault: 0,
+    }
+}
+
 // A session from its opening to its end, and a read and a take after it.
 pub fn whole(c: Case, m: &Sums, l: Lent, seed: u64, tally: &mut [u64; 48]) -> Seen {
     let mut seen = opened(c, m, l);

@@ -101,6 +101,9 @@ fn wrong_pairs() {
     listed(b"too far apart", 1, pair(11, 1, 3), judge::TOO_FAR);
     listed(b"another sum than its own", 0, pair(17, 1, 1), judge::SUM);
     listed(b"a pair twice", 1, pair(16, 1, 1), judge::TWICE);
+}
+
+fn wrong_order() {
     listed(b"the best pair left out", 0, pair(13, 2, 2), judge::ORDER);
     let mut swapped = right();
     swapped.given[1] = pair(14, 1, 2);
@@ -209,6 +212,20 @@ fn wrong_records() {
     third_read(b"a better pair passed over", 5, judge::HELD);
 }
 
+// A query run whole, and one that asks for a pair less than it is judged by.
+fn wrong_query() {
+    let m = sums(2, query());
+    let c = case(2, query(), &m);
+    let right = play::at_once(c, tables());
+    line(
+        b"a query run whole, no fault",
+        judge::fault(c, &m, right) == 0,
+    );
+    let other = play::at_once(case(2, openings::query(2, 2, 5), &m), tables());
+    let early = judge::fault(c, &m, other) == judge::EARLY;
+    line(b"a query run whole that lists too few", early);
+}
+
 // How many kinds of harm to a record are seen as a change.
 fn harms_seen(s: Session) -> u32 {
     let mut n = 0;
@@ -240,11 +257,13 @@ fn wrong_refusals() {
 pub fn all() {
     finds(b"a right list, no fault", right(), 0);
     wrong_pairs();
+    wrong_order();
     wrong_light();
     wrong_tolerance();
     wrong_answers();
     wrong_depth();
     wrong_record();
     wrong_records();
+    wrong_query();
     wrong_refusals();
 }

@@ -85,17 +85,17 @@ fn same_size_code(rows: u32, n: u32, t: &[i32]) -> u32
     ensures { λ r. ⌜ r ≡ sameSizeCode rows (table n (now (t .entry))) ⌝ }
 {
     let same = tables::rows_lent(n, t) == rows as usize;
-    tables::unless(tables::size_fits(n, t) & same, rules::TABLE_SIZE)
+    codes::unless(tables::size_fits(n, t) & same, rules::TABLE_SIZE)
 }
 
 // 5, unless the record passed it, then 4 of either table.
 pub fn lent_code(fits: bool, rows: TwoTables, f: &[i32], t: &[i32]) -> u32
     ensures { λ r. ⌜ r ≡ lentOf fits rows (now (f .entry)) (now (t .entry)) ⌝ }
 {
-    let record = tables::unless(fits, rules::BAD_RECORD);
+    let record = codes::unless(fits, rules::BAD_RECORD);
     let field = same_size_code(rows.field.0, rows.card, f);
     let trim = same_size_code(rows.trim.0, rows.card, t);
-    tables::first(record, tables::first(field, trim))
+    codes::first(record, codes::first(field, trim))
 }
 
 // 5, 4, then 6 and 7 over the rows up to the depths, field first. The record itself is not handed in: it would be
@@ -108,9 +108,9 @@ pub fn call_code(fits: bool, rows: TwoTables, depth: Counts, f: &[i32], t: &[i32
     if lent != 0 {
         return lent;
     }
-    let field = tables::rows_code(rows.card, f, 0, depth.field.0 as usize);
+    let field = row_checks::rows_code(rows.card, f, 0, depth.field.0 as usize);
     if field != 0 {
         return field;
     }
-    tables::rows_code(rows.card, t, 0, depth.trim.0 as usize)
+    row_checks::rows_code(rows.card, t, 0, depth.trim.0 as usize)
 }

@@ -83,7 +83,7 @@ pub fn new_block_code(f: &[i32], t: &[i32], s: Session) -> u32
     let from = d as usize;
     let n = (e - d) as usize;
     if field {
-        return tables::rows_code(s.rows.card, f, from, n);
+        return row_checks::rows_code(s.rows.card, f, from, n);
     }
-    tables::rows_code(s.rows.card, t, from, n)
+    row_checks::rows_code(s.rows.card, t, from, n)
 }

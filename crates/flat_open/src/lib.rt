@@ -14,8 +14,8 @@ pub fn start(query: &[u32], f: &[i32], t: &[i32], lent: &mut [u32]) -> i32
     if (query.len() < QUERY_SIZE) | (lent.len() < SIZE) {
         return answers::short();
     }
-    let q = record_taken::query_in(query);
-    let kinds = record_taken::kinds_in(query);
+    let q = query_taken::query_in(query);
+    let kinds = query_taken::kinds_in(query);
     let step = opening::start(q, kinds, f, t);
     let answer = step.answer;
     if let Answer::Opened = answer {

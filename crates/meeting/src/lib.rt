@@ -15,7 +15,7 @@ ghost use Rattle.rules.specs.Calls.{isCard, newBlockCode};
 ghost use Rattle.session_laws.specs.Record.{QueryFits};
 ghost use Rattle.session_laws.specs.Calls.{Accepted};
 ghost use Rattle.block.specs.Block.{Joined};
-ghost use Rattle.rectangles.specs.Sides.{sidesIn};
+ghost use Rattle.sides.specs.Sides.{sidesIn};
 ghost use Rattle.skipping.specs.Effect.{Effect};
 ghost use Rattle.choosing.specs.Ready.{Ready};
 ghost use Rattle.choosing.specs.Due.{Due};
@@ -161,7 +161,7 @@ fn meet_blocks(
     let mut c: usize = 0;
     let mut i: usize = 0;
     while i < n {
-        let g = block::lesser(c + block, depth);
+        let g = near_rows::lesser(c + block, depth);
         let old = Span { from: c, to: g };
         let x = either(field, new, old);
         let y = either(field, old, new);
@@ -192,10 +192,10 @@ fn put_sides(n: u32, field: bool, f: &[i32], t: &[i32], new: Span, sides: &mut [
 {
     if field {
         let rows = tables::rows(n, f, new.from, new.to);
-        rectangles::put_sides(n, rows, sides);
+        sides::put_sides(n, rows, sides);
     } else {
         let rows = tables::rows(n, t, new.from, new.to);
-        rectangles::put_sides(n, rows, sides);
+        sides::put_sides(n, rows, sides);
     }
 }
 

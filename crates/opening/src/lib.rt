@@ -25,14 +25,14 @@ ghost use Rattle.opening.specs.Codes.{tablesCode};
 fn tables_code(m: u32, f: &[i32], n: u32, t: &[i32]) -> u32
     ensures { λ r. ⌜ r ≡ tablesCode (table m (now (f .entry))) (table n (now (t .entry))) ⌝ }
 {
-    let field = tables::unless(cards::is_card(m), rules::WRONG_KIND);
-    let trim = tables::unless(cards::is_card(n), rules::WRONG_KIND);
-    let rows = tables::unless(tables::size_fits(m, f), rules::TABLE_SIZE);
-    let others = tables::unless(tables::size_fits(n, t), rules::TABLE_SIZE);
-    let cards = tables::unless(m == n, rules::OTHER_CARD);
-    tables::first(
+    let field = codes::unless(cards::is_card(m), rules::WRONG_KIND);
+    let trim = codes::unless(cards::is_card(n), rules::WRONG_KIND);
+    let rows = codes::unless(tables::size_fits(m, f), rules::TABLE_SIZE);
+    let others = codes::unless(tables::size_fits(n, t), rules::TABLE_SIZE);
+    let cards = codes::unless(m == n, rules::OTHER_CARD);
+    codes::first(
         field,
-        tables::first(trim, tables::first(rows, tables::first(others, cards))),
+        codes::first(trim, codes::first(rows, codes::first(others, cards))),
     )
 }
 
@@ -42,7 +42,7 @@ fn open_code(q: Query, m: u32, f: &[i32], n: u32, t: &[i32]) -> u32
 {
     let query = number_checks::query_code(q);
     let tables = tables_code(m, f, n, t);
-    tables::first(query, tables)
+    codes::first(query, tables)
 }
 
 // A record with nothing read.

@@ -91,6 +91,16 @@ then-two w v at m n b l e =
     ∙ ap (λ (x : List ℕ). putAt (at + w + w) b x) (sym (then w at m (decimal w n) l))
     ∙ ap (λ (k : ℕ). putAt k b (putAt at (decimal w m ++ decimal w n) l)) o
 
+-- the same of bytes that were put one after the other: from l to m the number or the two, from m to r the others
+pub and-then : (w at n : ℕ) (b l : List ℕ) {m r : List ℕ} → m ≡ putAt at (decimal w n) l → r ≡ putAt (at + w) b m →
+    r ≡ putAt at (decimal w n ++ b) l
+and-then w at n b l e f = f ∙ ap (λ (k : List ℕ). putAt (at + w) b k) e ∙ sym (then w at n b l)
+
+pub and-two : (w v at x y : ℕ) (b l : List ℕ) {m r : List ℕ} → w + w ≡ v →
+    m ≡ putAt at (decimal w x ++ decimal w y) l → r ≡ putAt (at + v) b m →
+    r ≡ putAt at (decimal w x ++ (decimal w y ++ b)) l
+and-two w v at x y b l h e f = f ∙ ap (λ (k : List ℕ). putAt (at + v) b k) e ∙ sym (then-two w v at x y b l h)
+
 -- ---- How long the lines are
 
 abbrev pub lineLength : ℕ

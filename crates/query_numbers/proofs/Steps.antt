@@ -21,8 +21,13 @@ use Rattle.query_numbers.specs.Parts.{partLength, partNumbers, part-leng
 use Rattle.rules.specs.Tables.{Table}
 
 -- a number, then others
-pub then-one : (at x y : ℕ) (b l : List ℕ) → putAt at (x ∷ y ∷ b) l ≡ putAt (at + 1) (y ∷ b) (putAt at (x ∷ []) l)
+then-one : (at x y : ℕ) (b l : List ℕ) → putAt at (x ∷ y ∷ b) l ≡ putAt (at + 1) (y ∷ b) (putAt at (x ∷ []) l)
 then-one at x y b l = put-on at (x ∷ []) (y ∷ b) l
+
+-- the same of numbers that were put one after the other: from l to m the one, from m to r the others
+pub and-one : (at x y : ℕ) (b l : List ℕ) {m r : List ℕ} → m ≡ putAt at (x ∷ []) l → r ≡ putAt (at + 1) (y ∷ b) m →
+    r ≡ putAt at (x ∷ y ∷ b) l
+and-one at x y b l e f = f ∙ ap (putAt (at + 1) (y ∷ b)) e ∙ sym (then-one at x y b l)
 
 -- three numbers, then others
 then-three : (at x y z : ℕ) (b l : List ℕ) →

@@ -1,4 +1,1 @@
-pub mod Ends
-pub mod Gaps
 pub mod Sums
-pub mod Stored

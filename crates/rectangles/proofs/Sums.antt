@@ -20,8 +20,8 @@ use Rattle.rules.specs.Tables.{tolerance, loweredGap, farApart}
 use Rattle.rules.specs.Widths.{has-rows}
 use Rattle.rules.specs.Squares.{squareAt, squares-more, squares-first, squares-all}
 use Rattle.rules.specs.Rectangles.{noSide, apartSquare, far-first}
-use Rattle.rectangles.specs.Sides.{sideIn, sidesIn, firstSides}
-use Rattle.rectangles.specs.SideLaws.{in-length, in-at, first-length, first-at, first-rectangle, all-first}
+use Rattle.sides.specs.Sides.{sideIn, sidesIn, firstSides}
+use Rattle.sides.specs.SideLaws.{in-length, in-at, first-length, first-at, first-rectangle, all-first}
 
 pub square-fits : (n : ℕ) → n < 2 ^ 32 → Fits w64 (n * n)
 square-fits n h =

@@ -8,7 +8,7 @@ use lib.Dec.{ltb}
 use Rattle.rules.specs.declared.Query.{Query}
 use Rattle.rules.specs.Tables.{Table, terms}
 use Rattle.rules.specs.Session.{firstScore}
-use Rattle.block.specs.Near.{NoPair}
+use Rattle.near_rows.specs.Near.{NoPair}
 
 -- what the first rows of two blocks add to a sum
 abbrev pub firstScores : Query → Table → Table → ℕ

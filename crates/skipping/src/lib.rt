@@ -5,8 +5,8 @@ ghost use mathlib.Core.Bool.{true, cond};
 ghost use Rattle.rules.specs.Tables.{table, rectangle, farApart, HasRow};
 ghost use Rattle.rules.specs.Calls.{isCard};
 ghost use Rattle.tolerances.specs.Counted.{TolerancesFit};
-ghost use Rattle.rectangles.specs.Sides.{sidesIn};
-ghost use Rattle.block.specs.Small.{SmallPairs};
+ghost use Rattle.sides.specs.Sides.{sidesIn};
+ghost use Rattle.near_rows.specs.Small.{SmallPairs};
 ghost use Rattle.skipping.specs.Effect.{Effect};
 
 // Whether the rectangles of two blocks lie farther apart than the radius, with the query's tolerances. That of the new
@@ -51,7 +51,7 @@ pub fn effect(
     if 32 < tables::row_count(n, x) {
         return 2;
     }
-    if block::any_beside(n, q, x, y) {
+    if near_rows::any_beside(n, q, x, y) {
         return 2;
     }
     1

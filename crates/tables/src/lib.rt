@@ -1,40 +1,15 @@
-// The rows of a table and their checks, the rules' 4, 6 and 7: what the session and file reading share. Others see rows
-// through these functions, and not how many numbers a row has; n is how many of them are the coordinates of its shade.
+// The rows of a table and the rules' check 4 of them: what the session and file reading share. Others see rows through
+// these functions, and not how many numbers a row has; n is how many of them are the coordinates of its shade.
 ghost use mathlib.Core.Path.{_≡_};
-ghost use mathlib.Core.Bool.{_&&_};
-ghost use mathlib.Core.List.{[], _∷_};
 ghost use Prim.Native.Nat.{_+_, _*_, _-_, _≤_, _<_, _^_};
 ghost use denote.Ref.{ptr};
-ghost use lib.IntN.{pos};
 ghost use lib.ListN.{length};
-ghost use Rattle.rules.specs.Tables.{table, width, num, rowCount, HasRow, HasRows, firstRows, part, mostRows, sizeFits};
-ghost use Rattle.rules.specs.Tables.{within, coordinateFits, shadeFits, rowInRange, rowInOrder};
+ghost use Rattle.rules.specs.Tables.{table, width, num, rowCount, HasRow, HasRows, firstRows, part, sizeFits};
 ghost use Rattle.rules.specs.Tables.{natOf, row, withdrawn, weighted};
-ghost use Rattle.rules.specs.Numbers.{unless, first};
-ghost use Rattle.rules.specs.Calls.{rowCode, rowsCode, movedOn};
+ghost use Rattle.rules.specs.Calls.{movedOn};
 
 // The rows of the longest table, as a length.
 const MOST_ROWS: usize = rules::MOST_ROWS as usize;
-
-// A refusal's number, unless its test passes: then 0.
-pub fn unless(passes: bool, number: u32) -> u32
-    ensures { λ r. ⌜ r ≡ unless passes number ⌝ }
-{
-    if passes {
-        return 0;
-    }
-    number
-}
-
-// The number of the first of two checks that refuses; 0 where neither does.
-pub fn first(code: u32, next: u32) -> u32
-    ensures { λ r. ⌜ r ≡ first (code ∷ next ∷ []) ⌝ }
-{
-    if code == 0 {
-        return next;
-    }
-    code
-}
 
 // How many numbers a row has: pattern number, score, and a shade of n coordinates.
 pub fn width(n: u32) -> usize
@@ -100,8 +75,8 @@ pub fn first_rows(n: u32, t: &[i32], m: usize) -> &[i32]
     &t[..to]
 }
 
-// Number j of row i + 1.
-fn number(n: u32, t: &[i32], i: usize, j: usize) -> i32
+// Number j, from 0 on, of row i + 1.
+pub fn number(n: u32, t: &[i32], i: usize, j: usize) -> i32
     requires { ⌜ HasRow (table n (now t)) i × (j < width n) ⌝ }
     ensures { λ r. ⌜ r ≡ num (table n (now (t .entry))) i j ⌝ }
 {
@@ -125,58 +100,6 @@ pub fn shade(n: u32, t: &[i32], i: usize) -> &[i32]
     let from = start(n, t, i) + 2;
     let to = from + n as usize;
     &t[from..to]
-}
-
-// Whether coordinate k of a shade, from 0 on, keeps its range.
-pub fn coordinate_fits(k: usize, x: i32) -> bool
-    ensures { λ r. ⌜ r ≡ coordinateFits k x ⌝ }
-{
-    if k < 2 {
-        return (-12800 <= x) & (x <= 12700);
-    }
-    (0 <= x) & (x <= 10000)
-}
-
-// Whether each coordinate of a shade keeps its range. It looks at all of them: no branch stands in the loop.
-pub fn shade_fits(shade: &[i32]) -> bool
-    ensures { λ r. ⌜ r ≡ shadeFits (now (shade .entry)) ⌝ }
-{
-    let mut fits = true;
-    let mut k: usize = 0;
-    while k < shade.len() {
-        let here = coordinate_fits(k, shade[k]);
-        fits = fits & here;
-        k += 1;
-    }
-    fits
-}
-
-// Whether the numbers of a row before its shade keep their ranges.
-pub fn in_range(pattern: i32, score: i32) -> bool
-    ensures { λ r. ⌜ r ≡ (within (pos 1) (pos 999999) pattern && within (pos 0) (pos 9999) score) ⌝ }
-{
-    ((1 <= pattern) & (pattern <= 999999)) & ((0 <= score) & (score <= 9999))
-}
-
-fn row_in_range(n: u32, t: &[i32], i: usize) -> bool
-    requires { ⌜ (i < mostRows) × HasRow (table n (now t)) i ⌝ }
-    ensures { λ r. ⌜ r ≡ rowInRange (table n (now (t .entry))) i ⌝ }
-{
-    let numbers = in_range(number(n, t, i, 0), number(n, t, i, 1));
-    let coordinates = shade_fits(shade(n, t, i));
-    numbers & coordinates
-}
-
-// Whether the score of row i + 1 is at most that of the row before.
-fn in_order(n: u32, t: &[i32], i: usize) -> bool
-    requires { ⌜ (i < mostRows) × HasRow (table n (now t)) i ⌝ }
-    ensures { λ r. ⌜ r ≡ rowInOrder (table n (now (t .entry))) i ⌝ }
-{
-    if i == 0 {
-        return true;
-    }
-    let before = i - 1;
-    number(n, t, i, 1) <= number(n, t, before, 1)
 }
 
 // A number as one from 0 up: 0 where it is below.
@@ -220,55 +143,4 @@ pub fn is_withdrawn(n: u32, t: &[i32], i: usize) -> bool
     ensures { λ r. ⌜ r ≡ withdrawn (row (table n (now (t .entry))) i) ⌝ }
 {
     score(n, t, i) == 0
-}
-
-// What row i + 1 of a table is refused by, 6 before 7; 0 where it is not.
-fn row_code(n: u32, t: &[i32], i: usize) -> u32
-    requires { ⌜ (i < mostRows) × HasRow (table n (now t)) i ⌝ }
-    ensures { λ r. ⌜ r ≡ rowCode (table n (now (t .entry))) i ⌝ }
-{
-    if !row_in_range(n, t, i) {
-        return rules::ROW_LIMIT;
-    }
-    if !in_order(n, t, i) {
-        return rules::ROW_ORDER;
-    }
-    0
-}
-
-fn rows_code_at(n: u32, t: &[i32], a: usize, m: usize) -> u32
-    requires { ⌜ (a + m ≤ mostRows) × HasRows (table n (now t)) (a + m) ⌝ }
-    ensures { λ r. ⌜ r ≡ rowsCode (table n (now (t .entry))) a m ⌝ }
-{
-    let mut i: usize = 0;
-    while i < m {
-        let code = row_code(n, t, a + i);
-        if code != 0 {
-            return code;
-        }
-        i += 1;
-    }
-    0
-}
-
-// What the first of rows a + 1 to a + m that is refused is refused by; 0 where none is. The code is chosen by n, so
-// that the compiler knows how many numbers a row has, and for rows from the first on, so that it knows which row has
-// none before it.
-pub fn rows_code(n: u32, t: &[i32], a: usize, m: usize) -> u32
-    requires { ⌜ (a + m ≤ mostRows) × HasRows (table n (now t)) (a + m) ⌝ }
-    ensures { λ r. ⌜ r ≡ rowsCode (table n (now (t .entry))) a m ⌝ }
-{
-    if n == 2 {
-        if a == 0 {
-            return rows_code_at(2, t, 0, m);
-        }
-        return rows_code_at(2, t, a, m);
-    }
-    if n == 3 {
-        if a == 0 {
-            return rows_code_at(3, t, 0, m);
-        }
-        return rows_code_at(3, t, a, m);
-    }
-    rows_code_at(n, t, a, m)
 }

@@ -1,18 +1,7 @@
 // One whole query over two lent tables, its answer written as numbers, or as the listing's bytes.
+use outcomes::asked_code;
 ghost use mathlib.Core.Path.{_≡_};
-ghost use mathlib.Core.List.{[], _∷_};
-ghost use Rattle.rules.specs.Numbers.{shortSlice, first, unless};
 ghost use Rattle.whole_query.specs.Asked.{lentQueryAnswer, lentQueryNumbers, lentListingAnswer, lentListingBytes};
-
-// What a query is refused by, of what its opening and its reading were: before them, a query's numbers may not all be
-// there; behind them, the place for the answer may be too short.
-fn asked_code(there: bool, opening: u32, reading: u32, room: bool) -> u32
-    ensures { λ r. ⌜ r ≡ first (unless there shortSlice ∷ opening ∷ reading ∷ unless room shortSlice ∷ []) ⌝ }
-{
-    let seen = tables::unless(there, rules::SHORT_SLICE);
-    let last = tables::unless(room, rules::SHORT_SLICE);
-    tables::first(seen, tables::first(opening, tables::first(reading, last)))
-}
 
 // One whole query over two lent tables: how many pairs there are, or minus the refusal's number. Refused, no number of
 // `out` changes.
@@ -21,8 +10,8 @@ pub fn whole(query: &[u32], f: &[i32], t: &[i32], out: &mut [u64]) -> i32
     ensures { λ _. ⌜ now (out .exit)
         ≡ lentQueryNumbers (now (query .entry)) (now (f .entry)) (now (t .entry)) (now (out .entry)) ⌝ }
 {
-    let q = record_taken::query_in(query);
-    let kinds = record_taken::kinds_in(query);
+    let q = query_taken::query_in(query);
+    let kinds = query_taken::kinds_in(query);
     let run = run_query::run(q, kinds, f, t);
     let there = record_layout::QUERY_SIZE <= query.len();
     let code = asked_code(
@@ -44,8 +33,8 @@ pub fn listed(query: &[u32], f: &[i32], t: &[i32], out: &mut [u8]) -> i32
     ensures { λ _. ⌜ now (out .exit)
         ≡ lentListingBytes (now (query .entry)) (now (f .entry)) (now (t .entry)) (now (out .entry)) ⌝ }
 {
-    let q = record_taken::query_in(query);
-    let kinds = record_taken::kinds_in(query);
+    let q = query_taken::query_in(query);
+    let kinds = query_taken::kinds_in(query);
     let run = run_query::run(q, kinds, f, t);
     let there = record_layout::QUERY_SIZE <= query.len();
     let number = asked_code(there, run.opening, run.reading, listing::ROOM <= out.len());

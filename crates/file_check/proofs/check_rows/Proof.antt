@@ -13,8 +13,8 @@ use Rattle.rules.specs.Tables.{num}
 use Rattle.rules.specs.Widths.{next-row}
 use Rattle.rules.specs.File.{headerBytes, rowBytes, rowStart, fileTable, fileRowCode, rowsLoaded}
 use Rattle.file_laws.specs.Accepted.{row-passed}
-use Rattle.file_check.specs.declared.Row.{Row}
-use Rattle.file_check.specs.Held.{rowHeld, heldRowCode}
+use Rattle.file_row.specs.declared.Row.{Row}
+use Rattle.file_row.specs.Held.{rowHeld, heldRowCode}
 use Rattle.file_check.proofs.Rows.{score-is, code-is, one-more, refused}
 use Rattle.file_check.proofs.check_rows.Statement.{statement}
 use Rattle.file_check.proofs.check_rows.Tie as tie

@@ -1,4 +1,5 @@
 -- `line_of` meets its contract. Assumes nothing.
+use mathlib.Core.Path.{refl}
 use Rattle.listing.specs.Shown.{lineOf}
 use borrow.Author.Needs.{needs}
 use Rattle.listing.proofs.line_of.Statement.{statement}
@@ -18,7 +19,10 @@ pattern-requires-2 c κs = search needs
 
 returns : tie.Need-returns
 unfolding lineOf
-returns c = cc
+returns c =
+    let root = c .before .before in
+    let steps = root .root-of .ensures .1 in
+    simp (c .pattern2 .ensures, c .before .pattern .ensures, steps .0, steps .1, root .before .distance .ensures) refl
 
 pub line-of-spec : {M : Type 1} → statement M
 line-of-spec = tie.close (tie.spec distance-requires root-of-requires pattern-requires pattern-requires-2 returns)

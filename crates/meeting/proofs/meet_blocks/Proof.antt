@@ -13,7 +13,7 @@ use Rattle.rules.specs.Session.{lentTable}
 use Rattle.rules.specs.Read.{meet, meetBlocksBy, meetBlocks}
 use Rattle.session_laws.specs.Read.{blocks-keep, blocks-joined}
 use Rattle.meeting.specs.declared.Span.{Span}
-use Rattle.rectangles.specs.Sides.{sidesIn}
+use Rattle.sides.specs.Sides.{sidesIn}
 use Rattle.choosing.specs.Ready.{Ready}
 use Rattle.meeting.specs.Side.{SpanFits, spanBlock}
 use Rattle.meeting.specs.Stands.{Stands}

@@ -1,6 +1,6 @@
 -- `put_last` meets its contract: its numbers one behind the other. Assumes nothing.
 use Rattle.rules.specs.Query.{lastLine}
-use Rattle.printing.specs.Lines.{then}
+use Rattle.printing.specs.Lines.{and-then}
 use borrow.Author.Needs.{needs}
 use Rattle.printing.proofs.put_last.Statement.{statement}
 use Rattle.printing.proofs.put_last.Tie as tie
@@ -37,7 +37,14 @@ same-length c = search needs
 
 returns : tie.Need-returns
 unfolding lastLine
-returns c = simp then (cc)
+returns c =
+    let feed = c .before .before in
+    let three = feed .before .before .before .before in
+    let two = three .before .before .before .before in
+    let one = two .before .before .before .before .before in
+    and-then _ _ _ _ _ (one .put-number .ensures)
+    (and-then _ _ _ _ _ (two .put-number2 .ensures)
+    (and-then _ _ _ _ _ (three .put-number3 .ensures) (feed .put-feed .ensures)))
 
 pub put-last-spec : {M : Type 1} → statement M
 put-last-spec =

@@ -1,10 +1,6 @@
 -- `put_line` meets its contract: its numbers two by two. Assumes nothing.
-use mathlib.Core.Path.{_≡_, refl}
-use mathlib.Core.List.{List, _++_}
-use Prim.Native.Nat.{ℕ, _+_}
-use Rattle.rules.specs.Query.{decimal}
-use Rattle.printing.specs.Put.{putAt}
-use Rattle.printing.specs.Lines.{lineBytes, then-two}
+use mathlib.Core.Path.{refl}
+use Rattle.printing.specs.Lines.{lineBytes, and-two}
 use borrow.Author.Needs.{needs}
 use Rattle.printing.proofs.put_line.Statement.{statement}
 use Rattle.printing.proofs.put_line.Tie as tie
@@ -45,18 +41,15 @@ put-feed-requires c κs = search needs
 same-length : tie.Need-same-length
 same-length c = search needs
 
--- two numbers of six columns, or of eight, then other bytes
-twelve : (at m n : ℕ) (b l : List ℕ) →
-    putAt at (decimal 6 m ++ (decimal 6 n ++ b)) l ≡ putAt (at + 12) b (putAt at (decimal 6 m ++ decimal 6 n) l)
-twelve at m n b l = then-two 6 12 at m n b l refl
-
-sixteen : (at m n : ℕ) (b l : List ℕ) →
-    putAt at (decimal 8 m ++ (decimal 8 n ++ b)) l ≡ putAt (at + 16) b (putAt at (decimal 8 m ++ decimal 8 n) l)
-sixteen at m n b l = then-two 8 16 at m n b l refl
-
 returns : tie.Need-returns
 unfolding lineBytes
-returns c = simp (twelve, sixteen) (cc)
+returns c =
+    let feed = c .before .before in
+    let three = feed .before .before .before .before in
+    let two = three .before .before .before .before in
+    let one = two .before .before .before .before .before .before in
+    and-two 6 12 _ _ _ _ _ refl (one .put-two .ensures) (and-two 6 12 _ _ _ _ _ refl (two .put-two2 .ensures)
+    (and-two 8 16 _ _ _ _ _ refl (three .put-two3 .ensures) (feed .put-feed .ensures)))
 
 pub put-line-spec : {M : Type 1} → statement M
 put-line-spec =

@@ -1,6 +1,6 @@
 -- `put_refusal` meets its contract: its numbers one behind the other. Assumes nothing.
 use Rattle.rules.specs.Query.{refusalLine}
-use Rattle.printing.specs.Lines.{then}
+use Rattle.printing.specs.Lines.{and-then}
 use borrow.Author.Needs.{needs}
 use Rattle.printing.proofs.put_refusal.Statement.{statement}
 use Rattle.printing.proofs.put_refusal.Tie as tie
@@ -19,7 +19,9 @@ same-length c = search needs
 
 returns : tie.Need-returns
 unfolding refusalLine
-returns c = simp then (cc)
+returns c =
+    let feed = c .before .before in
+    and-then _ _ _ _ _ (feed .before .before .before .before .put-number .ensures) (feed .put-feed .ensures)
 
 pub put-refusal-spec : {M : Type 1} → statement M
 put-refusal-spec =

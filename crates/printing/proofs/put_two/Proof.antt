@@ -1,5 +1,5 @@
 -- `put_two` meets its contract. Assumes nothing.
-use Rattle.printing.specs.Lines.{then}
+use Rattle.printing.specs.Lines.{and-then}
 use borrow.Author.Needs.{needs}
 use Rattle.printing.proofs.put_two.Statement.{statement}
 use Rattle.printing.proofs.put_two.Tie as tie
@@ -17,7 +17,9 @@ same-length : tie.Need-same-length
 same-length c = search needs
 
 returns : tie.Need-returns
-returns c = simp then (cc)
+returns c =
+    let two = c .before .before in
+    and-then _ _ _ _ _ (two .before .before .before .before .put-number .ensures) (two .put-number2 .ensures)
 
 pub put-two-spec : {M : Type 1} → statement M
 put-two-spec = tie.close (tie.spec put-number-requires add-put-number put-number-requires-2 same-length returns)

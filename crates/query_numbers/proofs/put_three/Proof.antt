@@ -1,5 +1,5 @@
 -- `put_three` meets its contract. Assumes nothing.
-use Rattle.query_numbers.proofs.Steps.{then-one}
+use Rattle.query_numbers.proofs.Steps.{and-one}
 use borrow.Author.Needs.{needs}
 use Rattle.query_numbers.proofs.put_three.Statement.{statement}
 use Rattle.query_numbers.proofs.put_three.Tie as tie
@@ -24,7 +24,10 @@ same-length c = search needs
 
 returns : tie.Need-returns
 returns c =
-    simp then-one (cc)
+    let three = c .before .before in
+    let two = three .before .before .before .before in
+    let one = two .before .before .before .before in
+    and-one _ _ _ _ _ (one .put-one .ensures) (and-one _ _ _ _ _ (two .put-one2 .ensures) (three .put-one3 .ensures))
 
 pub put-three-spec : {M : Type 1} → statement M
 put-three-spec =

@@ -5,7 +5,7 @@ use Prim.Native.Nat.{ℕ, _*_, _<_}
 use native.Mathlib.Omega.{arith}
 use lib.Dec.{ltb}
 use Rattle.rules.specs.Tables.{Table, table, rowCount, HasRows, rectangle, tolerance, farApart}
-use Rattle.rectangles.specs.Sides.{sidesIn}
+use Rattle.sides.specs.Sides.{sidesIn}
 use Rattle.rules.specs.Widths.{row-below, has-rows}
 use Rattle.rectangles.proofs.Sums as S
 use borrow.Author.Needs.{needs}

@@ -5,7 +5,7 @@ use native.Mathlib.Omega.{arith}
 use Rattle.rules.specs.Tables.{table, rectangle}
 use Rattle.rules.specs.Rectangles.{far-turned}
 use Rattle.session_laws.specs.Record.{card-least, card-small}
-use Rattle.rectangles.specs.Sides.{sidesIn}
+use Rattle.sides.specs.Sides.{sidesIn}
 use Rattle.skipping.proofs.are_far.Statement.{statement}
 use Rattle.skipping.proofs.are_far.Tie as tie
 
