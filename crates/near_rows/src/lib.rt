@@ -156,7 +156,7 @@ fn next_candidate(n: u32, q: Query, x: &[i32], i: usize, y: &[i32], m: usize, j:
     m
 }
 
-// The first that lies near it, looked for row by row.
+// The first that lies near it, looked for row by row; m where none does.
 fn next_counted(n: u32, q: Query, x: &[i32], i: usize, y: &[i32], m: usize, j: usize) -> usize
     requires { ⌜ HasRow (table n (now x)) i × (withdrawn (row (table n (now x)) i) ≡ false)
         × Live (table n (now y)) m × (j ≤ m) ⌝ }
@@ -173,8 +173,8 @@ fn next_counted(n: u32, q: Query, x: &[i32], i: usize, y: &[i32], m: usize, j: u
     m
 }
 
-// The first that lies near it; m where none does. No score is looked at, and a query without tolerances does not pay
-// for them.
+// The first of y's m live rows from row j + 1 on that lies near row i + 1 of x, a live row too, counted from 0; m where
+// none does. No score is looked at, and a query without tolerances does not pay for them.
 pub fn next_near(n: u32, q: Query, x: &[i32], i: usize, y: &[i32], m: usize, j: usize) -> usize
     requires { ⌜ HasRow (table n (now x)) i × (withdrawn (row (table n (now x)) i) ≡ false)
         × Live (table n (now y)) m × (j ≤ m) ⌝ }
