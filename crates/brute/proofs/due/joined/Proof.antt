@@ -8,8 +8,8 @@ pub joined-spec : {M : Type 1} → statement M
 joined-spec =
     tie.close
     (tie.spec
-    (λ q m of-field a e d n₀ c₀ n c. c ≤ d)
-    (λ q m of-field a e d n₀ c₀ n c. d - c)
+    (λ c m of-field a e d n₀ b₀ n b. b ≤ d)
+    (λ c m of-field a e d n₀ b₀ n b. d - b)
     (search needs)
     (search needs)
     (search needs)

@@ -1,4 +1,4 @@
--- `least_sure` is safe and ends: every reading. Assumes nothing.
+-- `least_sure` is safe and ends: one turn for each reading. Assumes nothing.
 use Prim.Native.Nat.{_≤_, _-_}
 use borrow.Author.Needs.{needs}
 use Rattle.brute.proofs.due.least_sure.Statement.{statement}
@@ -10,7 +10,6 @@ least-sure-spec =
     (tie.spec
     (λ c m least₀ x₀ least x. x ≤ 169)
     (λ c m least₀ x₀ least x. 169 - x)
-    (search needs)
     (search needs)
     (search needs)
     (search needs)

@@ -8,8 +8,8 @@ pub cut-after-spec : {M : Type 1} → statement M
 cut-after-spec =
     tie.close
     (tie.spec
-    (λ m d last r₀ x₀ x-end r x. x ≤ x-end)
-    (λ m d last r₀ x₀ x-end r x. x-end - x)
+    (λ m p q last r₀ x₀ x-end r x. x ≤ x-end)
+    (λ m p q last r₀ x₀ x-end r x. x-end - x)
     (search needs)
     (search needs)
     (search needs)

@@ -8,8 +8,8 @@ pub ends-of-spec : {M : Type 1} → statement M
 ends-of-spec =
     tie.close
     (tie.spec
-    (λ card t first last c x e₀ i₀ e i. i ≤ 13)
-    (λ card t first last c x e₀ i₀ e i. 13 - i)
+    (λ t first last c x e₀ i₀ e i. i ≤ 13)
+    (λ t first last c x e₀ i₀ e i. 13 - i)
     (search needs)
     (search needs)
     (search needs)

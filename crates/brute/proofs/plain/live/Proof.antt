@@ -8,8 +8,9 @@ pub live-spec : {M : Type 1} → statement M
 live-spec =
     tie.close
     (tie.spec
-    (λ card t rows n₀ i₀ n i. i ≤ 12)
-    (λ card t rows n₀ i₀ n i. 12 - i)
+    (λ t rows n₀ i₀ n i. i ≤ 12)
+    (λ t rows n₀ i₀ n i. 12 - i)
+    (search needs)
     (search needs)
     (search needs)
     (search needs)

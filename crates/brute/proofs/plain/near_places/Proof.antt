@@ -8,8 +8,8 @@ pub near-places-spec : {M : Type 1} → statement M
 near-places-spec =
     tie.close
     (tie.spec
-    (λ query card x y tolerance most n₀ j₀ n j. j ≤ most)
-    (λ query card x y tolerance most n₀ j₀ n j. most - j)
+    (λ asked x y tolerance most n₀ j₀ n j. j ≤ most)
+    (λ asked x y tolerance most n₀ j₀ n j. most - j)
     (search needs)
     (search needs)
     (search needs)

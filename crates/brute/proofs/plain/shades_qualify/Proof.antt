@@ -8,11 +8,8 @@ pub shades-qualify-spec : {M : Type 1} → statement M
 shades-qualify-spec =
     tie.close
     (tie.spec
-    (λ query card x y tolerance places most some₀ all₀ i₀ some all i. i ≤ places)
-    (λ query card x y tolerance places most some₀ all₀ i₀ some all i. places - i)
-    (search needs)
-    (search needs)
-    (search needs)
+    (λ asked x y tolerance places most some₀ all₀ i₀ some all i. i ≤ places)
+    (λ asked x y tolerance places most some₀ all₀ i₀ some all i. places - i)
     (search needs)
     (search needs)
     (search needs)

@@ -19,4 +19,5 @@ reads-spec =
     (search needs)
     (search needs)
     (search needs)
+    (search needs)
     (search needs))

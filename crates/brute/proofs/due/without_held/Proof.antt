@@ -1,0 +1,21 @@
+-- `without_held` is safe and ends: one turn for each number kept. Assumes nothing.
+use Prim.Native.Nat.{_≤_, _-_}
+use borrow.Author.Needs.{needs}
+use Rattle.brute.proofs.due.without_held.Statement.{statement}
+use Rattle.brute.proofs.due.without_held.Tie as tie
+
+pub without-held-spec : {M : Type 1} → statement M
+without-held-spec =
+    tie.close
+    (tie.spec
+    (λ s r₀ i₀ r i. i ≤ 16)
+    (λ s r₀ i₀ r i. 16 - i)
+    (search needs)
+    (search needs)
+    (search needs)
+    (search needs)
+    (search needs)
+    (search needs)
+    (search needs)
+    (search needs)
+    (search needs))
