@@ -16,14 +16,6 @@ use rules::TrimTolerance;
 use rules::TrimWeight;
 use rules::Weights;
 
-// Two tables as they are lent, on the old card without L, and how many numbers of each are.
-pub struct Lent {
-    pub field: Table,
-    pub trim: Table,
-    pub fields: u32,
-    pub trims: u32,
-}
-
 // How many numbers so many rows have on a card of 2 or 3 coordinates.
 pub fn numbers(card: u32, rows: u32) -> u32 {
     if card == 3 {
@@ -42,22 +34,13 @@ fn without_light(t: &Table) -> Table {
     r
 }
 
-fn on_card(card: u32, t: &Table) -> Table {
+// A table as it is lent on a card: on the old one without L.
+pub fn on_card(card: u32, t: &Table) -> Table {
     if card == 3 { *t } else { without_light(t) }
 }
 
-// The first rows of two tables.
-pub fn first_rows(card: u32, f: &Table, t: &Table, fields: u32, trims: u32) -> Lent {
-    Lent {
-        field: on_card(card, f),
-        trim: on_card(card, t),
-        fields: numbers(card, fields),
-        trims: numbers(card, trims),
-    }
-}
-
 // The first numbers of a slice; all, if there are not so many.
-fn first(t: &[i32], n: u32) -> &[i32] {
+pub fn first(t: &[i32], n: u32) -> &[i32] {
     let end = n as usize;
     if end <= t.len() {
         return &t[..end];
@@ -99,45 +82,25 @@ fn query_of(a: Asked) -> Query {
     }
 }
 
-pub fn open(l: Lent, a: Asked) -> Step {
-    let f = l.field;
-    let t = l.trim;
-    opening::start(
-        query_of(a),
-        kinds_on(a.card),
-        first(&f, l.fields),
-        first(&t, l.trims),
-    )
+pub fn open(f: &[i32], t: &[i32], a: Asked) -> Step {
+    opening::start(query_of(a), kinds_on(a.card), f, t)
 }
 
 // A read or a take.
-pub fn call(l: Lent, s: Session, is_read: bool) -> Step {
-    let f = l.field;
-    let t = l.trim;
-    let fields = first(&f, l.fields);
-    let trims = first(&t, l.trims);
+pub fn call(f: &[i32], t: &[i32], s: Session, is_read: bool) -> Step {
     if is_read {
-        return reading::read(fields, trims, s);
+        return reading::read(f, t, s);
     }
-    taking::take(fields, trims, s)
+    taking::take(f, t, s)
 }
 
 // How many numbers are shown.
-pub fn shown(l: Lent, s: Session) -> u32 {
-    let f = l.field;
-    let t = l.trim;
-    let rows = showing::show(first(&f, l.fields), first(&t, l.trims), s);
+pub fn shown<'a>(f: &'a [i32], t: &'a [i32], s: Session) -> u32 {
+    let rows = showing::show(f, t, s);
     (rows.len() % 61) as u32
 }
 
 // A whole query at once.
-pub fn run(l: Lent, a: Asked) -> Outcome {
-    let f = l.field;
-    let t = l.trim;
-    run_query::run(
-        query_of(a),
-        kinds_on(a.card),
-        first(&f, l.fields),
-        first(&t, l.trims),
-    )
+pub fn run(f: &[i32], t: &[i32], a: Asked) -> Outcome {
+    run_query::run(query_of(a), kinds_on(a.card), f, t)
 }

@@ -200,24 +200,14 @@ fn read_on(c: Case, m: &Sums, s: &Record) -> Record {
     r
 }
 
-// Whether one of the first n pairs has the same rows.
-pub fn is_among(pairs: [Pair; 64], n: u32, p: Pair) -> bool {
-    let mut found = false;
+// What the double loop says of the pairs that are not among the first n given.
+fn without_given(m: &Sums, given: [Pair; 64], n: u32) -> Sums {
+    let mut r = *m;
     for i in 0..n {
-        let q = pairs[(i % 64) as usize];
-        found = found | ((p.field == q.field) & (p.trim == q.trim));
+        let p = given[(i % 64) as usize];
+        r[plain::at(p.field, p.trim) % 169] = 0;
     }
-    found
-}
-
-// Holds one pair more, unless it is out or there are enough.
-fn hold(r: &mut Record, given: [Pair; 64], p: Pair, most: u32) {
-    let n = r[record::HELD];
-    if is_among(given, r[record::OUT], p) | (most <= n) {
-        return;
-    }
-    record::put(r, n, p);
-    r[record::HELD] = wrapping_add_u32(n, 1);
+    r
 }
 
 // The kept numbers of a record and those of its reading, with no pair held.
@@ -233,13 +223,15 @@ fn without_held(s: &Record) -> Record {
 fn with_held(c: Case, m: &Sums, s: &Record, given: [Pair; 64]) -> Record {
     let p = s[record::FIELD_DEPTH];
     let q = s[record::TRIM_DEPTH];
-    let all = plain::lower(c.k, plain::reaching(m, p, q, 0));
-    let most = wrapping_sub_u32(all, s[record::OUT]);
+    let left = without_given(m, given, s[record::OUT]);
+    let room = wrapping_sub_u32(c.k, s[record::OUT]);
+    let held = plain::lower(room, plain::reaching(&left, p, q, 0));
     let mut r = without_held(s);
-    let mut cut = plain::cut_after(m, p, q, plain::pair(plain::PAST, 0, 0));
-    for i in 0..all {
-        hold(&mut r, given, cut.next, most);
-        cut = plain::cut_after(m, p, q, cut.next);
+    r[record::HELD] = held;
+    let mut cut = plain::cut_after(&left, p, q, plain::pair(plain::PAST, 0, 0));
+    for i in 0..held {
+        record::put(&mut r, i, cut.next);
+        cut = plain::cut_after(&left, p, q, cut.next);
     }
     r
 }

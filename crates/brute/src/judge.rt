@@ -108,6 +108,16 @@ fn own_fault(c: Case, m: &Sums, p: Pair) -> u32 {
     when(none, NO_ROW, when(near, sum, TOO_FAR))
 }
 
+// Whether one of the first n pairs has the same rows.
+fn is_among(pairs: [Pair; 64], n: u32, p: Pair) -> bool {
+    let mut found = false;
+    for i in 0..n {
+        let q = pairs[(i % 64) as usize];
+        found = found | ((p.field == q.field) & (p.trim == q.trim));
+    }
+    found
+}
+
 // What is wrong with pair i + 1 of those brought out. Its sum must be the one at its place among all qualifying sums,
 // highest first.
 fn pair_fault(c: Case, m: &Sums, given: [Pair; 64], i: u32) -> u32 {
@@ -117,7 +127,7 @@ fn pair_fault(c: Case, m: &Sums, given: [Pair; 64], i: u32) -> u32 {
     let order = when((i < above) | (most <= i), ORDER, 0);
     or(
         own_fault(c, m, p),
-        when(due::is_among(given, i, p), TWICE, order),
+        when(is_among(given, i, p), TWICE, order),
     )
 }
 

@@ -4,7 +4,6 @@ use crate::due::Case;
 use crate::due::when;
 use crate::plain::Asked;
 use crate::plain::Sums;
-use crate::plain::Table;
 use libc::STDOUT_FILENO;
 
 mod calls;
@@ -29,18 +28,35 @@ fn case(seed: u64, tally: &mut [u64; 48]) {
     let m = plain::sums(a, &f, &t, fields, trims);
     let live = plain::live(&f, fields);
     let c = due::case_of(a, fields, trims, live, plain::live(&t, trims), &m);
-    counted(c, card, &m, tally);
-    played(seed, c, a, &m, &f, &t, tally);
+    counted(c, &m, tally);
+    let x = calls::on_card(card, &f);
+    let y = calls::on_card(card, &t);
+    played(
+        seed,
+        c,
+        a,
+        &m,
+        calls::first(&x, calls::numbers(card, fields)),
+        calls::first(&y, calls::numbers(card, trims)),
+        tally,
+    );
 }
 
 // A session is played, its query run whole, and both are counted.
-fn played(seed: u64, c: Case, a: Asked, m: &Sums, f: &Table, t: &Table, tally: &mut [u64; 48]) {
-    let l = calls::first_rows(a.card, f, t, c.fields, c.trims);
-    let end = play::whole(c, m, l, a, seed, tally);
+fn played<'a>(
+    seed: u64,
+    c: Case,
+    a: Asked,
+    m: &Sums,
+    f: &'a [i32],
+    t: &'a [i32],
+    tally: &mut [u64; 48],
+) {
+    let end = play::whole(c, m, f, t, a, seed, tally);
     let seen = end.seen;
     let depth = end.session.depth;
-    let fault = judge::or(seen.fault, judge::fault(c, m, play::at_once(l, a)));
-    counted_end(c, seen.said, fault, seen.depth, tally);
+    let fault = judge::or(seen.fault, judge::fault(c, m, play::at_once(f, t, a)));
+    counted_end(c, fault, seen.depth, tally);
     let far = 0 < plain::marked(m, depth.field.0, depth.trim.0, plain::FAR);
     tally::count_if(tally, far, tally::FAR);
     tally::count_if(tally, far & (0 < end.session.joined), tally::FAR_AND_JOINED);
@@ -52,9 +68,8 @@ fn has_any(c: Case, m: &Sums, mark: u32) -> bool {
 }
 
 // By what its tables have, and whether anything can meet its query.
-fn counted(c: Case, card: u32, m: &Sums, tally: &mut [u64; 48]) {
+fn counted(c: Case, m: &Sums, tally: &mut [u64; 48]) {
     tally::count(tally, tally::CASES);
-    tally::count(tally, when(card == 2, tally::OLD_CARD, tally::NEW_CARD));
     tally::count_if(tally, is_empty(c), tally::EMPTY);
     let withdrawn = (c.live_fields < c.fields) | (c.live_trims < c.trims);
     tally::count_if(tally, withdrawn, tally::WITHDRAWN);
@@ -72,9 +87,8 @@ fn is_empty(c: Case) -> bool {
 }
 
 // By how it ended, and whether the row limit was met exactly.
-fn counted_end(c: Case, said: u32, fault: u32, depth: u32, tally: &mut [u64; 48]) {
+fn counted_end(c: Case, fault: u32, depth: u32, tally: &mut [u64; 48]) {
     let exact = !is_empty(c) & (depth == c.limit);
-    tally::count_if(tally, said != due::FINISHED, tally::UNFINISHED);
     tally::count_if(tally, fault != 0, tally::MISMATCHES);
     tally::count_if(tally, exact, tally::EXACT);
     tally::count_if(tally, exact & (1 < c.block), tally::EXACT_BLOCKS);
@@ -95,8 +109,6 @@ fn line(tally: &[u64; 48], i: u32, name: &[u8]) {
 // The cases, by kind.
 fn cases(a: &[u64; 48]) {
     line(a, tally::CASES, b"cases: ");
-    line(a, tally::OLD_CARD, b"on the old card: ");
-    line(a, tally::NEW_CARD, b"on the new card: ");
     line(a, tally::BY_LIGHT, b"with pairs that L alone keeps apart: ");
     line(
         a,
@@ -139,7 +151,6 @@ fn ends(a: &[u64; 48]) {
         tally::EXACT_BLOCKS,
         b"limits reached exactly by blocks of 2 rows or more: ",
     );
-    line(a, tally::UNFINISHED, b"never finished: ");
     line(a, tally::MISMATCHES, b"mismatches: ");
 }
 

@@ -307,8 +307,13 @@ pub fn sums(asked: Asked, f: &Table, t: &Table, fields: u32, trims: u32) -> Sums
     m
 }
 
+// Where a pair stands.
+pub fn at(i: u32, j: u32) -> usize {
+    (13 * (i % 13) + j % 13) as usize
+}
+
 fn entry_at(m: &Sums, i: u32, j: u32) -> u32 {
-    m[(13 * (i % 13) + j % 13) as usize]
+    m[at(i, j) % 169]
 }
 
 pub fn sum_at(m: &Sums, i: u32, j: u32) -> u32 {

@@ -1,6 +1,5 @@
 // A whole session, read and taken from in one of several orders; each answer and record is compared.
 use crate::calls;
-use crate::calls::Lent;
 use crate::dice;
 use crate::due;
 use crate::due::Case;
@@ -47,8 +46,8 @@ fn compared(c: Case, m: &Sums, seen: Seen, due: u32, r: &Record, fault: u32) -> 
 }
 
 // A session just opened.
-fn opened(c: Case, m: &Sums, l: Lent, a: Asked) -> Played {
-    let step = calls::open(l, a);
+fn opened(c: Case, m: &Sums, f: &[i32], t: &[i32], a: Asked) -> Played {
+    let step = calls::open(f, t, a);
     let session = step.session;
     let answer = step.answer;
     let r = record::numbers(session);
@@ -62,28 +61,42 @@ fn opened(c: Case, m: &Sums, l: Lent, a: Asked) -> Played {
 }
 
 // After a read as many rows must be shown as were read.
-fn hidden(l: Lent, after: Session, s: &Record, r: &Record, said: u32) -> u32 {
+fn hidden<'a>(
+    f: &'a [i32],
+    t: &'a [i32],
+    after: Session,
+    s: &Record,
+    r: &Record,
+    said: u32,
+) -> u32 {
     let fields = wrapping_sub_u32(r[record::FIELD_DEPTH], s[record::FIELD_DEPTH]);
     let trims = wrapping_sub_u32(r[record::TRIM_DEPTH], s[record::TRIM_DEPTH]);
     let read = calls::numbers(r[0], wrapping_add_u32(fields, trims));
-    let shows = calls::shown(l, after) == read;
+    let shows = calls::shown(f, t, after) == read;
     when((said == due::READ) & !shows, judge::SHOWN, 0)
 }
 
 // One call, and the comparison after it.
-fn called(c: Case, m: &Sums, l: Lent, before: Played, is_read: bool) -> Played {
+fn called<'a>(
+    c: Case,
+    m: &Sums,
+    f: &'a [i32],
+    t: &'a [i32],
+    before: Played,
+    is_read: bool,
+) -> Played {
     let seen = before.seen;
     let s = record::numbers(before.session);
     let p = s[record::FIELD_DEPTH];
     let due = due::answer(c, m, p, s[record::TRIM_DEPTH], seen.count, is_read);
-    let step = calls::call(l, before.session, is_read);
+    let step = calls::call(f, t, before.session, is_read);
     let session = step.session;
     let answer = step.answer;
     let next = told(seen, answer);
     let given = next.given;
     let r = record::numbers(session);
     let fault = judge::record_fault(c, m, &s, &r, next.said, given);
-    let any = judge::or(fault, hidden(l, session, &s, &r, next.said));
+    let any = judge::or(fault, hidden(f, t, session, &s, &r, next.said));
     Played {
         session,
         seen: compared(c, m, next, due, &r, any),
@@ -116,23 +129,31 @@ fn counted(seen: Seen, tally: &mut [u64; 48]) {
 }
 
 // A session from its opening to its end, and a read and a take after it.
-pub fn whole(c: Case, m: &Sums, l: Lent, a: Asked, seed: u64, tally: &mut [u64; 48]) -> Played {
+pub fn whole<'a>(
+    c: Case,
+    m: &Sums,
+    f: &'a [i32],
+    t: &'a [i32],
+    a: Asked,
+    seed: u64,
+    tally: &mut [u64; 48],
+) -> Played {
     let order = dice::below(seed, 9, 4);
-    let mut now = opened(c, m, l, a);
+    let mut now = opened(c, m, f, t, a);
     for step in 1000u64..1600 {
         let said = now.seen.said;
         if said != due::FINISHED {
             let is_read = read_next(order, said, dice::one_in(seed, step, 2));
-            now = called(c, m, l, now, is_read);
+            now = called(c, m, f, t, now, is_read);
             counted(now.seen, tally);
         }
     }
-    called(c, m, l, called(c, m, l, now, true), false)
+    called(c, m, f, t, called(c, m, f, t, now, true), false)
 }
 
 // A whole query at once, as its caller sees it.
-pub fn at_once(l: Lent, a: Asked) -> Seen {
-    let run = calls::run(l, a);
+pub fn at_once(f: &[i32], t: &[i32], a: Asked) -> Seen {
+    let run = calls::run(f, t, a);
     let given = run.pairs;
     let refused = (run.opening != 0) | (run.reading != 0);
     let depth = run.session.depth;

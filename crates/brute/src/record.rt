@@ -27,7 +27,7 @@ pub const JOINED: usize = 15;
 pub const HELD: usize = 16;
 
 // Three numbers of each pair place.
-const PAIRS: usize = 17;
+pub const PAIRS: usize = 17;
 
 // A joined count that no small table has stands for all higher ones.
 fn joined(n: u64) -> u32 {

@@ -11,15 +11,9 @@ pub const EXACT: u32 = 33;
 // Of these, with blocks of 2 rows or more.
 pub const EXACT_BLOCKS: u32 = 34;
 
-pub const UNFINISHED: u32 = 35;
-
 pub const MISMATCHES: u32 = 36;
 
 pub const WITHDRAWN: u32 = 37;
-
-pub const OLD_CARD: u32 = 38;
-
-pub const NEW_CARD: u32 = 39;
 
 // With pairs that L alone keeps apart.
 pub const BY_LIGHT: u32 = 40;

@@ -1,6 +1,5 @@
 // The comparer is first fed one wrong list, answer and record of each kind, which it must report.
 use crate::calls;
-use crate::calls::Lent;
 use crate::due;
 use crate::due::Case;
 use crate::due::FINISHED;
@@ -20,7 +19,6 @@ use crate::record;
 use crate::record::Record;
 use libc::STDOUT_FILENO;
 use rules::Pair;
-use rules::Session;
 use std::num::wrapping_add_u32;
 
 fn line(name: &[u8], reported: bool) {
@@ -64,10 +62,15 @@ fn three() -> Asked {
     asked(2, 3, 0, 0)
 }
 
-fn tables() -> Lent {
+// The field table on the old card.
+fn field() -> Table {
     let f = table(2, 9, 8, 1);
+    calls::on_card(2, &f)
+}
+
+fn trim() -> Table {
     let t = table(2, 7, 5, 2);
-    calls::first_rows(2, &f, &t, 3, 3)
+    calls::on_card(2, &t)
 }
 
 fn sums(a: Asked) -> Sums {
@@ -119,7 +122,6 @@ fn wrong_pairs() {
     listed(b"a pair twice", 1, pair(16, 1, 1), judge::TWICE);
 }
 
-// In the second case the list begins with the second pair and a tie of its own making.
 fn wrong_order() {
     listed(b"the best pair left out", 0, pair(13, 2, 2), judge::ORDER);
     let mut swapped = with_pair(1, pair(14, 1, 2));
@@ -177,60 +179,69 @@ fn wrong_session() {
     );
 }
 
-// The record after n reads.
-fn reads(n: u32) -> Record {
-    let step = calls::open(tables(), three());
+// The record after n reads of these tables.
+fn reads_of(f: &[i32], t: &[i32], n: u32) -> Record {
+    let step = calls::open(f, t, three());
     let mut s = step.session;
     for i in 0..n {
-        let next = calls::call(tables(), s, true);
+        let next = calls::call(f, t, s, true);
         s = next.session;
     }
     record::numbers(s)
 }
 
-// Says whether this fault is found in what the third read is to have given back.
-fn third_read(name: &[u8], r: Record, fault: u32) {
+fn reads(n: u32) -> Record {
+    let f = field();
+    let t = trim();
+    reads_of(calls::first(&f, 12), calls::first(&t, 12), n)
+}
+
+// Says whether this fault is found in what the third read is to have given back: the record after n reads, with another
+// number at a place.
+fn third_read(name: &[u8], n: u32, at: usize, x: u32, fault: u32) {
     let a = three();
     let m = sums(a);
     let s = reads(2);
+    let mut r = reads(n);
+    r[at % 209] = x;
     let z = pair(0, 0, 0);
     let found = judge::record_fault(case(a, &m), &m, &s, &r, READ, [z; 64]);
     line(name, found == fault);
 }
 
-// What it did give back, with another number at a place.
-fn with_number(at: usize, x: u32) -> Record {
-    let mut r = reads(3);
-    if at < 209 {
-        r[at] = x;
-    }
-    r
-}
-
 fn wrong_records() {
-    third_read(b"a right record, no fault", reads(3), 0);
-    let out = with_number(record::OUT, 1);
+    third_read(b"a right record, no fault", 3, record::OUT, 0, 0);
     third_read(
         b"a record with another count of pairs out",
-        out,
+        3,
+        record::OUT,
+        1,
         judge::CHANGED,
     );
-    third_read(b"a read that reads nothing", reads(2), judge::BLOCK);
-    let joined = with_number(record::JOINED, 9);
-    third_read(b"another joined count", joined, judge::JOINED);
-    let lost = with_number(record::HELD, 2);
-    third_read(b"a held pair lost", lost, judge::HELD);
-    let mut other = reads(3);
-    record::put(&mut other, 2, pair(13, 2, 2));
-    third_read(b"a better pair passed over", other, judge::HELD);
+    third_read(
+        b"a read that reads nothing",
+        2,
+        record::OUT,
+        0,
+        judge::BLOCK,
+    );
+    third_read(b"another joined count", 3, record::JOINED, 9, judge::JOINED);
+    third_read(b"a held pair lost", 3, record::HELD, 2, judge::HELD);
+    third_read(b"another pair held", 3, record::PAIRS + 8, 1, judge::HELD);
 }
 
 // A query run whole, and one that asks for a pair less than it is judged by.
 fn wrong_query() {
+    let f = field();
+    let t = trim();
     let a = three();
-    let right = play::at_once(tables(), a);
+    let right = play::at_once(calls::first(&f, 12), calls::first(&t, 12), a);
     finds(b"a query run whole, no fault", a, right, 0);
-    let other = play::at_once(tables(), asked(2, 2, 0, 0));
+    let other = play::at_once(
+        calls::first(&f, 12),
+        calls::first(&t, 12),
+        asked(2, 2, 0, 0),
+    );
     finds(
         b"a query run whole that lists too few",
         a,

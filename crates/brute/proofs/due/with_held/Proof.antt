@@ -8,8 +8,11 @@ pub with-held-spec : {M : Type 1} → statement M
 with-held-spec =
     tie.close
     (tie.spec
-    (λ m s given p q all most r₀ cut₀ i₀ r cut i. i ≤ all)
-    (λ m s given p q all most r₀ cut₀ i₀ r cut i. all - i)
+    (λ m s p q left room held r₀ cut₀ i₀ r cut i. i ≤ held)
+    (λ m s p q left room held r₀ cut₀ i₀ r cut i. held - i)
+    (search needs)
+    (search needs)
+    (search needs)
     (search needs)
     (search needs)
     (search needs)

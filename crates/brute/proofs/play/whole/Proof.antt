@@ -8,8 +8,8 @@ pub whole-spec : {M : Type 1} → statement M
 whole-spec =
     tie.close
     (tie.spec
-    (λ c m l seed tally₀ order now₀ step₀ tally now step. step ≤ 1600)
-    (λ c m l seed tally₀ order now₀ step₀ tally now step. 1600 - step)
+    (λ c m f t seed tally₀ order now₀ step₀ tally now step. step ≤ 1600)
+    (λ c m f t seed tally₀ order now₀ step₀ tally now step. 1600 - step)
     (search needs)
     (search needs)
     (search needs)

@@ -1,8 +1,8 @@
 -- `is_among` is safe and ends: one turn for each pair. Assumes nothing.
 use Prim.Native.Nat.{_≤_, _-_}
 use borrow.Author.Needs.{needs}
-use Rattle.brute.proofs.due.is_among.Statement.{statement}
-use Rattle.brute.proofs.due.is_among.Tie as tie
+use Rattle.brute.proofs.judge.is_among.Statement.{statement}
+use Rattle.brute.proofs.judge.is_among.Tie as tie
 
 pub is-among-spec : {M : Type 1} → statement M
 is-among-spec =
