@@ -1,5 +1,6 @@
 -- `without_light` is safe and ends: one turn for each number. Assumes nothing.
 use Prim.Native.Nat.{_≤_, _-_}
+use native.Mathlib.Omega.{arith}
 use borrow.Author.Needs.{needs}
 use Rattle.brute.proofs.calls.without_light.Statement.{statement}
 use Rattle.brute.proofs.calls.without_light.Tie as tie
@@ -14,10 +15,10 @@ without-light-spec =
     (search needs)
     (search needs)
     (search needs)
+    (λ c. omega (arith, c .loop-test .taken))
     (search needs)
+    (λ c. omega (arith, c .before .loop-test .taken))
     (search needs)
-    (search needs)
-    (search needs)
-    (search needs)
-    (search needs)
+    (λ c. omega (arith, c .before .loop-test .taken))
+    (λ c. omega (arith, c .before .loop-test .taken))
     (search needs))

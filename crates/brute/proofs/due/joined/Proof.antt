@@ -1,5 +1,6 @@
 -- `joined` is safe and ends: one turn for each row of the other table. Assumes nothing.
 use Prim.Native.Nat.{_≤_, _-_}
+use native.Mathlib.Omega.{arith}
 use borrow.Author.Needs.{needs}
 use Rattle.brute.proofs.due.joined.Statement.{statement}
 use Rattle.brute.proofs.due.joined.Tie as tie
@@ -15,6 +16,6 @@ joined-spec =
     (search needs)
     (search needs)
     (search needs)
-    (search needs)
-    (search needs)
+    (λ c. omega (arith, c .before .before .loop-test .taken))
+    (λ c. omega (arith, c .before .before .loop-test .taken))
     (search needs))

@@ -1,5 +1,6 @@
 -- `with_held` is safe and ends: one turn for each pair that can be held. Assumes nothing.
 use Prim.Native.Nat.{_≤_, _-_}
+use native.Mathlib.Omega.{arith}
 use borrow.Author.Needs.{needs}
 use Rattle.brute.proofs.due.with_held.Statement.{statement}
 use Rattle.brute.proofs.due.with_held.Tie as tie
@@ -26,6 +27,6 @@ with-held-spec =
     (search needs)
     (search needs)
     (search needs)
-    (search needs)
-    (search needs)
+    (λ c. omega (arith, c .before .before .before .before .loop-test .taken))
+    (λ c. omega (arith, c .before .before .before .before .loop-test .taken))
     (search needs))

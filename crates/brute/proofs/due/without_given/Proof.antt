@@ -1,5 +1,6 @@
 -- `without_given` is safe and ends: one turn for each pair. Assumes nothing.
 use Prim.Native.Nat.{_≤_, _-_}
+use native.Mathlib.Omega.{arith}
 use borrow.Author.Needs.{needs}
 use Rattle.brute.proofs.due.without_given.Statement.{statement}
 use Rattle.brute.proofs.due.without_given.Tie as tie
@@ -13,11 +14,11 @@ without-given-spec =
     (search needs)
     (search needs)
     (search needs)
+    (λ c. omega (arith, c .loop-test .taken))
     (search needs)
     (search needs)
+    (λ c. omega (arith, c .before .before .loop-test .taken))
     (search needs)
-    (search needs)
-    (search needs)
-    (search needs)
-    (search needs)
+    (λ c. omega (arith, c .before .before .loop-test .taken))
+    (λ c. omega (arith, c .before .before .loop-test .taken))
     (search needs))

@@ -1,5 +1,6 @@
 -- `without_held` is safe and ends: one turn for each number kept. Assumes nothing.
 use Prim.Native.Nat.{_≤_, _-_}
+use native.Mathlib.Omega.{arith}
 use borrow.Author.Needs.{needs}
 use Rattle.brute.proofs.due.without_held.Statement.{statement}
 use Rattle.brute.proofs.due.without_held.Tie as tie
@@ -12,10 +13,10 @@ without-held-spec =
     (λ s r₀ i₀ r i. 16 - i)
     (search needs)
     (search needs)
+    (λ c. omega (arith, c .loop-test .taken))
     (search needs)
+    (λ c. omega (arith, c .before .loop-test .taken))
     (search needs)
-    (search needs)
-    (search needs)
-    (search needs)
-    (search needs)
+    (λ c. omega (arith, c .before .loop-test .taken))
+    (λ c. omega (arith, c .before .loop-test .taken))
     (search needs))

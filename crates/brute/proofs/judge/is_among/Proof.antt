@@ -1,5 +1,6 @@
 -- `is_among` is safe and ends: one turn for each pair. Assumes nothing.
 use Prim.Native.Nat.{_≤_, _-_}
+use native.Mathlib.Omega.{arith}
 use borrow.Author.Needs.{needs}
 use Rattle.brute.proofs.judge.is_among.Statement.{statement}
 use Rattle.brute.proofs.judge.is_among.Tie as tie
@@ -13,8 +14,8 @@ is-among-spec =
     (search needs)
     (search needs)
     (search needs)
+    (λ c. omega (arith, c .loop-test .taken))
     (search needs)
-    (search needs)
-    (search needs)
-    (search needs)
+    (λ c. omega (arith, c .before .before .before .before .before .loop-test .taken))
+    (λ c. omega (arith, c .before .before .before .before .before .loop-test .taken))
     (search needs))

@@ -1,5 +1,6 @@
 -- `cut_after` is safe and ends: one turn for each pair of the reading's field rows. Assumes nothing.
 use Prim.Native.Nat.{_≤_, _-_}
+use native.Mathlib.Omega.{arith}
 use borrow.Author.Needs.{needs}
 use Rattle.brute.proofs.plain.cut_after.Statement.{statement}
 use Rattle.brute.proofs.plain.cut_after.Tie as tie
@@ -16,6 +17,6 @@ cut-after-spec =
     (search needs)
     (search needs)
     (search needs)
-    (search needs)
-    (search needs)
+    (λ c. omega (arith, c .before .loop-test .taken))
+    (λ c. omega (arith, c .before .loop-test .taken))
     (search needs))

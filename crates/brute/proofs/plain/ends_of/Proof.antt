@@ -1,5 +1,6 @@
 -- `ends_of` is safe and ends: one turn for each row. Assumes nothing.
 use Prim.Native.Nat.{_≤_, _-_}
+use native.Mathlib.Omega.{arith}
 use borrow.Author.Needs.{needs}
 use Rattle.brute.proofs.plain.ends_of.Statement.{statement}
 use Rattle.brute.proofs.plain.ends_of.Tie as tie
@@ -15,6 +16,6 @@ ends-of-spec =
     (search needs)
     (search needs)
     (search needs)
-    (search needs)
-    (search needs)
+    (λ c. omega (arith, c .before .loop-test .taken))
+    (λ c. omega (arith, c .before .loop-test .taken))
     (search needs))

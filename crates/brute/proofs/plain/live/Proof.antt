@@ -1,5 +1,6 @@
 -- `live` is safe and ends: one turn for each row. Assumes nothing.
 use Prim.Native.Nat.{_≤_, _-_}
+use native.Mathlib.Omega.{arith}
 use borrow.Author.Needs.{needs}
 use Rattle.brute.proofs.plain.live.Statement.{statement}
 use Rattle.brute.proofs.plain.live.Tie as tie
@@ -16,6 +17,6 @@ live-spec =
     (search needs)
     (search needs)
     (search needs)
-    (search needs)
-    (search needs)
+    (λ c. omega (arith, c .before .before .before .loop-test .taken))
+    (λ c. omega (arith, c .before .before .before .loop-test .taken))
     (search needs))

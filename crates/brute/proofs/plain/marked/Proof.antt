@@ -1,5 +1,6 @@
 -- `marked` is safe and ends: one turn for each pair of rows. Assumes nothing.
 use Prim.Native.Nat.{_≤_, _-_}
+use native.Mathlib.Omega.{arith}
 use borrow.Author.Needs.{needs}
 use Rattle.brute.proofs.plain.marked.Statement.{statement}
 use Rattle.brute.proofs.plain.marked.Tie as tie
@@ -17,6 +18,6 @@ marked-spec =
     (search needs)
     (search needs)
     (search needs)
-    (search needs)
-    (search needs)
+    (λ c. omega (arith, c .before .before .loop-test .taken))
+    (λ c. omega (arith, c .before .before .loop-test .taken))
     (search needs))

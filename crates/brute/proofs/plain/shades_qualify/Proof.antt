@@ -1,5 +1,6 @@
 -- `shades_qualify` is safe and ends: one turn for each place. Assumes nothing.
 use Prim.Native.Nat.{_≤_, _-_}
+use native.Mathlib.Omega.{arith}
 use borrow.Author.Needs.{needs}
 use Rattle.brute.proofs.plain.shades_qualify.Statement.{statement}
 use Rattle.brute.proofs.plain.shades_qualify.Tie as tie
@@ -16,6 +17,6 @@ shades-qualify-spec =
     (search needs)
     (search needs)
     (search needs)
-    (search needs)
-    (search needs)
+    (λ c. omega (arith, c .before .before .loop-test .taken))
+    (λ c. omega (arith, c .before .before .loop-test .taken))
     (search needs))

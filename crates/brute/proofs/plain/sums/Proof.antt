@@ -1,5 +1,6 @@
 -- `sums` is safe and ends: one turn for each pair of rows. Assumes nothing.
 use Prim.Native.Nat.{_≤_, _-_}
+use native.Mathlib.Omega.{arith}
 use borrow.Author.Needs.{needs}
 use Rattle.brute.proofs.plain.sums.Statement.{statement}
 use Rattle.brute.proofs.plain.sums.Tie as tie
@@ -14,8 +15,8 @@ sums-spec =
     (search needs)
     (search needs)
     (search needs)
+    (λ c. c .before .loop-test .taken)
     (search needs)
-    (search needs)
-    (search needs)
-    (search needs)
+    (λ c. omega (arith, c .before .loop-test .taken))
+    (λ c. omega (arith, c .before .loop-test .taken))
     (search needs))

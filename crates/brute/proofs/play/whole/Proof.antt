@@ -1,5 +1,6 @@
 -- `whole` is safe and ends: so many calls at most. Assumes nothing.
 use Prim.Native.Nat.{_≤_, _-_}
+use native.Mathlib.Omega.{arith}
 use borrow.Author.Needs.{needs}
 use Rattle.brute.proofs.play.whole.Statement.{statement}
 use Rattle.brute.proofs.play.whole.Tie as tie
@@ -18,8 +19,8 @@ whole-spec =
     (search needs)
     (search needs)
     (search needs)
-    (search needs)
-    (search needs)
+    (λ c. omega (arith, c .before .loop-test .taken))
+    (λ c. omega (arith, c .before .loop-test .taken))
     (search needs)
     (search needs)
     (search needs))

@@ -1,5 +1,6 @@
 -- `first_other` is safe and ends: one turn for each number. Assumes nothing.
 use Prim.Native.Nat.{_≤_, _-_}
+use native.Mathlib.Omega.{arith}
 use borrow.Author.Needs.{needs}
 use Rattle.brute.proofs.record.first_other.Statement.{statement}
 use Rattle.brute.proofs.record.first_other.Tie as tie
@@ -13,12 +14,12 @@ first-other-spec =
     (search needs)
     (search needs)
     (search needs)
+    (λ c. c .loop-test .taken)
     (search needs)
     (search needs)
+    (λ c. c .before .loop-test .taken)
     (search needs)
     (search needs)
-    (search needs)
-    (search needs)
-    (search needs)
-    (search needs)
+    (λ c. omega (arith, c .before .before .before .loop-test .taken))
+    (λ c. omega (arith, c .before .before .before .loop-test .taken))
     (search needs))

@@ -1,5 +1,6 @@
 -- `put_pairs` is safe and ends: one turn for each place. Assumes nothing.
 use Prim.Native.Nat.{_≤_, _-_}
+use native.Mathlib.Omega.{arith}
 use borrow.Author.Needs.{needs}
 use Rattle.brute.proofs.record.put_pairs.Statement.{statement}
 use Rattle.brute.proofs.record.put_pairs.Tie as tie
@@ -13,9 +14,9 @@ put-pairs-spec =
     (search needs)
     (search needs)
     (search needs)
+    (λ c. c .before .loop-test .taken)
     (search needs)
     (search needs)
-    (search needs)
-    (search needs)
-    (search needs)
+    (λ c. omega (arith, c .before .before .before .loop-test .taken))
+    (λ c. omega (arith, c .before .before .before .loop-test .taken))
     (search needs))

@@ -1,5 +1,6 @@
 -- `reads_of` is safe and ends: one turn for each read. Assumes nothing.
 use Prim.Native.Nat.{_≤_, _-_}
+use native.Mathlib.Omega.{arith}
 use borrow.Author.Needs.{needs}
 use Rattle.brute.proofs.wrong.reads_of.Statement.{statement}
 use Rattle.brute.proofs.wrong.reads_of.Tie as tie
@@ -15,7 +16,7 @@ reads-of-spec =
     (search needs)
     (search needs)
     (search needs)
-    (search needs)
-    (search needs)
+    (λ c. omega (arith, c .before .before .loop-test .taken))
+    (λ c. omega (arith, c .before .before .loop-test .taken))
     (search needs)
     (search needs))
