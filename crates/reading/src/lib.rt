@@ -61,7 +61,7 @@ pub fn read(f: &[i32], t: &[i32], s: Session) -> Step
     let last = r.pairs[end];
     let answer = read_answer(code, f, t, r, last);
     if let Answer::Read = answer {
-        let after = meeting::read_block(f, t, r, &mut keys);
+        let after = next_block::read_block(f, t, r, &mut keys);
         let to = after.depth;
         let m = after.held as usize;
         r.depth = to;

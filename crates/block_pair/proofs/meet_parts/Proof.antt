@@ -5,12 +5,12 @@ use Prim.Native.Nat.{_+_, _%_}
 use lib.ListN.{getD}
 use Rattle.rules.specs.Tables.{table}
 use Rattle.keys.specs.Held.{pairOf}
-use Rattle.meeting.specs.Side.{spanBlock}
+use Rattle.block_pair.specs.Spans.{spanBlock}
 use Rattle.skipping.specs.Effect.{Effect}
-use Rattle.meeting.specs.Stands.{meets-joined, meets-counted}
+use Rattle.block_pair.specs.Stands.{meets-joined, meets-counted}
 use borrow.Author.Needs.{needs}
-use Rattle.meeting.proofs.meet_parts.Statement.{statement}
-use Rattle.meeting.proofs.meet_parts.Tie as tie
+use Rattle.block_pair.proofs.meet_parts.Statement.{statement}
+use Rattle.block_pair.proofs.meet_parts.Tie as tie
 
 -- the start of the call, from what the block pair comes to
 abbrev start : tie.After-effect-parts → tie.Start

@@ -1,7 +1,7 @@
 -- `meet_new` meets its contract: the numbers written are the new block's rectangle. Assumes nothing.
 use borrow.Author.Needs.{needs}
-use Rattle.meeting.proofs.meet_new.Statement.{statement}
-use Rattle.meeting.proofs.meet_new.Tie as tie
+use Rattle.next_block.proofs.meet_new.Statement.{statement}
+use Rattle.next_block.proofs.meet_new.Tie as tie
 
 put-sides-requires : tie.Need-put-sides-requires
 put-sides-requires c κs = search needs

@@ -7,9 +7,9 @@ use Rattle.rules.specs.declared.Side.{Side}
 use Rattle.rules.specs.Tables.{table, rectangle}
 use Rattle.rules.specs.Widths.{has-row}
 use Rattle.session_laws.specs.Record.{card-small}
-use Rattle.meeting.specs.Side.{SpanFits, spanBlock}
-use Rattle.meeting.proofs.put_sides.Statement.{statement}
-use Rattle.meeting.proofs.put_sides.Tie as tie
+use Rattle.block_pair.specs.Spans.{SpanFits, spanBlock}
+use Rattle.next_block.proofs.put_sides.Statement.{statement}
+use Rattle.next_block.proofs.put_sides.Tie as tie
 
 -- what is known of the new block's table, by its side
 fits : (s : tie.Start) (b : Bool) → s .args .field ≡ b

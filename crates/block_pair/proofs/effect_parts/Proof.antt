@@ -6,11 +6,11 @@ use native.Mathlib.Omega.{arith}
 use Rattle.rules.specs.Tables.{table}
 use Rattle.rules.specs.Widths.{has-row}
 use Rattle.block.specs.Small.{rows-small}
-use Rattle.meeting.specs.Meets.{lent-rows}
+use Rattle.block_pair.specs.SpanRows.{lent-rows}
 use Rattle.skipping.specs.Effect.{Effect}
 use borrow.Author.Needs.{needs}
-use Rattle.meeting.proofs.effect_parts.Statement.{statement}
-use Rattle.meeting.proofs.effect_parts.Tie as tie
+use Rattle.block_pair.proofs.effect_parts.Statement.{statement}
+use Rattle.block_pair.proofs.effect_parts.Tie as tie
 
 rows-requires : tie.Need-rows-requires
 rows-requires c κs = search needs

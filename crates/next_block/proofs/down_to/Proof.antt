@@ -1,9 +1,9 @@
 -- `down_to` meets its contract. Assumes nothing.
 use mathlib.Core.Path.{refl}
-use Rattle.meeting.specs.Side.{downTo}
+use Rattle.next_block.specs.Side.{downTo}
 use borrow.Author.Needs.{needs}
-use Rattle.meeting.proofs.down_to.Statement.{statement}
-use Rattle.meeting.proofs.down_to.Tie as tie
+use Rattle.next_block.proofs.down_to.Statement.{statement}
+use Rattle.next_block.proofs.down_to.Tie as tie
 
 pick-requires : tie.Need-pick-requires
 pick-requires c κs = search needs

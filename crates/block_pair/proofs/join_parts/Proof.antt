@@ -1,10 +1,10 @@
 -- `join_parts` meets its contract: the parts are the blocks. Assumes nothing.
 use mathlib.Core.Path.{sym}
 use Rattle.rules.specs.Tables.{table}
-use Rattle.meeting.specs.Meets.{lent-rows}
+use Rattle.block_pair.specs.SpanRows.{lent-rows}
 use borrow.Author.Needs.{needs}
-use Rattle.meeting.proofs.join_parts.Statement.{statement}
-use Rattle.meeting.proofs.join_parts.Tie as tie
+use Rattle.block_pair.proofs.join_parts.Statement.{statement}
+use Rattle.block_pair.proofs.join_parts.Tie as tie
 
 rows-requires : tie.Need-rows-requires
 rows-requires c κs = search needs

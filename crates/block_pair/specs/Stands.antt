@@ -1,32 +1,28 @@
 -- A record's held pairs as keys, and its counts beside them, while blocks are met. Assumes nothing.
 use mathlib.Core.Path.{_≡_, refl, sym, ap, subst, _∙_}
-use mathlib.Core.Bool.{Bool, true, false, cond, _&&_, _||_}
-use mathlib.Core.List.{List, [], _∷_, map}
+use mathlib.Core.Bool.{Bool, true, false, _&&_, _||_}
+use mathlib.Core.List.{List}
 use Prim.Native.Nat.{ℕ, _+_, _-_, _%_, _≤_, _<_}
 use native.Mathlib.Omega.{arith}
 use lib.Dec.{ltb, eqb}
 use lib.ListN.{length, getD, take}
 use lib.Seq.{length-take-le, getD-take}
 use borrow.Author.Tests.{eq-eqb, ne-eqb, eqb-true, eqb-false}
-use Rattle.lists.specs.Words.{All}
 use Rattle.rules.specs.declared.Pair.{Pair}
 use Rattle.rules.specs.declared.Query.{Query}
 use Rattle.rules.specs.declared.Session.{Session}
 use Rattle.rules.specs.Tables.{terms, Block, qualifying}
-use Rattle.rules.specs.Session.{noPair, places, heldPairs}
-use Rattle.rules.specs.Read.{lowest, skippedBy, skipped, bestHeld, holding, meet, readTo}
-use Rattle.session_laws.specs.Read.{Kept}
+use Rattle.rules.specs.Session.{noPair, heldPairs}
+use Rattle.rules.specs.Read.{lowest, skippedBy, skipped, bestHeld, holding, meet}
 use Rattle.ceiling.specs.Last.{lastOf, lowest-is-last}
-use Rattle.keys.specs.Held.{keyOf, pairOf, Narrow, Keyed}
-use Rattle.keys.specs.Keys.{pair-key, keyed-length, keyed-at}
-use Rattle.keys.specs.Places.{placesOf, list-of-places}
+use Rattle.keys.specs.Held.{pairOf, Keyed}
+use Rattle.keys.specs.Keys.{keyed-length, keyed-at}
+use Rattle.keys.specs.Places.{list-of-places}
 use Rattle.block.specs.Block.{Joined}
-use Rattle.meeting.specs.declared.Met.{Met}
-use Rattle.meeting.specs.declared.After.{After}
+use Rattle.block_pair.specs.declared.Met.{Met}
 use Rattle.choosing.specs.Ready.{Ready}
-use Rattle.meeting.specs.Side.{downTo}
 use Rattle.skipping.specs.Effect.{Effect, firstScores, skips}
-use Rattle.meeting.specs.Effect.{joinedPair, counted, effect-joins, effect-counts}
+use Rattle.block_pair.specs.Effect.{joinedPair, counted, effect-joins, effect-counts}
 
 -- 64 numbers, of which the first stand for the pairs that a record holds
 pub record Keys (r : Session) (keys : List ℕ) : Type 0 where
@@ -48,26 +44,7 @@ pub record Meets (q : Query) (room : ℕ) (x y : Block) (m : Met) (keys : List �
   pub meets : (r : Session) → Ready r → r .query ≡ q → r .query .k - r .out ≡ room → Stands r m keys
       → Stands (meet r x y) after left
 
--- a record after a read: its numbers, and its pairs read off the keys
-unfoldable pub withKeys : Session → After → List ℕ → Session
-withKeys s r keys =
-    record {
-      query = s .query;
-      rows = s .rows;
-      depth = r .depth;
-      last = r .last;
-      out = s .out;
-      held = r .held;
-      pairs = placesOf keys (r .held);
-      joined = r .joined;
-    }
-
--- what keys stand for is read off them again
-pub pairs-again : (l : List Pair) → All Narrow l → map pairOf (map keyOf l) ≡ l
-pairs-again [] h = refl
-pairs-again (p ∷ l) h = λ i. pair-key p (h .0) i ∷ pairs-again l (h .1) i
-
--- the last of them
+-- the last of the pairs that keys stand for
 keyed-last : (l : List Pair) (n : ℕ) (keys : List ℕ) → 0 < n → n ≤ length keys → Keyed l (take n keys)
     → pairOf (getD keys (n - 1) 0) ≡ lastOf l
 keyed-last l n keys some h k =
@@ -185,29 +162,3 @@ module _ (q : Query) (room : ℕ) (x y : Block) (m : Met) (keys : List ℕ) (w :
         long = long;
         meets = λ r ready same left stands. stands-counted r ready room left m keys stands x y w (rw same effect) h;
       }
-
--- the record after a read, its pairs read off the keys
-pub read-is : (field : Bool) (e : ℕ) (s r : Session) → Kept s r → Ready r → (m : Met) (keys : List ℕ)
-    → Stands r m keys
-    → withKeys s
-    (record { depth = downTo field e (s .depth); last = cond field 1 2; held = m .held; joined = m .joined }) keys
-    ≡ readTo field e r
-unfolding readTo downTo withKeys placesOf
-read-is field e s r kept ready m keys stands =
-    let l = heldPairs r in
-    let held : places (map pairOf (take (m .held) keys)) ≡ r .pairs =
-    ap (λ (n : ℕ). places (map pairOf (take n keys))) (stands .held)
-    ∙ ap (λ (k : List ℕ). places (map pairOf k)) (stands .pairs .keyed .keys)
-    ∙ ap places (pairs-again l (stands .pairs .keyed .narrow))
-    ∙ sym (ready .zeros) in
-    λ i.
-    record {
-      query = sym (kept .query) i;
-      rows = sym (kept .rows) i;
-      depth = downTo field e (sym (kept .depth) i);
-      last = cond field 1 2;
-      out = sym (kept .out) i;
-      held = stands .held i;
-      pairs = held i;
-      joined = stands .joined i;
-    }

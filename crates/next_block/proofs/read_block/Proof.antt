@@ -7,9 +7,9 @@ use Rattle.rules.specs.Read.{readTable}
 use Rattle.rules.proofs.Places.{places-long}
 use Rattle.session_laws.specs.Calls.{new-block-out}
 use Rattle.choosing.specs.Due.{due}
-use Rattle.meeting.specs.Meets.{passed}
-use Rattle.meeting.proofs.read_block.Statement.{statement}
-use Rattle.meeting.proofs.read_block.Tie as tie
+use Rattle.next_block.specs.Side.{passed}
+use Rattle.next_block.proofs.read_block.Statement.{statement}
+use Rattle.next_block.proofs.read_block.Tie as tie
 
 -- the two tables
 abbrev fields : tie.Start → Table

@@ -12,11 +12,12 @@ use Rattle.rules.specs.Read.{meetBlocks, rowsBetween, oldDepth, newDepth, block
 use Rattle.session_laws.specs.Read.{blocks-keep}
 use Rattle.choosing.specs.Ready.{Ready}
 use Rattle.choosing.specs.Due.{otherDepth}
 use Rattle.meeting.specs.Meets.{blocks-ready}
-use Rattle.meeting.specs.Stands.{Stands, read-is}
+use Rattle.block_pair.specs.Stands.{Stands}
+use Rattle.next_block.specs.After.{read-is}
 use borrow.Author.Needs.{needs}
-use Rattle.meeting.proofs.read_on.Statement.{statement}
-use Rattle.meeting.proofs.read_on.Tie as tie
+use Rattle.next_block.proofs.read_on.Statement.{statement}
+use Rattle.next_block.proofs.read_on.Tie as tie
 
 -- the start of the call, from the new depth
 abbrev start : tie.After-next-depth → tie.Start
