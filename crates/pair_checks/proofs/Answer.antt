@@ -17,7 +17,7 @@ use Rattle.rules.specs.Session.{noPair, heldPairs}
 use Rattle.rules.specs.Read.{blockCount}
 use Rattle.rules.specs.Calls.{isCard, queryCode, countsFit, pairFits, markFits, isZeros, depthsFit, recordFits}
 use Rattle.number_checks.specs.Grounds.{markOf, depthsOf, numbersFit}
-use Rattle.checks.specs.Grounds.{pairWithin, placeFits, placesFrom}
+use Rattle.pair_checks.specs.Grounds.{pairWithin, placeFits, placesFrom}
 
 module _ (depth : Counts) where
   -- behind those held all are zeros

@@ -18,9 +18,9 @@ use Rattle.lists.specs.Bools.{and-left, and-right, and-true, and-false}
 use Rattle.session_laws.specs.Record.{counts-out}
 use Rattle.keys.specs.Held.{keyOf, Narrow}
 use Rattle.number_checks.specs.Grounds.{numbersFit}
-use Rattle.checks.specs.Grounds.{placeFits, placesFrom, Shallow, placeKey}
-use Rattle.checks.proofs.Answer.{place-more, places-end, answer}
-use Rattle.checks.proofs.Keys.{Behind, key-fits, key-is}
+use Rattle.pair_checks.specs.Grounds.{placeFits, placesFrom, Shallow, placeKey}
+use Rattle.pair_checks.proofs.Answer.{place-more, places-end, answer}
+use Rattle.pair_checks.proofs.Keys.{Behind, key-fits, key-is}
 
 -- the pair before place i
 abbrev pub prev : Session → ℕ → Pair

@@ -14,7 +14,7 @@ use Rattle.lists.specs.Bools.{and-left, and-right}
 use Rattle.lists.specs.Bools.{clash}
 use Rattle.keys.specs.Held.{keyOf, Narrow}
 use Rattle.keys.specs.Keys.{key-order}
-use Rattle.checks.specs.Grounds.{pairWithin, placeFits, Shallow, placeKey}
+use Rattle.pair_checks.specs.Grounds.{pairWithin, placeFits, Shallow, placeKey}
 
 -- `before` is the key before place i, where b stands: 0 before the first
 abbrev pub Behind : ℕ → ℕ → Pair → Type 0

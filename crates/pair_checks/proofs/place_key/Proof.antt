@@ -2,10 +2,10 @@
 use mathlib.Core.Path.{refl, sym, _∙_}
 use borrow.Author.Needs.{needs}
 use borrow.Author.Tests.{le-leb, lt-leb, lt-ltb, le-ltb, not-true, not-false}
-use Rattle.checks.specs.Grounds.{placeKey}
-use Rattle.checks.proofs.Keys.{within-narrow}
-use Rattle.checks.proofs.place_key.Statement.{statement}
-use Rattle.checks.proofs.place_key.Tie as tie
+use Rattle.pair_checks.specs.Grounds.{placeKey}
+use Rattle.pair_checks.proofs.Keys.{within-narrow}
+use Rattle.pair_checks.proofs.place_key.Statement.{statement}
+use Rattle.pair_checks.proofs.place_key.Tie as tie
 
 is-zeros-requires : tie.Need-is-zeros-requires
 is-zeros-requires c κs = search needs

@@ -3,9 +3,9 @@ use Prim.Native.Nat.{_-_}
 use native.Mathlib.Omega.{arith}
 use borrow.Author.Needs.{needs}
 use Rattle.rules.proofs.Places.{places-long}
-use Rattle.checks.proofs.Looking.{Looking, look-starts, look-on, look-stops, look-ends}
-use Rattle.checks.proofs.fits.Statement.{statement}
-use Rattle.checks.proofs.fits.Tie as tie
+use Rattle.pair_checks.proofs.Looking.{Looking, look-starts, look-on, look-stops, look-ends}
+use Rattle.pair_checks.proofs.fits.Statement.{statement}
+use Rattle.pair_checks.proofs.fits.Tie as tie
 
 abbrev Inv-loop : tie.InvT-loop
 Inv-loop s n depth fits₀ before₀ i₀ fits before i = Looking s i before fits
