@@ -99,7 +99,7 @@ fn read_on(field: bool, f: &[i32], t: &[i32], s: Session, keys: &mut [u64; 64]) 
     let d = choosing::pick(field, s.depth.field.0, s.depth.trim.0);
     let depth = choosing::pick(field, s.depth.trim.0, s.depth.field.0);
     let e = choosing::next_depth(block, rows, d);
-    let n = number_checks::block_count(block, depth);
+    let n = depth_checks::block_count(block, depth);
     let new = Span {
         from: d as usize,
         to: e as usize,

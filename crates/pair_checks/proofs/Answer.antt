@@ -16,7 +16,8 @@ use Rattle.rules.specs.Tables.{ahead}
 use Rattle.rules.specs.Session.{noPair, heldPairs}
 use Rattle.rules.specs.Read.{blockCount}
 use Rattle.rules.specs.Calls.{isCard, queryCode, countsFit, pairFits, markFits, isZeros, depthsFit, recordFits}
-use Rattle.number_checks.specs.Grounds.{markOf, depthsOf, numbersFit}
+use Rattle.depth_checks.specs.Grounds.{markOf, depthsOf}
+use Rattle.number_checks.specs.Grounds.{numbersFit}
 use Rattle.pair_checks.specs.Grounds.{pairWithin, placeFits, placesFrom}
 
 module _ (depth : Counts) where

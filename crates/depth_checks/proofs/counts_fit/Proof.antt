@@ -2,8 +2,8 @@
 use mathlib.Core.Path.{refl}
 use Rattle.rules.specs.Calls.{countsFit}
 use borrow.Author.Needs.{needs}
-use Rattle.number_checks.proofs.counts_fit.Statement.{statement}
-use Rattle.number_checks.proofs.counts_fit.Tie as tie
+use Rattle.depth_checks.proofs.counts_fit.Statement.{statement}
+use Rattle.depth_checks.proofs.counts_fit.Tie as tie
 
 rem-result : tie.Need-rem-result
 rem-result c = search needs

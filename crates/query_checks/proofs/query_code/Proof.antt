@@ -1,8 +1,8 @@
 -- `query_code` meets its contract: 1, 2, 3, then 12 of either weight and 16 of either tolerance. Assumes nothing.
 use Rattle.rules.specs.Calls.{queryCode}
 use borrow.Author.Needs.{needs}
-use Rattle.number_checks.proofs.query_code.Statement.{statement}
-use Rattle.number_checks.proofs.query_code.Tie as tie
+use Rattle.query_checks.proofs.query_code.Statement.{statement}
+use Rattle.query_checks.proofs.query_code.Tie as tie
 
 unless-requires : tie.Need-unless-requires
 unless-requires c κs = search needs

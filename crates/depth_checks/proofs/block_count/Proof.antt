@@ -5,8 +5,8 @@ use native.Mathlib.Nat.{div-lt-iff-lt-mul}
 use native.Mathlib.Omega.{arith}
 use borrow.Author.Needs.{needs}
 use Rattle.rules.specs.Tables.{mostRows}
-use Rattle.number_checks.proofs.block_count.Statement.{statement}
-use Rattle.number_checks.proofs.block_count.Tie as tie
+use Rattle.depth_checks.proofs.block_count.Statement.{statement}
+use Rattle.depth_checks.proofs.block_count.Tie as tie
 
 blocks-few : (block depth : ℕ) → 0 < block → depth ≤ mostRows → (depth + block - 1) / block ≤ mostRows
 blocks-few block depth h k =

@@ -1,9 +1,9 @@
 -- `mark_fits` meets its contract, mark by mark. Assumes nothing.
 use mathlib.Core.Path.{refl}
 use borrow.Author.Tests.{eq-eqb, ne-eqb}
-use Rattle.number_checks.specs.Grounds.{markOf}
-use Rattle.number_checks.proofs.mark_fits.Statement.{statement}
-use Rattle.number_checks.proofs.mark_fits.Tie as tie
+use Rattle.depth_checks.specs.Grounds.{markOf}
+use Rattle.depth_checks.proofs.mark_fits.Statement.{statement}
+use Rattle.depth_checks.proofs.mark_fits.Tie as tie
 
 returns : tie.Need-returns
 unfolding markOf

@@ -1,9 +1,9 @@
 -- `depths_fit` meets its contract. Assumes nothing.
 use mathlib.Core.Path.{refl}
-use Rattle.number_checks.specs.Grounds.{depthsOf}
+use Rattle.depth_checks.specs.Grounds.{depthsOf}
 use borrow.Author.Needs.{needs}
-use Rattle.number_checks.proofs.depths_fit.Statement.{statement}
-use Rattle.number_checks.proofs.depths_fit.Tie as tie
+use Rattle.depth_checks.proofs.depths_fit.Statement.{statement}
+use Rattle.depth_checks.proofs.depths_fit.Tie as tie
 
 unsatisfiable-requires : tie.Need-unsatisfiable-requires
 unsatisfiable-requires c κs = search needs
