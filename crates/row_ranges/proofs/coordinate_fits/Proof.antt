@@ -2,8 +2,8 @@
 use borrow.Author.Tests.{lt-ltb, le-ltb}
 use mir.Facts.{toZ-ofZ}
 use Rattle.rules.specs.Tables.{within, coordinateFits}
-use Rattle.row_checks.proofs.coordinate_fits.Statement.{statement}
-use Rattle.row_checks.proofs.coordinate_fits.Tie as tie
+use Rattle.row_ranges.proofs.coordinate_fits.Statement.{statement}
+use Rattle.row_ranges.proofs.coordinate_fits.Tie as tie
 
 returns : tie.Need-returns
 unfolding coordinateFits within

@@ -11,8 +11,8 @@ use Rattle.lists.specs.Lists.{every, range}
 use Rattle.lists.specs.Appends.{every-more}
 use Rattle.rules.specs.Tables.{coordinateFits, fitsAt, shadeFits}
 use borrow.Author.Needs.{needs, sfits-of}
-use Rattle.row_checks.proofs.shade_fits.Statement.{statement}
-use Rattle.row_checks.proofs.shade_fits.Tie as tie
+use Rattle.row_ranges.proofs.shade_fits.Statement.{statement}
+use Rattle.row_ranges.proofs.shade_fits.Tie as tie
 
 abbrev Inv-loop : tie.InvT-loop
 Inv-loop shade fits₀ k₀ fits k = (k ≤ length shade) × (fits ≡ every (fitsAt shade) (range 0 k))

@@ -1,8 +1,8 @@
 -- `in_range` meets its contract. Assumes nothing.
 use borrow.Author.Needs.{needs}
 use Rattle.rules.specs.Tables.{within}
-use Rattle.row_checks.proofs.in_range.Statement.{statement}
-use Rattle.row_checks.proofs.in_range.Tie as tie
+use Rattle.row_ranges.proofs.in_range.Statement.{statement}
+use Rattle.row_ranges.proofs.in_range.Tie as tie
 
 returns : tie.Need-returns
 unfolding within
