@@ -7,9 +7,9 @@ use borrow.Author.Needs.{needs}
 use borrow.Author.Tests.{not-true, not-false}
 use Rattle.rules.specs.Tables.{table, row, withdrawn, rowCount}
 use Rattle.rules.specs.Widths.{has-row}
-use Rattle.block.specs.Live.{above-live}
-use Rattle.block.proofs.live_rows.Statement.{statement}
-use Rattle.block.proofs.live_rows.Tie as tie
+use Rattle.block_rows.specs.Parts.{above-live}
+use Rattle.block_rows.proofs.live_rows.Statement.{statement}
+use Rattle.block_rows.proofs.live_rows.Tie as tie
 
 abbrev Inv-loop : tie.InvT-loop
 Inv-loop n x m₀ m =

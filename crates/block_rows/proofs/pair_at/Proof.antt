@@ -6,8 +6,8 @@ use Rattle.rules.specs.Tables.{table, pairAt, pairSum}
 use Rattle.rules.specs.Calls.{mostSum}
 use Rattle.session_laws.specs.Tables.{weighted-most}
 use borrow.Author.Needs.{needs}
-use Rattle.block.proofs.pair_at.Statement.{statement}
-use Rattle.block.proofs.pair_at.Tie as tie
+use Rattle.block_rows.proofs.pair_at.Statement.{statement}
+use Rattle.block_rows.proofs.pair_at.Tie as tie
 
 -- two weighted scores of rows that passed 6
 low : (c : tie.After-weighted2) → c .before .weighted .result + c .weighted2 .result ≤ mostSum
