@@ -14,7 +14,7 @@ use Rattle.rules.specs.declared.Session.{Session}
 use Rattle.rules.specs.Tables.{terms, Block, qualifying}
 use Rattle.rules.specs.Session.{noPair, heldPairs}
 use Rattle.rules.specs.Read.{lowest, skippedBy, skipped, bestHeld, holding, meet}
-use Rattle.ceiling.specs.Last.{lastOf, lowest-is-last}
+use Rattle.securing.specs.Last.{lastOf, lowest-is-last}
 use Rattle.keys.specs.Held.{pairOf, Keyed}
 use Rattle.keys.specs.Keys.{keyed-length, keyed-at}
 use Rattle.keys.specs.Places.{list-of-places}

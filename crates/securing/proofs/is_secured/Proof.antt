@@ -2,11 +2,11 @@
 use mathlib.Core.Path.{_≡_, refl}
 use mathlib.Core.Bool.{true, false}
 use Rattle.rules.specs.Session.{lentTable, bothReadOut}
 use Rattle.ceiling.specs.Bare.{bare}
-use Rattle.ceiling.specs.Last.{read-secured}
+use Rattle.securing.specs.Last.{read-secured}
 use borrow.Author.Needs.{needs}
-use Rattle.ceiling.proofs.is_secured.Statement.{statement}
-use Rattle.ceiling.proofs.is_secured.Tie as tie
+use Rattle.securing.proofs.is_secured.Statement.{statement}
+use Rattle.securing.proofs.is_secured.Tie as tie
 
 read-out-requires : tie.Need-read-out-requires
 read-out-requires c κs = c .pre .field

@@ -7,8 +7,8 @@ use Rattle.rules.specs.Widths.{rows-row}
 use Rattle.rules.specs.Session.{withdrawnWithin, readOut}
 use Rattle.session_laws.specs.ReadOut.{within-last}
 use borrow.Author.Needs.{needs}
-use Rattle.ceiling.proofs.read_out.Statement.{statement}
-use Rattle.ceiling.proofs.read_out.Tie as tie
+use Rattle.table_ends.proofs.read_out.Statement.{statement}
+use Rattle.table_ends.proofs.read_out.Tie as tie
 
 returns : tie.Need-returns
 unfolding readOut

@@ -23,7 +23,7 @@ use Rattle.rules.specs.Session.{secured}
 use Rattle.rules.specs.Read.{lowest}
 use Rattle.session_laws.specs.Record.{RecordFits, first-fits}
 use Rattle.session_laws.specs.Calls.{Accepted}
-use Rattle.ceiling.specs.BothRead.{BothRead, accepted-rows}
+use Rattle.table_ends.specs.BothRead.{BothRead, accepted-rows}
 
 -- what is not ahead has no higher sum
 pub not-higher : (p q : Pair) → ahead q p ≡ false → q .sum ≤ p .sum

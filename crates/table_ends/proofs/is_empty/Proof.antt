@@ -5,8 +5,8 @@ use Rattle.rules.specs.Tables.{table}
 use Rattle.rules.specs.Widths.{rows-row}
 use Rattle.rules.specs.Session.{isEmpty}
 use borrow.Author.Needs.{needs}
-use Rattle.ceiling.proofs.is_empty.Statement.{statement}
-use Rattle.ceiling.proofs.is_empty.Tie as tie
+use Rattle.table_ends.proofs.is_empty.Statement.{statement}
+use Rattle.table_ends.proofs.is_empty.Tie as tie
 
 returns : tie.Need-returns
 unfolding isEmpty
