@@ -23,7 +23,7 @@ use Rattle.rules.specs.File.{isSigned, columnAt, columnFitsAt, numberAt, rowSta
 use Rattle.rules.specs.File.{fileTable, fileRowCode, andRow, rowsLoaded}
 use Rattle.file_laws.specs.Parts.{row-parts}
 use Rattle.file_laws.specs.Table.{table-length, table-num}
-use Rattle.row_checks.specs.Ranges.{in-range-parts}
+use Rattle.row_ranges.specs.Ranges.{in-range-parts}
 use Rattle.column.specs.Column.{number-held}
 use Rattle.file_row.specs.Held.{heldAt, columnsHeld, coordinateHeld, numbersHeld, rowHeld, heldRowCode}
 
