@@ -79,15 +79,15 @@ fn put_whole(out: &mut [u8], field: &[u8], trim: &[u8], input: &[u8]) -> usize
     ensures { λ r. ⌜ Written (wholeQuery (now (field .entry)) (now (trim .entry)) (now (input .entry)))
         (now (out .entry)) (now (out .exit)) r ⌝ }
 {
-    let of_field = program_input::file_kind(1, 3, field);
-    let mut f = [0i32; program_input::TABLE_ROOM];
-    let a = program_input::load_table(field, of_field, &mut f);
+    let of_field = program_file::file_kind(1, 3, field);
+    let mut f = [0i32; program_sizes::TABLE_ROOM];
+    let a = program_file::load_table(field, of_field, &mut f);
     let Loaded::Rows(m) = a else {
         return refuse(out, refusal(a));
     };
-    let of_trim = program_input::file_kind(2, 4, trim);
-    let mut t = [0i32; program_input::TABLE_ROOM];
-    let b = program_input::load_table(trim, of_trim, &mut t);
+    let of_trim = program_file::file_kind(2, 4, trim);
+    let mut t = [0i32; program_sizes::TABLE_ROOM];
+    let b = program_file::load_table(trim, of_trim, &mut t);
     let Loaded::Rows(n) = b else {
         return refuse(out, refusal(b));
     };

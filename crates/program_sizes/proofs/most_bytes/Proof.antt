@@ -7,10 +7,10 @@ use Rattle.rules.specs.Tables.{natOf}
 use Rattle.rules.specs.File.{headerBytes, rowBytes, wanted}
 use Rattle.file_laws.specs.Kinds.{kind-most}
 use Rattle.file_laws.specs.Columns.{row-most}
-use Rattle.program_input.specs.Given.{tableRows}
+use Rattle.program_sizes.specs.Sizes.{tableRows}
 use borrow.Author.Needs.{needs}
-use Rattle.program_input.proofs.most_bytes.Statement.{statement}
-use Rattle.program_input.proofs.most_bytes.Tie as tie
+use Rattle.program_sizes.proofs.most_bytes.Statement.{statement}
+use Rattle.program_sizes.proofs.most_bytes.Tie as tie
 
 kind-coordinates-requires : tie.Need-kind-coordinates-requires
 kind-coordinates-requires c κs = search needs

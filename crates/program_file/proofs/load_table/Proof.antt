@@ -11,11 +11,11 @@ use borrow.Author.Tests.{not-true, not-false}
 use Rattle.rules.specs.Tables.{kindCoordinates}
 use Rattle.rules.specs.File.{wanted, loadAnswer, loadNumbers, loadedInto}
 use Rattle.rules.specs.Query.{mostFileBytes}
-use Rattle.program_input.specs.Given.{programFile}
-use Rattle.program_input.proofs.Steps.{load-small}
+use Rattle.program_file.specs.Given.{programFile}
+use Rattle.program_file.proofs.Steps.{load-small}
 use borrow.Author.Needs.{needs}
-use Rattle.program_input.proofs.load_table.Statement.{statement}
-use Rattle.program_input.proofs.load_table.Tie as tie
+use Rattle.program_file.proofs.load_table.Statement.{statement}
+use Rattle.program_file.proofs.load_table.Tie as tie
 
 cast-wanted : tie.Need-cast-wanted
 cast-wanted c = search needs

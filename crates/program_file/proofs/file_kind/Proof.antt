@@ -7,9 +7,9 @@ use lib.Dec.{eqb}
 use lib.ListN.{getD}
 use Rattle.rules.specs.Query.{peeked}
 use borrow.Author.Needs.{needs}
-use Rattle.program_input.proofs.Steps.{kind-short, kind-new, kind-old}
-use Rattle.program_input.proofs.file_kind.Statement.{statement}
-use Rattle.program_input.proofs.file_kind.Tie as tie
+use Rattle.program_file.proofs.Steps.{kind-short, kind-new, kind-old}
+use Rattle.program_file.proofs.file_kind.Statement.{statement}
+use Rattle.program_file.proofs.file_kind.Tie as tie
 
 returns : tie.Need-returns
 returns c = let s = c .before .before .args in kind-short (s .old) (s .new) (s .bytes .now) (c .if1 .taken)

@@ -1,8 +1,8 @@
 -- `is_blank` meets its contract. Assumes nothing.
 use borrow.Author.Needs.{needs}
-use Rattle.program_input.proofs.Steps.{blanks-are}
-use Rattle.program_input.proofs.is_blank.Statement.{statement}
-use Rattle.program_input.proofs.is_blank.Tie as tie
+use Rattle.program_file.proofs.Steps.{blanks-are}
+use Rattle.program_file.proofs.is_blank.Statement.{statement}
+use Rattle.program_file.proofs.is_blank.Tie as tie
 
 shared-slice-read-last : tie.Need-shared-slice-read-last
 shared-slice-read-last c = search needs
