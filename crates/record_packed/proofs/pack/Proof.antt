@@ -10,12 +10,12 @@ use Rattle.lists.specs.Lists.{each}
 use Rattle.rules.specs.declared.Pair.{Pair}
 use Rattle.rules.specs.Session.{noPair, placeCount}
 use Rattle.rules.proofs.Places.{places-long}
 use Rattle.record_layout.specs.Flat.{pairsAt, pairSize, pairAt, fieldWeightAt, flatSize, flatPair}
 use Rattle.record_layout.specs.Flat.{flatHead, flatTail, flatten}
 use Rattle.record_layout.specs.RoundTrip.{flat-length}
 use Rattle.record_layout.proofs.Places.{onto, laid, none-laid, one-out}
-use Rattle.record_layout.proofs.pack.Statement.{statement}
-use Rattle.record_layout.proofs.pack.Tie as tie
+use Rattle.record_packed.proofs.pack.Statement.{statement}
+use Rattle.record_packed.proofs.pack.Tie as tie
 
 abbrev Inv-loop : tie.InvT-loop
 Inv-loop out₀ s i₀ out i =

@@ -4,11 +4,11 @@ use mathlib.Core.List.{List, [], _∷_, _++_}
 use Prim.Native.Nat.{ℕ, _/_, _%_}
 use native.Mathlib.Omega.{arith}
 use lib.ListN.{take, drop}
 use Rattle.record_layout.specs.Flat.{word, flatHead}
 use Rattle.record_layout.proofs.Places.{onto}
 use borrow.Author.Needs.{needs}
-use Rattle.record_layout.proofs.put_head.Statement.{statement}
-use Rattle.record_layout.proofs.put_head.Tie as tie
+use Rattle.record_ends.proofs.put_head.Statement.{statement}
+use Rattle.record_ends.proofs.put_head.Tie as tie
 
 cast-low : tie.Need-cast-low
 cast-low c = search needs

@@ -3,11 +3,11 @@ use mathlib.Core.Path.{ap, _∙_}
 use mathlib.Core.List.{List, [], _∷_}
 use Prim.Native.Nat.{ℕ}
 use native.Mathlib.Omega.{arith}
 use Rattle.record_layout.specs.Flat.{fieldWeightAt, fieldToleranceAt, laidAt, meaningNumber, flatTail}
 use Rattle.record_layout.proofs.Places.{laid-on}
 use borrow.Author.Needs.{needs}
-use Rattle.record_layout.proofs.put_tail.Statement.{statement}
-use Rattle.record_layout.proofs.put_tail.Tie as tie
+use Rattle.record_ends.proofs.put_tail.Statement.{statement}
+use Rattle.record_ends.proofs.put_tail.Tie as tie
 
 meaning-number-requires : tie.Need-meaning-number-requires
 meaning-number-requires c κs = search needs
