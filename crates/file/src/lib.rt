@@ -7,10 +7,10 @@ ghost use Rattle.rules.specs.Tables.{table, width, HasRows, afterRows, mostRows
 ghost use Rattle.rules.specs.File.{rowBytes, rowStart, fileTable, andSlice, loadAnswer, loadNumbers};
 ghost use Rattle.file_laws.specs.Parts.{RowFits};
 ghost use Rattle.file.specs.Put.{rowPut, RowsFit};
-use column::column_bytes;
-use column::row_bytes;
-use column::row_number;
 use file_check::check;
+use row_columns::column_bytes;
+use row_columns::row_bytes;
+use row_columns::row_number;
 use rules::Loaded;
 
 // 11 comes last: a file that is refused for its rows is told so, however short the slice of `room` numbers. The rows

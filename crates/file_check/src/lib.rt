@@ -8,9 +8,9 @@ ghost use Rattle.file_check.specs.Held.{headerHeld, heldHeadCode};
 use codes::first;
 use codes::unless;
 use column::column_at;
-use column::row_bytes;
 use file_row::read_row;
 use file_row::row_code;
+use row_columns::row_bytes;
 use rules::Loaded;
 
 // The header's numbers, and whether its columns and LF are formed as they must be.

@@ -5,12 +5,12 @@ use Prim.Native.Nat.{_*_, _≤_}
 use native.Mathlib.Nat.{mul-le-mul}
 use native.Mathlib.Omega.{arith}
 use lib.Dec.{eqb}
-use Rattle.column.specs.Scan.{stepped}
+use Rattle.column_scan.specs.Scan.{stepped}
 use Rattle.rules.specs.File.{isDigit}
-use Rattle.column.proofs.Bytes.{worth-small, one-most}
+use Rattle.column_scan.proofs.Bytes.{worth-small, one-most}
 use borrow.Author.Needs.{needs}
-use Rattle.column.proofs.step.Statement.{statement}
-use Rattle.column.proofs.step.Tie as tie
+use Rattle.column_scan.proofs.step.Statement.{statement}
+use Rattle.column_scan.proofs.step.Tie as tie
 
 -- the start of the call, from where the scan's fields are known
 abbrev start : tie.After-struct-known4 → tie.Start

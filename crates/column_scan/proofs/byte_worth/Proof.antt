@@ -1,8 +1,8 @@
 -- `byte_worth` meets its contract. Assumes nothing.
-use Rattle.column.specs.Scan.{byteWorth}
+use Rattle.column_scan.specs.Scan.{byteWorth}
 use borrow.Author.Needs.{needs}
-use Rattle.column.proofs.byte_worth.Statement.{statement}
-use Rattle.column.proofs.byte_worth.Tie as tie
+use Rattle.column_scan.proofs.byte_worth.Statement.{statement}
+use Rattle.column_scan.proofs.byte_worth.Tie as tie
 
 returns : tie.Need-returns
 unfolding byteWorth

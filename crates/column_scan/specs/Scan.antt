@@ -2,14 +2,12 @@
 use Prim.Native.Nat.{ℕ, _+_, _*_, _-_, _%_}
 use mathlib.Core.Bool.{Bool, false, cond, _&&_, _||_, not}
 use mathlib.Core.List.{List, [], _∷_}
-use lib.Dec.{leb, eqb}
-use lib.IntN.{ℤ, pos, negℤ}
-use lib.ListN.{length, getD, take, drop}
+use lib.Dec.{eqb}
+use lib.ListN.{length, take, drop}
 use mir.Val.{boolByte}
 use Rattle.rules.specs.File.{blank, minus, isDigit}
-use Rattle.file_laws.specs.Places.{placeAt, placeValues}
-use Rattle.column.specs.declared.Column.{Column}
-use Rattle.column.specs.declared.Scan.{Scan}
+use Rattle.file_laws.specs.Places.{placeAt}
+use Rattle.column_scan.specs.declared.Scan.{Scan}
 
 -- the bytes from place i up to place e, without that of e itself
 unfoldable pub upTo : List ℕ → ℕ → ℕ → List ℕ
@@ -18,14 +16,6 @@ upTo bytes i e = take (e - i) (drop i bytes)
 -- what a byte is worth as a digit: b - 48 if it is one, nothing if it is a blank or a minus
 unfoldable pub byteWorth : Bool → ℕ → ℕ
 byteWorth isMinus b = cond isMinus 0 (b % 16)
-
--- the least that so many digits are worth which write a number: 0 is one digit, others do not begin with 0, and what
--- stands for no digits no scan is worth
-abbrev pub leasts : List ℕ
-leasts = 20000000 ∷ 0 ∷ drop 1 placeValues
-
-abbrev pub leastOf : ℕ → ℕ
-leastOf digits = getD leasts digits 0
 
 -- nothing known yet
 abbrev pub start : Scan
@@ -46,13 +36,3 @@ stepped signed place s b =
 unfoldable pub scanned : Bool → Scan → List ℕ → Scan
 scanned signed s [] = s
 scanned signed s (b ∷ l) = scanned signed (stepped signed (placeAt (length l)) s b) l
-
--- the number that a scan has met
-unfoldable pub signedWorth : Scan → ℤ
-signedWorth s = cond (s .negative) (negℤ (pos (s .worth))) (pos (s .worth))
-
--- a column that is scanned so
-unfoldable pub heldOf : Scan → Column
-heldOf s =
-    let fits = not (s .bad) && (leb (leastOf (s .digits)) (s .worth) && not (s .negative && eqb (s .worth) 0)) in
-    record { fits = fits; number = cond fits (signedWorth s) (pos 0) }

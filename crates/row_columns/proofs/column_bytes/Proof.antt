@@ -1,8 +1,8 @@
 -- `column_bytes` meets its contract. Assumes nothing.
 use mathlib.Core.Path.{sym, _∙_}
 use borrow.Author.Needs.{needs}
-use Rattle.column.proofs.column_bytes.Statement.{statement}
-use Rattle.column.proofs.column_bytes.Tie as tie
+use Rattle.row_columns.proofs.column_bytes.Statement.{statement}
+use Rattle.row_columns.proofs.column_bytes.Tie as tie
 
 is-signed-requires : tie.Need-is-signed-requires
 is-signed-requires c κs = search needs

@@ -1,8 +1,8 @@
 -- `place_value` meets its contract: the code's table is the one whose rule is proved. Assumes nothing.
 use mathlib.Core.Path.{refl}
 use borrow.Author.Needs.{needs}
-use Rattle.column.proofs.place_value.Statement.{statement}
-use Rattle.column.proofs.place_value.Tie as tie
+use Rattle.column_scan.proofs.place_value.Statement.{statement}
+use Rattle.column_scan.proofs.place_value.Tie as tie
 
 mul-result : tie.Need-mul-result
 mul-result c = search needs

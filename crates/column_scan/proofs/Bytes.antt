@@ -12,7 +12,7 @@ use Rattle.rules.specs.File.{isDigit, columns}
 use Rattle.file_laws.specs.Spelling.{digit-range}
 use Rattle.file_laws.specs.Places.{placeAt, place-power}
 use mir.Val.{boolByte}
-use Rattle.column.specs.Scan.{upTo, byteWorth}
+use Rattle.column_scan.specs.Scan.{upTo, byteWorth}
 
 pub whole : (bytes : List ℕ) (at width : ℕ) → columns bytes at width ≡ upTo bytes at (at + width)
 unfolding upTo

@@ -6,8 +6,8 @@ use mir.Syntax.{w32}
 use mir.Facts.{toZ-ofZ}
 use Rattle.rules.specs.File.{isSigned}
 use borrow.Author.Needs.{needs, sfits-of}
-use Rattle.column.proofs.row_number.Statement.{statement}
-use Rattle.column.proofs.row_number.Tie as tie
+use Rattle.row_columns.proofs.row_number.Statement.{statement}
+use Rattle.row_columns.proofs.row_number.Tie as tie
 
 -- whether the column may have a minus
 with : (c : tie.Then1) → isSigned (c .before .before .before .args .j) ≡ true

@@ -7,8 +7,8 @@ use borrow.Author.Needs.{needs}
 use Rattle.rules.specs.Tables.{width}
 use Rattle.rules.specs.File.{columnStart, rowBytes}
 use Rattle.file_laws.specs.Columns.{column-size, start-most}
-use Rattle.column.proofs.row_bytes.Statement.{statement}
-use Rattle.column.proofs.row_bytes.Tie as tie
+use Rattle.row_columns.proofs.row_bytes.Statement.{statement}
+use Rattle.row_columns.proofs.row_bytes.Tie as tie
 
 abbrev Inv-loop : tie.InvT-loop
 Inv-loop n w end₀ j₀ end j = (j ≤ w) × (end ≡ columnStart j)

@@ -8,13 +8,13 @@ use lib.Dec.{eqb}
 use lib.ListN.{length, getD}
 use borrow.Author.Needs.{needs}
 use Rattle.file_laws.specs.Places.{placeAt}
-use Rattle.column.specs.declared.Scan.{Scan}
+use Rattle.column_scan.specs.declared.Scan.{Scan}
 use Rattle.rules.specs.File.{isDigit}
-use Rattle.column.specs.Scan.{upTo, byteWorth, stepped, start, scanned}
-use Rattle.column.proofs.Bytes.{none, next, length-upTo, worth-small, place-small, left-most, left-some}
-use Rattle.column.proofs.Bytes.{one-most, worth-grows}
-use Rattle.column.proofs.scan_from.Statement.{statement}
-use Rattle.column.proofs.scan_from.Tie as tie
+use Rattle.column_scan.specs.Scan.{upTo, byteWorth, stepped, start, scanned}
+use Rattle.column_scan.proofs.Bytes.{none, next, length-upTo, worth-small, place-small, left-most, left-some}
+use Rattle.column_scan.proofs.Bytes.{one-most, worth-grows}
+use Rattle.column_scan.proofs.scan_from.Statement.{statement}
+use Rattle.column_scan.proofs.scan_from.Tie as tie
 
 abbrev Inv-loop : tie.InvT-loop
 Inv-loop bytes at end signed s₀ i₀ s i =
