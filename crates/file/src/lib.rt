@@ -81,7 +81,7 @@ pub fn load(bytes: &[u8], kind: i32, out: &mut [i32]) -> Loaded
     ensures { λ r. ⌜ r ≡ loadAnswer (now (bytes .entry)) kind (now (out .entry)) ⌝ }
     ensures { λ _. ⌜ now (out .exit) ≡ loadNumbers (now (bytes .entry)) kind (now (out .entry)) ⌝ }
 {
-    let n = file_check::kind_coordinates(kind);
+    let n = file_header::kind_coordinates(kind);
     let answer = and_room(n, check(bytes, kind), out.len());
     let Loaded::Rows(count) = answer else {
         return answer;

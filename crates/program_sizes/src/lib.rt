@@ -43,6 +43,6 @@ pub fn table_room() -> usize
 pub fn most_bytes(kind: i32) -> usize
     ensures { λ r. ⌜ r ≡ mostFileBytes (wanted kind) ⌝ }
 {
-    let row = row_columns::row_bytes(file_check::kind_coordinates(kind));
+    let row = row_columns::row_bytes(file_header::kind_coordinates(kind));
     rules::HEADER_BYTES + row * rules::PROGRAM_ROWS
 }

@@ -3,11 +3,11 @@ use native.Mathlib.Omega.{arith}
 use mir.Syntax.{w32}
 use mir.Facts.{toZ-ofZ}
 use borrow.Author.Tests.{lt-leb}
-use Rattle.file_check.specs.Held.{headerHeld}
-use Rattle.file_check.proofs.Head.{header-is}
+use Rattle.file_header.specs.Held.{headerHeld}
+use Rattle.file_header.proofs.Head.{header-is}
 use borrow.Author.Needs.{needs, sfits-of}
-use Rattle.file_check.proofs.read_header.Statement.{statement}
-use Rattle.file_check.proofs.read_header.Tie as tie
+use Rattle.file_header.proofs.read_header.Statement.{statement}
+use Rattle.file_header.proofs.read_header.Tie as tie
 
 -- where both columns are read, from the first of the two numbers
 abbrev columns : tie.After-natural → tie.After-column-at2

@@ -15,9 +15,9 @@ use Rattle.rules.specs.File.{headerBytes, rowBytes, rowStart, fileTable, fileRo
 use Rattle.file_laws.specs.Accepted.{row-passed}
 use Rattle.file_row.specs.declared.Row.{Row}
 use Rattle.file_row.specs.Held.{rowHeld, heldRowCode}
-use Rattle.file_check.proofs.Rows.{score-is, code-is, one-more, refused}
-use Rattle.file_check.proofs.check_rows.Statement.{statement}
-use Rattle.file_check.proofs.check_rows.Tie as tie
+use Rattle.file_rows.proofs.Rows.{score-is, code-is, one-more, refused}
+use Rattle.file_rows.proofs.check_rows.Statement.{statement}
+use Rattle.file_rows.proofs.check_rows.Tie as tie
 
 abbrev Inv-loop : tie.InvT-loop
 Inv-loop n bytes count size before₀ i₀ before i =

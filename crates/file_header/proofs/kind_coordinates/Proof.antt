@@ -3,8 +3,8 @@ use mathlib.Core.Path.{ap, _∙_}
 use mir.Facts.{toZ-ofZ}
 use Rattle.rules.specs.Tables.{natOf, kindCoordinates}
 use borrow.Author.Needs.{needs}
-use Rattle.file_check.proofs.kind_coordinates.Statement.{statement}
-use Rattle.file_check.proofs.kind_coordinates.Tie as tie
+use Rattle.file_header.proofs.kind_coordinates.Statement.{statement}
+use Rattle.file_header.proofs.kind_coordinates.Tie as tie
 
 natural-requires : tie.Need-natural-requires
 natural-requires c κs = search needs

@@ -11,7 +11,7 @@ use Rattle.rules.specs.Numbers.{tableSize, cutFile, badColumn, wrongKind, unles
 use Rattle.rules.specs.Calls.{between}
 use Rattle.rules.specs.File.{columns, headerBytes, headerFits, rowStart, wanted}
 use Rattle.column.specs.Column.{columnHeld}
-use Rattle.file_check.specs.declared.Header.{Header}
+use Rattle.file_header.specs.declared.Header.{Header}
 
 -- "Header, 13 bytes"
 abbrev pub wholeHeader : List ℕ → Header

@@ -6,10 +6,10 @@ use native.Mathlib.Omega.{arith}
 use mir.Facts.{toZ-ofZ}
 use Rattle.file_laws.specs.Columns.{row-most}
 use Rattle.file_laws.specs.Kinds.{kind-most}
-use Rattle.file_check.specs.Held.{heldHeadCode}
+use Rattle.file_header.specs.Held.{heldHeadCode}
 use borrow.Author.Needs.{needs}
-use Rattle.file_check.proofs.head_code.Statement.{statement}
-use Rattle.file_check.proofs.head_code.Tie as tie
+use Rattle.file_header.proofs.head_code.Statement.{statement}
+use Rattle.file_header.proofs.head_code.Tie as tie
 
 unless-requires : tie.Need-unless-requires
 unless-requires c κs = search needs

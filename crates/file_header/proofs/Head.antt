@@ -6,17 +6,15 @@ use Prim.Native.Nat.{ℕ, _≤_}
 use lib.Dec.{leb}
 use lib.IntN.{ℤ}
 use lib.ListN.{length}
-use borrow.Author.Tests.{le-leb, eq-eqb, ne-eqb}
-use Rattle.rules.specs.declared.Loaded.the-variants.{Unfit}
+use borrow.Author.Tests.{le-leb}
 use Rattle.rules.specs.Tables.{natOf}
-use Rattle.rules.specs.File.{fileTable, rowsLoaded, wanted, checkFile}
 use Rattle.rules.specs.File.{columns, headerBytes, endsLine, headerFits, fileCount, fileKind, kindFits, headCode}
 use Rattle.file_laws.specs.Parts.{header-parts}
 use Rattle.file_laws.specs.Accepted.{HeadPassed}
 use Rattle.column.specs.declared.Column.{Column}
 use Rattle.column.specs.Column.{columnHeld, number-held}
-use Rattle.file_check.specs.declared.Header.{Header}
-use Rattle.file_check.specs.Held.{wholeHeader, headerHeld, heldHeadCode}
+use Rattle.file_header.specs.declared.Header.{Header}
+use Rattle.file_header.specs.Held.{wholeHeader, headerHeld, heldHeadCode}
 
 module _ (bytes : List ℕ) where
   held-whole : headerBytes ≤ length bytes → headerHeld bytes ≡ wholeHeader bytes
@@ -60,14 +58,3 @@ module _ (bytes : List ℕ) where
       go false w f e = simp w
       go true w false e = simp (w, e)
       go true w true e = simp (w, e, count-whole e, kind-whole e)
-
--- the header comes before the rows
-module _ (bytes : List ℕ) (kind : ℤ) where
-  pub head-refuses : (headCode bytes kind ≡ 0 → ⊥) → Unfit (headCode bytes kind) 0 ≡ checkFile bytes kind
-  unfolding checkFile
-  head-refuses h = simp (ne-eqb (headCode bytes kind) 0 h)
-
-  pub head-passes : headCode bytes kind ≡ 0 →
-      rowsLoaded bytes (fileTable (wanted kind) bytes (fileCount bytes)) (fileCount bytes) ≡ checkFile bytes kind
-  unfolding checkFile
-  head-passes h = simp (eq-eqb (headCode bytes kind) 0 h)
