@@ -11,7 +11,7 @@ ghost use lib.ListN.{length, drop};
 ghost use Rattle.rules.specs.Tables.{table, kindCoordinates, HasRows, firstRows, fieldTable, trimTable};
 ghost use Rattle.rules.specs.Numbers.{saidOf, refusal};
 ghost use Rattle.rules.specs.Query.{refusalLine, wholeQuery};
-ghost use Rattle.printing.specs.Lines.{refusalLength};
+ghost use Rattle.other_lines.specs.Lines.{refusalLength};
 ghost use Rattle.listing.specs.Shown.{listingRoom};
 ghost use Rattle.program.specs.Program.{Written, answerBytes, inputBytes};
 
@@ -33,8 +33,8 @@ fn refuse(out: &mut [u8], code: u32) -> usize
     requires { ⌜ refusalLength ≤ length (now out) ⌝ }
     ensures { λ r. ⌜ Written (refusalLine code) (now (out .entry)) (now (out .exit)) r ⌝ }
 {
-    printing::put_refusal(out, 0, code);
-    printing::REFUSAL_LENGTH
+    other_lines::put_refusal(out, 0, code);
+    other_lines::REFUSAL_LENGTH
 }
 
 // The listing, or the refusal of the opening.

@@ -1,4 +1,4 @@
--- How many bytes a number and a line take. Assumes nothing.
+-- How many bytes a number takes, and how it is written from its last column on. Assumes nothing.
 use mathlib.Core.Path.{_≡_, refl, sym, ap, _∙_}
 use mathlib.Core.Bool.{Bool, true, false, cond, _&&_, not}
 use mathlib.Core.List.{List, [], _∷_, _++_}
@@ -6,11 +6,8 @@ use Prim.Native.Nat.{ℕ, zero, suc, _+_, _/_, _%_}
 use native.Mathlib.Omega.{arith}
 use lib.Dec.{ltb}
 use lib.ListN.{length, set, replicate, length-append, length-replicate, replicate-append-replicate}
-use Rattle.rules.specs.File.{blank, lineFeed}
-use Rattle.rules.specs.declared.Query.{Query}
-use Rattle.rules.specs.declared.Session.{Session}
-use Rattle.rules.specs.Query.{decimal, inputLength, queryLine, lastLine, refusalLine}
-use Rattle.printing.specs.declared.Line.{Line}
+use Rattle.rules.specs.File.{blank}
+use Rattle.rules.specs.Query.{decimal}
 use Rattle.printing.specs.Put.{putAt, put-on, put-before}
 
 pub decimal-length : (w n : ℕ) → length (decimal w n) ≡ w
@@ -68,62 +65,12 @@ one-column at w m n more v l h e =
     ∙ ap (λ (b : List ℕ). putAt at b l) (sym (left-last more m n))
     ∙ ap (λ (k : ℕ). putAt at (left more k n) l) (sym h)
 
--- a pair's line, of the numbers in it
-unfoldable pub lineBytes : Line → List ℕ
-lineBytes x =
-    decimal 6 (x .rank)
-    ++ (decimal 6 (x .sum)
-    ++ (decimal 6 (x .field)
-    ++ (decimal 6 (x .trim) ++ (decimal 8 (x .root) ++ (decimal 8 (x .rest) ++ (lineFeed ∷ []))))))
-
 -- a number of w columns, then other bytes
 pub then : (w at n : ℕ) (b l : List ℕ) → putAt at (decimal w n ++ b) l ≡ putAt (at + w) b (putAt at (decimal w n) l)
 then w at n b l =
     put-on at (decimal w n) b l ∙ ap (λ (m : ℕ). putAt (at + m) b (putAt at (decimal w n) l)) (decimal-length w n)
 
--- two of w columns, v in all, then other bytes
-pub then-two : (w v at m n : ℕ) (b l : List ℕ) → w + w ≡ v →
-    putAt at (decimal w m ++ (decimal w n ++ b)) l ≡ putAt (at + v) b (putAt at (decimal w m ++ decimal w n) l)
-then-two w v at m n b l e =
-    let o : at + w + w ≡ at + v = omega arith in
-    then w at m (decimal w n ++ b) l
-    ∙ then w (at + w) n b (putAt at (decimal w m) l)
-    ∙ ap (λ (x : List ℕ). putAt (at + w + w) b x) (sym (then w at m (decimal w n) l))
-    ∙ ap (λ (k : ℕ). putAt k b (putAt at (decimal w m ++ decimal w n) l)) o
-
--- the same of bytes that were put one after the other: from l to m the number or the two, from m to r the others
+-- the same of bytes that were put one after the other: from l to m the number, from m to r the others
 pub and-then : (w at n : ℕ) (b l : List ℕ) {m r : List ℕ} → m ≡ putAt at (decimal w n) l → r ≡ putAt (at + w) b m →
     r ≡ putAt at (decimal w n ++ b) l
 and-then w at n b l e f = f ∙ ap (λ (k : List ℕ). putAt (at + w) b k) e ∙ sym (then w at n b l)
-
-pub and-two : (w v at x y : ℕ) (b l : List ℕ) {m r : List ℕ} → w + w ≡ v →
-    m ≡ putAt at (decimal w x ++ decimal w y) l → r ≡ putAt (at + v) b m →
-    r ≡ putAt at (decimal w x ++ (decimal w y ++ b)) l
-and-two w v at x y b l h e f = f ∙ ap (λ (k : List ℕ). putAt (at + v) b k) e ∙ sym (then-two w v at x y b l h)
-
--- ---- How long the lines are
-
-abbrev pub lineLength : ℕ
-lineLength = 41
-
-abbrev pub lastLength : ℕ
-lastLength = 25
-
-abbrev pub refusalLength : ℕ
-refusalLength = 7
-
-pub line-length : (x : Line) → length (lineBytes x) ≡ lineLength
-unfolding lineBytes
-line-length x = simp (length-append, decimal-length)
-
-pub query-length : (q : Query) → length (queryLine q) ≡ inputLength
-unfolding queryLine
-query-length q = simp (length-append, decimal-length)
-
-pub last-length : (s : Session) → length (lastLine s) ≡ lastLength
-unfolding lastLine
-last-length s = simp (length-append, decimal-length)
-
-pub refusal-length : (code : ℕ) → length (refusalLine code) ≡ refusalLength
-unfolding refusalLine
-refusal-length code = simp (length-append, decimal-length)

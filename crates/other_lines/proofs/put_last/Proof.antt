@@ -1,9 +1,9 @@
 -- `put_last` meets its contract: its numbers one behind the other. Assumes nothing.
 use Rattle.rules.specs.Query.{lastLine}
-use Rattle.printing.specs.Lines.{and-then}
+use Rattle.printing.specs.Numbers.{and-then}
 use borrow.Author.Needs.{needs}
-use Rattle.printing.proofs.put_last.Statement.{statement}
-use Rattle.printing.proofs.put_last.Tie as tie
+use Rattle.other_lines.proofs.put_last.Statement.{statement}
+use Rattle.other_lines.proofs.put_last.Tie as tie
 
 add-b : tie.Need-add-b
 add-b c = search needs

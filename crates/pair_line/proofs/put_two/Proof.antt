@@ -1,8 +1,8 @@
 -- `put_two` meets its contract. Assumes nothing.
-use Rattle.printing.specs.Lines.{and-then}
+use Rattle.printing.specs.Numbers.{and-then}
 use borrow.Author.Needs.{needs}
-use Rattle.printing.proofs.put_two.Statement.{statement}
-use Rattle.printing.proofs.put_two.Tie as tie
+use Rattle.pair_line.proofs.put_two.Statement.{statement}
+use Rattle.pair_line.proofs.put_two.Tie as tie
 
 put-number-requires : tie.Need-put-number-requires
 put-number-requires c κs = search needs

@@ -1,9 +1,9 @@
 -- `put_line` meets its contract: its numbers two by two. Assumes nothing.
 use mathlib.Core.Path.{refl}
-use Rattle.printing.specs.Lines.{lineBytes, and-two}
+use Rattle.pair_line.specs.Line.{lineBytes, and-two}
 use borrow.Author.Needs.{needs}
-use Rattle.printing.proofs.put_line.Statement.{statement}
-use Rattle.printing.proofs.put_line.Tie as tie
+use Rattle.pair_line.proofs.put_line.Statement.{statement}
+use Rattle.pair_line.proofs.put_line.Tie as tie
 
 add-b : tie.Need-add-b
 add-b c = search needs

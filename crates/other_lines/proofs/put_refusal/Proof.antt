@@ -1,9 +1,9 @@
 -- `put_refusal` meets its contract: its numbers one behind the other. Assumes nothing.
 use Rattle.rules.specs.Query.{refusalLine}
-use Rattle.printing.specs.Lines.{and-then}
+use Rattle.printing.specs.Numbers.{and-then}
 use borrow.Author.Needs.{needs}
-use Rattle.printing.proofs.put_refusal.Statement.{statement}
-use Rattle.printing.proofs.put_refusal.Tie as tie
+use Rattle.other_lines.proofs.put_refusal.Statement.{statement}
+use Rattle.other_lines.proofs.put_refusal.Tie as tie
 
 put-number-requires : tie.Need-put-number-requires
 put-number-requires c κs = search needs
