@@ -8,18 +8,9 @@ use lib.ListN.{length, take}
 use Rattle.lists.specs.Lists.{ins, sort}
 use Rattle.lists.specs.Words.{Ordered}
 use Rattle.rules.specs.declared.Pair.{Pair}
-use Rattle.rules.specs.Tables.{Table, Terms, mostRows, rowInRange, Block, row, withdrawn, pairAt, qualifying}
+use Rattle.rules.specs.Tables.{Table, Terms, mostRows, rowInRange, Block, row, pairAt, qualifying}
 use Rattle.rules.specs.Tables.{ahead, width, rowCount}
 use Rattle.keys.specs.Held.{Keyed}
-
--- a part of a table, a rows standing before it
-abbrev pub at : ℕ → Table → Block
-at a rows = record { start = a; rows = rows }
-
--- below a withdrawn row all are: scores fall
-abbrev pub Below : Table → Type 0
-Below rows =
-    (i j : ℕ) → i ≤ j → j < rowCount rows → withdrawn (row rows i) ≡ true → withdrawn (row rows j) ≡ true
 
 -- a part of n whole rows within a table's 65,535, each of which passed 6 and 7
 pub record Rows (a : ℕ) (rows : Table) : Type 0 where

@@ -1,4 +1,4 @@
--- The rows of a block that are not withdrawn stand above all others, and no other qualifies. Assumes nothing.
+-- The scores of a block's rows fall, and no row beyond those that are not withdrawn qualifies. Assumes nothing.
 use mathlib.Core.Path.{_≡_}
 use mathlib.Core.Bool.{false}
 use Prim.Native.Nat.{ℕ, _≤_, _<_}
@@ -10,7 +10,8 @@ use Rattle.rules.specs.declared.Query.{Query}
 use Rattle.rules.specs.Tables.{Table, row, rowCount, withdrawn, rowsQualify, weighted, terms}
 use Rattle.session_laws.specs.ReadOut.{rows-qualify-out}
 use Rattle.near_rows.specs.Live.{Live}
-use Rattle.block.specs.Block.{Below, Rows}
+use Rattle.block_rows.specs.Parts.{Below}
+use Rattle.block.specs.Block.{Rows}
 
 -- scores fall
 pub rows-below : (a : ℕ) (rows : Table) → Rows a rows → Below rows
@@ -26,11 +27,6 @@ trim-falls q a rows r k j h l =
     let weight = q .weights .trim .0 in
     let same : weight ≤ weight = omega arith in
     mul-le-mul same (r .falls k j h l)
-
--- above a row that is not withdrawn none is
-pub above-live : (rows : Table) → Below rows → (i j : ℕ) → i ≤ j → j < rowCount rows
-    → withdrawn (row rows j) ≡ false → withdrawn (row rows i) ≡ false
-above-live rows below i j h k e = fails (withdrawn (row rows i)) (λ f. clash (below i j h k f) e)
 
 -- rows beyond the live ones of x, and of y, qualify with none
 module _ (q : Query) (x y : Table) (n : ℕ) where

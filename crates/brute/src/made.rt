@@ -2,15 +2,8 @@
 // the new card many that only L tells apart.
 use crate::dice;
 use crate::plain;
+use crate::plain::Asked;
 use crate::plain::Table;
-use rules::FieldTolerance;
-use rules::FieldWeight;
-use rules::Meaning;
-use rules::Query;
-use rules::Tolerances;
-use rules::TrimTolerance;
-use rules::TrimWeight;
-use rules::Weights;
 use std::num::wrapping_add_u32;
 
 // How scores and shades are spread.
@@ -66,38 +59,19 @@ fn radius(seed: u64, card: u32) -> u32 {
     }
 }
 
-// Small ones, so that every place within them can be looked at; often none.
-fn tolerances(seed: u64) -> Tolerances {
-    let field = dice::pick(seed, 16, [0, 0, 0, 0, 0, 1, 1, 2]);
-    let trim = dice::pick(seed, 17, [0, 0, 0, 0, 0, 1, 1, 2]);
-    Tolerances {
-        field: FieldTolerance(field),
-        trim: TrimTolerance(trim),
-    }
-}
-
-fn meaning(seed: u64) -> Meaning {
-    if dice::one_in(seed, 18, 2) {
-        return Meaning::Surely;
-    }
-    Meaning::Possibly
-}
-
-// Equal weights often, so that ties are; and some that make ties of unlike scores.
-pub fn query(seed: u64, card: u32) -> Query {
-    let field = dice::pick(seed, 12, [1, 1, 1, 1, 2, 3, 9, 9]);
-    let trim = dice::pick(seed, 13, [1, 1, 1, 2, 3, 4, 9, 9]);
-    let weights = Weights {
-        field: FieldWeight(field),
-        trim: TrimWeight(trim),
-    };
-    Query {
+// What is asked on a card. Weights are often equal, so that ties are, and some make ties of unlike scores; tolerances
+// are small, so that every place within them can be looked at, and often none.
+pub fn asked(seed: u64, card: u32) -> Asked {
+    Asked {
+        card,
         k: dice::pick(seed, 6, [1, 2, 3, 4, 5, 8, 8, 64]),
         block: dice::pick(seed, 7, [1, 1, 2, 2, 3, 4, 4, 1024]),
         radius: radius(seed, card),
-        weights,
-        tolerances: tolerances(seed),
-        meaning: meaning(seed),
+        field_weight: dice::pick(seed, 12, [1, 1, 1, 1, 2, 3, 9, 9]),
+        trim_weight: dice::pick(seed, 13, [1, 1, 1, 2, 3, 4, 9, 9]),
+        field_tolerance: dice::pick(seed, 16, [0, 0, 0, 0, 0, 1, 1, 2]),
+        trim_tolerance: dice::pick(seed, 17, [0, 0, 0, 0, 0, 1, 1, 2]),
+        surely: dice::one_in(seed, 18, 2),
     }
 }
 
@@ -179,8 +153,11 @@ fn score(seed: u64, i: u32, w: Spread, s: u32) -> u32 {
     plain::higher(s - fall, w.least)
 }
 
-// The L of row i + 1.
+// The L of row i + 1; 0 on the old card.
 fn light(seed: u64, place: u64, i: u32, w: Spread) -> i32 {
+    if w.card == 2 {
+        return 0;
+    }
     if w.drifting {
         return drifted(seed, place, i, FADING);
     }
@@ -190,22 +167,21 @@ fn light(seed: u64, place: u64, i: u32, w: Spread) -> i32 {
 
 // Sets row i + 1.
 fn put_row(t: &mut Table, seed: u64, i: u32, w: Spread, s: u32) {
-    let place = (i % 12) as u64;
+    let row = i % 12;
+    let place = row as u64;
     let n = dice::pick(seed, place + 100, [0, 0, 1, 2, 77, 500000, 999997, 999998]);
-    let at = plain::numbers(w.card, i % 12) as usize % 56;
+    let at = (5 * row) as usize;
     t[at] = (n % 999999 + 1) as i32;
     t[at + 1] = (s % 10000) as i32;
     t[at + 2] = first_shade(seed, place + 200, i, w);
     t[at + 3] = shade(seed, place + 300, w);
-    if w.card == 3 {
-        t[at + 4] = light(seed, place + 400, i, w);
-    }
+    t[at + 4] = light(seed, place + 400, i, w);
 }
 
 // A legal table of 12 rows.
 pub fn table(seed: u64, card: u32) -> Table {
     let w = spread_of(seed, card);
-    let mut t = [0i32; 65];
+    let mut t = [0i32; 60];
     let mut s = w.top;
     for i in 0u32..12 {
         s = score(seed, i, w, s);

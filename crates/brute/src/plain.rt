@@ -1,28 +1,40 @@
 // The double loop: it reads rows, adds scores and squares distances by code of its own, for every field row with every
-// trim row, and ranks the pairs. Rows are numbered from 1.
-use rules::Counts;
-use rules::FieldRows;
-use rules::Meaning;
+// trim row, and ranks the pairs. Rows are numbered from 1, and all have an L here: 0 on the old card.
 use rules::Pair;
-use rules::Query;
-use rules::TrimRows;
 use std::num::wrapping_add_u32;
 use std::num::wrapping_add_u64;
 use std::num::wrapping_sub_u32;
 
-// Room for 12 rows of up to 5 numbers, and for one more that no legal call is lent.
-pub type Table = [i32; 65];
+// 12 rows: pattern, score, a, b, L.
+pub type Table = [i32; 60];
 
-// What the double loop says of each pair: four times its sum; two more if blocks begin with its rows that lie too far
-// apart; and one more if it qualifies. Row 0 stands for none.
+// What is asked of two tables on a card of so many coordinates.
+pub struct Asked {
+    pub card: u32,
+    pub k: u32,
+    pub block: u32,
+    pub radius: u32,
+    pub field_weight: u32,
+    pub trim_weight: u32,
+    pub field_tolerance: u32,
+    pub trim_tolerance: u32,
+    pub surely: bool,
+}
+
+// What the double loop says of each pair: 16 times its sum, and its marks. Row 0 stands for none.
 pub type Sums = [u32; 169];
 
-pub fn counts(field: u32, trim: u32) -> Counts {
-    Counts {
-        field: FieldRows(field),
-        trim: TrimRows(trim),
-    }
-}
+// The pair qualifies.
+pub const QUALIFIES: u32 = 1;
+
+// Blocks begin with its rows that lie too far apart.
+pub const FAR: u32 = 2;
+
+// L alone keeps its shades apart.
+pub const BY_LIGHT: u32 = 4;
+
+// The tolerances alone decide whether its shades qualify.
+pub const BY_TOLERANCE: u32 = 8;
 
 pub fn higher(x: u32, y: u32) -> u32 {
     if x < y { y } else { x }
@@ -30,6 +42,11 @@ pub fn higher(x: u32, y: u32) -> u32 {
 
 pub fn lower(x: u32, y: u32) -> u32 {
     if x < y { x } else { y }
+}
+
+// How much y is more than x.
+fn above(x: u32, y: u32) -> u32 {
+    if x < y { y - x } else { 0 }
 }
 
 pub fn apart(x: u32, y: u32) -> u32 {
@@ -56,28 +73,13 @@ fn raised(x: i32) -> u32 {
     0
 }
 
-// How many numbers a row has on a card of 2 or 3 coordinates: pattern, score, a, b and, of 3, L.
-pub fn width(card: u32) -> u32 {
-    wrapping_add_u32(card, 2)
-}
-
-// How many numbers so many rows have.
-pub fn numbers(card: u32, rows: u32) -> u32 {
-    (product(width(card), rows) % 66) as u32
-}
-
-// Where number c of a row stands.
-pub fn place(card: u32, row: u32, c: u32) -> usize {
-    let before = product(width(card), wrapping_add_u32(row, 12) % 13);
-    wrapping_add_u64(before, c as u64) as usize
-}
-
 // Number c of a row, raised.
-fn number(card: u32, t: &Table, row: u32, c: u32) -> u32 {
-    raised(t[place(card, row, c) % 65])
+fn number(t: &Table, row: u32, c: u32) -> u32 {
+    let at = 5 * (wrapping_sub_u32(row, 1) % 12) + c % 5;
+    raised(t[at as usize])
 }
 
-// A row's score and shade, raised; on the old card L is 0.
+// A row's score and shade, raised.
 struct Row {
     pub score: u32,
     pub a: u32,
@@ -85,14 +87,28 @@ struct Row {
     pub light: u32,
 }
 
-fn row_at(card: u32, t: &Table, i: u32) -> Row {
-    let light = if card == 3 { number(card, t, i, 4) } else { 0 };
+fn row_at(t: &Table, i: u32) -> Row {
     Row {
-        score: number(card, t, i, 1),
-        a: number(card, t, i, 2),
-        b: number(card, t, i, 3),
-        light,
+        score: number(t, i, 1),
+        a: number(t, i, 2),
+        b: number(t, i, 3),
+        light: number(t, i, 4),
     }
+}
+
+fn is_live(x: Row) -> bool {
+    x.score != 20000
+}
+
+// How many of the rows stand above the first that is withdrawn.
+pub fn live(t: &Table, rows: u32) -> u32 {
+    let mut n = 0;
+    for i in 0u32..12 {
+        if (n == i) & ((i < rows) & is_live(row_at(t, i + 1))) {
+            n = i + 1;
+        }
+    }
+    n
 }
 
 // A score, told raised, by its table's weight.
@@ -101,28 +117,17 @@ fn weighted(weight: u32, score: u32) -> u32 {
 }
 
 // The sum of a pair.
-fn sum(query: Query, x: Row, y: Row) -> u32 {
-    let field = weighted(query.weights.field.0, x.score);
-    wrapping_add_u32(field, weighted(query.weights.trim.0, y.score))
-}
-
-// How many of the rows stand above the first that is withdrawn.
-pub fn live(card: u32, t: &Table, rows: u32) -> u32 {
-    let mut n = 0;
-    for i in 0u32..12 {
-        if (n == i) & ((i < rows) & (number(card, t, i + 1, 1) != 20000)) {
-            n = i + 1;
-        }
-    }
-    n
+fn sum(asked: Asked, x: Row, y: Row) -> u32 {
+    let field = weighted(asked.field_weight, x.score);
+    wrapping_add_u32(field, weighted(asked.trim_weight, y.score))
 }
 
 // Whether two shades lie within the radius, as they stand.
-fn near(query: Query, x: Row, y: Row) -> bool {
+fn near(radius: u32, x: Row, y: Row) -> bool {
     let a = square(apart(x.a, y.a));
     let b = square(apart(x.b, y.b));
     let light = square(apart(x.light, y.light));
-    wrapping_add_u64(wrapping_add_u64(a, b), light) <= square(query.radius)
+    wrapping_add_u64(wrapping_add_u64(a, b), light) <= square(radius)
 }
 
 // How many places a shade of 2 or 3 coordinates may have within a tolerance of 0, 1 or 2.
@@ -149,51 +154,41 @@ fn place_at(card: u32, tolerance: u32, x: Row, i: u32) -> Row {
 }
 
 // Near how many places of the trim shade y the shade x lies.
-fn near_places(query: Query, card: u32, x: Row, y: Row) -> u32 {
-    let tolerance = query.tolerances.trim.0;
-    let most = place_count(card, tolerance);
+fn near_places(asked: Asked, x: Row, y: Row) -> u32 {
+    let tolerance = asked.trim_tolerance;
+    let most = place_count(asked.card, tolerance);
     let mut n = 0;
     for j in 0..most {
-        let here = near(query, x, place_at(card, tolerance, y, j));
+        let here = near(asked.radius, x, place_at(asked.card, tolerance, y, j));
         n = wrapping_add_u32(n, here as u32);
     }
     n
 }
 
 // Whether two shades qualify: surely, for all places within both tolerances; possibly, for some.
-fn shades_qualify(query: Query, card: u32, x: Row, y: Row) -> bool {
-    let tolerance = query.tolerances.field.0;
-    let places = place_count(card, tolerance);
-    let most = place_count(card, query.tolerances.trim.0);
+fn shades_qualify(asked: Asked, x: Row, y: Row) -> bool {
+    let tolerance = asked.field_tolerance;
+    let places = place_count(asked.card, tolerance);
+    let most = place_count(asked.card, asked.trim_tolerance);
     let mut some = false;
     let mut all = true;
     for i in 0..places {
-        let n = near_places(query, card, place_at(card, tolerance, x, i), y);
+        let n = near_places(asked, place_at(asked.card, tolerance, x, i), y);
         some = some | (0 < n);
         all = all & (n == most);
     }
-    let meaning = query.meaning;
-    match meaning {
-        Meaning::Surely => all,
-        Meaning::Possibly => some,
-    }
+    (asked.surely & all) | (!asked.surely & some)
 }
 
 // Whether not even a shade and its like qualify.
-pub fn none_qualify(query: Query, card: u32) -> bool {
+pub fn none_qualify(asked: Asked) -> bool {
     let x = Row {
         score: 1,
         a: 20000,
         b: 20000,
         light: 20000,
     };
-    !shades_qualify(query, card, x, x)
-}
-
-// Whether a pair qualifies.
-fn qualifies(query: Query, card: u32, x: Row, y: Row) -> bool {
-    let gone = (x.score == 20000) | (y.score == 20000);
-    !gone & shades_qualify(query, card, x, y)
+    !shades_qualify(asked, x, x)
 }
 
 // The lowest and the highest of some numbers, raised.
@@ -210,20 +205,15 @@ fn widened(e: Ends, x: u32) -> Ends {
 }
 
 // Of number c of the rows from `first` to `last`, withdrawn ones too.
-fn ends_of(card: u32, t: &Table, first: u32, last: u32, c: u32) -> Ends {
-    let x = number(card, t, first, c);
+fn ends_of(t: &Table, first: u32, last: u32, c: u32) -> Ends {
+    let x = number(t, first, c);
     let mut e = Ends { low: x, high: x };
     for i in 1u32..13 {
         if (first <= i) & (i <= last) {
-            e = widened(e, number(card, t, i, c));
+            e = widened(e, number(t, i, c));
         }
     }
     e
-}
-
-// How much y is more than x.
-fn above(x: u32, y: u32) -> u32 {
-    if x < y { y - x } else { 0 }
 }
 
 // How much lies between the nearer ends.
@@ -231,30 +221,27 @@ fn between(d: Ends, e: Ends) -> u32 {
     higher(above(d.high, e.low), above(e.high, d.low))
 }
 
-// The two rows that a block of each table begins with, and the two that it ends with.
+// The rows that a block of each table begins with, and those that it ends with.
 struct Blocks {
-    pub first: Counts,
-    pub last: Counts,
+    pub field: u32,
+    pub field_end: u32,
+    pub trim: u32,
+    pub trim_end: u32,
 }
 
 // What lies between two blocks in number c, less both tolerances, squared.
-fn gap_squared(query: Query, card: u32, f: &Table, t: &Table, b: Blocks, c: u32) -> u64 {
-    let x = ends_of(card, f, b.first.field.0, b.last.field.0, c);
-    let y = ends_of(card, t, b.first.trim.0, b.last.trim.0, c);
-    let less = above(query.tolerances.field.0, between(x, y));
-    square(above(query.tolerances.trim.0, less))
+fn gap_squared(asked: Asked, f: &Table, t: &Table, b: Blocks, c: u32) -> u64 {
+    let x = ends_of(f, b.field, b.field_end, c);
+    let y = ends_of(t, b.trim, b.trim_end, c);
+    let less = above(asked.field_tolerance, between(x, y));
+    square(above(asked.trim_tolerance, less))
 }
 
 // Whether two blocks lie too far apart for a pair.
-fn far(query: Query, card: u32, f: &Table, t: &Table, b: Blocks) -> bool {
-    let a = gap_squared(query, card, f, t, b, 2);
-    let shade = wrapping_add_u64(a, gap_squared(query, card, f, t, b, 3));
-    let light = if card == 3 {
-        gap_squared(query, card, f, t, b, 4)
-    } else {
-        0
-    };
-    square(query.radius) < wrapping_add_u64(shade, light)
+fn far(asked: Asked, f: &Table, t: &Table, b: Blocks) -> bool {
+    let a = gap_squared(asked, f, t, b, 2);
+    let shade = wrapping_add_u64(a, gap_squared(asked, f, t, b, 3));
+    square(asked.radius) < wrapping_add_u64(shade, gap_squared(asked, f, t, b, 4))
 }
 
 // Whether a block begins after row c.
@@ -265,11 +252,31 @@ pub fn begins(block: u32, c: u32) -> bool {
     c % block == 0
 }
 
-// Whether blocks begin with these two rows.
-fn begin(block: u32, first: Counts) -> bool {
-    let field = begins(block, wrapping_sub_u32(first.field.0, 1));
-    let trim = begins(block, wrapping_sub_u32(first.trim.0, 1));
-    field & trim
+// Whether blocks begin with these rows that lie too far apart.
+fn begin_far(asked: Asked, f: &Table, t: &Table, b: Blocks) -> bool {
+    let field = begins(asked.block, wrapping_sub_u32(b.field, 1));
+    let trim = begins(asked.block, wrapping_sub_u32(b.trim, 1));
+    (field & trim) & far(asked, f, t, b)
+}
+
+// Whether two shades are near by a and b, and L alone keeps them apart.
+fn apart_by_light(radius: u32, x: Row, y: Row) -> bool {
+    let mut z = y;
+    z.light = x.light;
+    near(radius, x, z) & !near(radius, x, y)
+}
+
+// What is told of the pair of the rows that two blocks begin with.
+fn told(asked: Asked, f: &Table, t: &Table, b: Blocks) -> u32 {
+    let x = row_at(f, b.field);
+    let y = row_at(t, b.trim);
+    let shades = shades_qualify(asked, x, y);
+    let qualifies = (is_live(x) & is_live(y)) & shades;
+    let far = begin_far(asked, f, t, b) as u32;
+    let light = apart_by_light(asked.radius, x, y) as u32;
+    let tolerance = (near(asked.radius, x, y) != shades) as u32;
+    let marks = (qualifies as u32 | far << 1) | (light << 2 | tolerance << 3);
+    sum(asked, x, y) << 4 | marks
 }
 
 // The last row of a block that begins with a row: so many on, or the table's last.
@@ -277,126 +284,56 @@ fn last_of(block: u32, first: u32, rows: u32) -> u32 {
     lower(wrapping_add_u32(first, wrapping_sub_u32(block, 1)), rows)
 }
 
-// The blocks that begin with these two rows.
-fn blocks_from(block: u32, first: Counts, rows: Counts) -> Blocks {
-    let last = counts(
-        last_of(block, first.field.0, rows.field.0),
-        last_of(block, first.trim.0, rows.trim.0),
-    );
-    Blocks { first, last }
-}
-
-// Whether blocks begin with these two rows that lie too far apart.
-fn begin_far(query: Query, card: u32, f: &Table, t: &Table, first: Counts, rows: Counts) -> bool {
-    if !begin(query.block, first) {
-        return false;
-    }
-    far(query, card, f, t, blocks_from(query.block, first, rows))
-}
-
-// What is told of a pair beside its sum.
-fn told(query: Query, card: u32, f: &Table, t: &Table, first: Counts, rows: Counts) -> u32 {
-    let apart = begin_far(query, card, f, t, first, rows) as u32;
-    let x = row_at(card, f, first.field.0);
-    let y = row_at(card, t, first.trim.0);
-    wrapping_add_u32(
-        wrapping_add_u32(apart, apart),
-        qualifies(query, card, x, y) as u32,
-    )
-}
-
-// Puts in a pair.
-fn put(m: &mut Sums, query: Query, card: u32, f: &Table, t: &Table, first: Counts, rows: Counts) {
-    let i = first.field.0;
-    let j = first.trim.0;
+// The same of rows i and j, where there are any.
+fn told_at(asked: Asked, f: &Table, t: &Table, i: u32, j: u32, fields: u32, trims: u32) -> u32 {
     if (i == 0) | (j == 0) {
-        return;
+        return 0;
     }
-    let s = sum(query, row_at(card, f, i), row_at(card, t, j));
-    let twice = wrapping_add_u32(s, s);
-    let more = told(query, card, f, t, first, rows);
-    m[(13 * (i % 13) + j % 13) as usize] = wrapping_add_u32(wrapping_add_u32(twice, twice), more);
+    let b = Blocks {
+        field: i,
+        field_end: last_of(asked.block, i, fields),
+        trim: j,
+        trim_end: last_of(asked.block, j, trims),
+    };
+    told(asked, f, t, b)
 }
 
 // Every row with every row; the tables have so many.
-pub fn sums(query: Query, card: u32, f: &Table, t: &Table, rows: Counts) -> Sums {
+pub fn sums(asked: Asked, f: &Table, t: &Table, fields: u32, trims: u32) -> Sums {
     let mut m = [0u32; 169];
     for x in 0u32..169 {
-        put(&mut m, query, card, f, t, counts(x / 13, x % 13), rows);
+        m[x as usize] = told_at(asked, f, t, x / 13, x % 13, fields, trims);
     }
     m
 }
 
-// Whether two shades are near by a and b, and L alone keeps them apart.
-fn apart_by_light(query: Query, x: Row, y: Row) -> bool {
-    let mut z = y;
-    z.light = x.light;
-    near(query, x, z) & !near(query, x, y)
-}
-
-// Whether two shades qualify or do not by the tolerances alone.
-fn by_tolerance(query: Query, card: u32, x: Row, y: Row) -> bool {
-    near(query, x, y) != shades_qualify(query, card, x, y)
-}
-
-// Of how many pairs L alone decides, and of how many the tolerances do.
-pub struct Decided {
-    pub by_light: u32,
-    pub by_tolerance: u32,
-}
-
-fn with_rows(d: Decided, query: Query, card: u32, x: Row, y: Row) -> Decided {
-    let light = apart_by_light(query, x, y) as u32;
-    let tolerance = by_tolerance(query, card, x, y) as u32;
-    Decided {
-        by_light: wrapping_add_u32(d.by_light, light),
-        by_tolerance: wrapping_add_u32(d.by_tolerance, tolerance),
-    }
-}
-
-// The same of all pairs of so many rows.
-pub fn deciders(query: Query, card: u32, f: &Table, t: &Table, rows: Counts) -> Decided {
-    let mut d = Decided {
-        by_light: 0,
-        by_tolerance: 0,
-    };
-    for x in 0u32..144 {
-        let i = x / 12 + 1;
-        let j = x % 12 + 1;
-        if (i <= rows.field.0) & (j <= rows.trim.0) {
-            d = with_rows(d, query, card, row_at(card, f, i), row_at(card, t, j));
-        }
-    }
-    d
+// Where a pair stands.
+pub fn at(i: u32, j: u32) -> usize {
+    (13 * (i % 13) + j % 13) as usize
 }
 
 fn entry_at(m: &Sums, i: u32, j: u32) -> u32 {
-    m[(13 * (i % 13) + j % 13) as usize]
+    m[at(i, j) % 169]
 }
 
 pub fn sum_at(m: &Sums, i: u32, j: u32) -> u32 {
-    entry_at(m, i, j) / 4
+    entry_at(m, i, j) >> 4
 }
 
-// Whether the blocks that begin with these rows lie too far apart.
-pub fn far_at(m: &Sums, i: u32, j: u32) -> bool {
-    entry_at(m, i, j) / 2 % 2 == 1
+pub fn has_mark(m: &Sums, i: u32, j: u32, mark: u32) -> bool {
+    (entry_at(m, i, j) & mark) != 0
 }
 
-// How many block pairs of a reading lie too far apart.
-pub fn far_blocks(m: &Sums, d: Counts) -> u32 {
+// How many pairs of a reading have a mark.
+pub fn marked(m: &Sums, p: u32, q: u32, mark: u32) -> u32 {
     let mut n = 0;
     for x in 0u32..144 {
         let i = x / 12 + 1;
         let j = x % 12 + 1;
-        let read = (i <= d.field.0) & (j <= d.trim.0);
-        n = wrapping_add_u32(n, (read & far_at(m, i, j)) as u32);
+        let counts = ((i <= p) & (j <= q)) & has_mark(m, i, j, mark);
+        n = wrapping_add_u32(n, counts as u32);
     }
     n
-}
-
-pub fn qualifies_at(m: &Sums, i: u32, j: u32) -> bool {
-    entry_at(m, i, j) % 2 == 1
 }
 
 pub fn pair(sum: u32, field: u32, trim: u32) -> Pair {
@@ -420,7 +357,7 @@ pub struct Cut {
     pub next: Pair,
 }
 
-// A cut after `last`, with one pair more.
+// A cut after `last` with a pair more.
 fn with_pair(cut: Cut, last: Pair, p: Pair) -> Cut {
     let mut r = cut;
     if !ahead(last, p) {
@@ -434,27 +371,27 @@ fn with_pair(cut: Cut, last: Pair, p: Pair) -> Cut {
 }
 
 // A cut with a pair more, if its rows are read and it qualifies.
-fn met(m: &Sums, d: Counts, last: Pair, cut: Cut, i: u32, j: u32) -> Cut {
-    if qualifies_at(m, i, j) & ((i <= d.field.0) & (j <= d.trim.0)) {
+fn met(m: &Sums, p: u32, q: u32, last: Pair, cut: Cut, i: u32, j: u32) -> Cut {
+    if ((i <= p) & (j <= q)) & has_mark(m, i, j, QUALIFIES) {
         return with_pair(cut, last, pair(sum_at(m, i, j), i, j));
     }
     cut
 }
 
 // The ranked list of a reading, cut after `last`: its field rows, each with every trim row.
-pub fn cut_after(m: &Sums, d: Counts, last: Pair) -> Cut {
+pub fn cut_after(m: &Sums, p: u32, q: u32, last: Pair) -> Cut {
     let mut r = Cut {
         count: 0,
         next: pair(0, PAST, PAST),
     };
-    for x in 0..13 * (d.field.0 % 13) + 13 {
-        r = met(m, d, last, r, x / 13, x % 13);
+    for x in 0..13 * (p % 13) + 13 {
+        r = met(m, p, q, last, r, x / 13, x % 13);
     }
     r
 }
 
 // How many qualifying pairs of a reading have at least this sum.
-pub fn reaching(m: &Sums, d: Counts, least: u32) -> u32 {
-    let r = cut_after(m, d, pair(least, PAST, PAST));
+pub fn reaching(m: &Sums, p: u32, q: u32, least: u32) -> u32 {
+    let r = cut_after(m, p, q, pair(least, PAST, PAST));
     r.count
 }

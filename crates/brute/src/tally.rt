@@ -1,5 +1,4 @@
-// Counters. Places 1 to 16 count refusals by their number, 20 to 25 answers by theirs, 0 calls that were not refused
-// so.
+// Counters. Places 20 to 25 count answers by their number.
 
 pub const CASES: u32 = 30;
 
@@ -12,28 +11,22 @@ pub const EXACT: u32 = 33;
 // Of these, with blocks of 2 rows or more.
 pub const EXACT_BLOCKS: u32 = 34;
 
-pub const UNFINISHED: u32 = 35;
-
 pub const MISMATCHES: u32 = 36;
 
 pub const WITHDRAWN: u32 = 37;
 
-pub const OLD_CARD: u32 = 38;
-
-pub const NEW_CARD: u32 = 39;
-
 // With pairs that L alone keeps apart.
-pub const BY_LIGHT: u32 = 41;
+pub const BY_LIGHT: u32 = 40;
 
 // With block pairs too far apart; of these, with others that are joined.
-pub const FAR: u32 = 42;
+pub const FAR: u32 = 41;
 
-pub const FAR_AND_JOINED: u32 = 43;
+pub const FAR_AND_JOINED: u32 = 42;
 
 // With pairs that tolerances decide; with a query that nothing can meet.
-pub const BY_TOLERANCE: u32 = 44;
+pub const BY_TOLERANCE: u32 = 43;
 
-pub const UNSATISFIABLE: u32 = 45;
+pub const UNSATISFIABLE: u32 = 44;
 
 pub fn count(tally: &mut [u64; 48], i: u32) {
     if i < 48 {

@@ -1,3 +1,1 @@
 pub mod Bare
-pub mod BothRead
-pub mod Last

@@ -1,14 +1,13 @@
-// The ceiling, and whether a held pair is secured: the threshold of the rules' sessions. And what they ask of a table:
-// whether it is read out; whether it is empty.
+// The ceiling: the threshold of the rules' sessions.
 use rules::Counts;
-use rules::Pair;
 use rules::Weights;
+use table_ends::read_out;
 ghost use mathlib.Core.Path.{_≡_};
 ghost use mathlib.Core.Bool.{cond};
-ghost use Prim.Native.Nat.{_+_, _<_, max};
-ghost use Rattle.rules.specs.Session.{readOut, isEmpty, ceiling, secured};
-ghost use Rattle.rules.specs.Tables.{table, HasRows};
-ghost use Rattle.ceiling.specs.BothRead.{RowsRead, BothRead};
+ghost use Prim.Native.Nat.{max};
+ghost use Rattle.rules.specs.Session.{ceiling};
+ghost use Rattle.rules.specs.Tables.{table};
+ghost use Rattle.table_ends.specs.BothRead.{BothRead};
 ghost use Rattle.ceiling.specs.Bare.{bare};
 
 fn pick(t: bool, a: u64, b: u64) -> u64
@@ -21,34 +20,6 @@ fn higher(a: u64, b: u64) -> u64
     ensures { λ r. ⌜ r ≡ max a b ⌝ }
 {
     if a < b { b } else { a }
-}
-
-// Whether a table is read out: all its rows are read, or a withdrawn one is. Scores fall, so the last row read tells.
-pub fn read_out(n: u32, t: &[i32], rows: u32, depth: u32) -> bool
-    requires { ⌜ RowsRead (table n (now t)) depth ⌝ }
-    ensures { λ r. ⌜ r ≡ readOut (table n (now (t .entry))) rows depth ⌝ }
-{
-    if depth == rows {
-        return true;
-    }
-    if depth == 0 {
-        return false;
-    }
-    tables::is_withdrawn(n, t, depth as usize - 1)
-}
-
-// Whether a table is empty: it has no rows, or its first row was read and is withdrawn.
-pub fn is_empty(n: u32, t: &[i32], rows: u32, depth: u32) -> bool
-    requires { ⌜ HasRows (table n (now t)) depth ⌝ }
-    ensures { λ r. ⌜ r ≡ isEmpty (table n (now (t .entry))) rows depth ⌝ }
-{
-    if rows == 0 {
-        return true;
-    }
-    if 0 < depth {
-        return tables::is_withdrawn(n, t, 0);
-    }
-    false
 }
 
 // The ceiling: the higher of HF + LT, unless trim is read out, and LF + HT, unless field is. Each score counts
@@ -71,26 +42,4 @@ pub fn threshold(f: &[i32], t: &[i32], n: u32, rows: Counts, depth: Counts, weig
     let a = pick(trim_out, 0, hf + lt);
     let b = pick(field_out, 0, lf + ht);
     higher(a, b)
-}
-
-// Whether a held pair is secured.
-pub fn is_secured(
-    f: &[i32],
-    t: &[i32],
-    n: u32,
-    rows: Counts,
-    depth: Counts,
-    weights: Weights,
-    p: Pair,
-) -> bool
-    requires { ⌜ BothRead (table n (now f)) (table n (now t)) depth ⌝ }
-    ensures { λ r. ⌜ r ≡ secured (table n (now (f .entry))) (table n (now (t .entry)))
-        (bare n rows depth weights) p ⌝ }
-{
-    let field_out = read_out(n, f, rows.field.0, depth.field.0);
-    let trim_out = read_out(n, t, rows.trim.0, depth.trim.0);
-    if field_out & trim_out {
-        return true;
-    }
-    threshold(f, t, n, rows, depth, weights) <= p.sum as u64
 }

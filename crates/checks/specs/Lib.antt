@@ -1,3 +1,1 @@
-pub mod Grounds
 pub mod Codes
-pub mod Placed

@@ -35,10 +35,10 @@ pub fn field_next(f: &[i32], t: &[i32], s: Session) -> bool
     if e == 0 {
         return false;
     }
-    if ceiling::read_out(s.rows.card, t, s.rows.trim.0, e) {
+    if table_ends::read_out(s.rows.card, t, s.rows.trim.0, e) {
         return true;
     }
-    if ceiling::read_out(s.rows.card, f, s.rows.field.0, d) {
+    if table_ends::read_out(s.rows.card, f, s.rows.field.0, d) {
         return false;
     }
     let x = drop_of(s.query.weights.field.0, s.rows.card, f, d);

@@ -15,11 +15,12 @@ use Rattle.rules.specs.File.{columnFits, columnNumber}
 use Rattle.lists.specs.Bools.{and-left, and-right, and-true}
 use Rattle.file_laws.specs.Spelling.{digit-range}
 use Rattle.file_laws.specs.Places.{placeAt, byPlaces, place-tenfold, digits-places, digits-less}
+use Rattle.column_scan.specs.declared.Scan.{Scan}
+use Rattle.column_scan.specs.Scan.{byteWorth, stepped, start, scanned}
+use Rattle.column_scan.proofs.Bytes.{digit-worth}
 use Rattle.column.specs.declared.Column.{Column}
-use Rattle.column.specs.declared.Scan.{Scan}
 use Rattle.column.specs.Column.{columnHeld}
-use Rattle.column.specs.Scan.{byteWorth, leastOf, stepped, start, scanned, signedWorth, heldOf}
-use Rattle.column.proofs.Bytes.{digit-worth}
+use Rattle.column.specs.Held.{leastOf, signedWorth, heldOf}
 
 abbrev unfit : Column
 unfit = record { fits = false; number = pos 0 }

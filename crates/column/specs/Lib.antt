@@ -1,2 +1,2 @@
 pub mod Column
-pub mod Scan
+pub mod Held

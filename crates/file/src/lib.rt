@@ -7,10 +7,10 @@ ghost use Rattle.rules.specs.Tables.{table, width, HasRows, afterRows, mostRows
 ghost use Rattle.rules.specs.File.{rowBytes, rowStart, fileTable, andSlice, loadAnswer, loadNumbers};
 ghost use Rattle.file_laws.specs.Parts.{RowFits};
 ghost use Rattle.file.specs.Put.{rowPut, RowsFit};
-use column::column_bytes;
-use column::row_bytes;
-use column::row_number;
 use file_check::check;
+use row_columns::column_bytes;
+use row_columns::row_bytes;
+use row_columns::row_number;
 use rules::Loaded;
 
 // 11 comes last: a file that is refused for its rows is told so, however short the slice of `room` numbers. The rows
@@ -81,7 +81,7 @@ pub fn load(bytes: &[u8], kind: i32, out: &mut [i32]) -> Loaded
     ensures { λ r. ⌜ r ≡ loadAnswer (now (bytes .entry)) kind (now (out .entry)) ⌝ }
     ensures { λ _. ⌜ now (out .exit) ≡ loadNumbers (now (bytes .entry)) kind (now (out .entry)) ⌝ }
 {
-    let n = file_check::kind_coordinates(kind);
+    let n = file_header::kind_coordinates(kind);
     let answer = and_room(n, check(bytes, kind), out.len());
     let Loaded::Rows(count) = answer else {
         return answer;

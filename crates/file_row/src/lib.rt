@@ -8,7 +8,7 @@ ghost use Rattle.file_row.specs.Held.{frontHeld, rowHeld, heldRowCode};
 use codes::first;
 use codes::unless;
 use column::column_at;
-use row_checks::coordinate_fits;
+use row_ranges::coordinate_fits;
 
 // A row's score, whether its columns and LF are formed as they must be, and whether its numbers keep their ranges.
 pub struct Row {
@@ -26,7 +26,7 @@ fn read_front(bytes: &[u8], o: usize) -> Row
     let score = column_at(bytes, o + 6, 6, false);
     let a = column_at(bytes, o + 12, 7, true);
     let b = column_at(bytes, o + 19, 7, true);
-    let inside = row_checks::in_range(pattern.number, score.number);
+    let inside = row_ranges::in_range(pattern.number, score.number);
     let shade = coordinate_fits(0, a.number) & coordinate_fits(1, b.number);
     Row {
         fits: pattern.fits & (score.fits & (a.fits & b.fits)),

@@ -20,7 +20,7 @@ pub fn start(query: &[u32], f: &[i32], t: &[i32], lent: &mut [u32]) -> i32
     let answer = step.answer;
     if let Answer::Opened = answer {
         let s = step.session;
-        record_layout::pack(s, lent);
+        record_packed::pack(s, lent);
     }
     answers::told(answer)
 }

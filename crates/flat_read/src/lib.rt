@@ -18,7 +18,7 @@ pub fn read(f: &[i32], t: &[i32], lent: &mut [u32]) -> i32
     let answer = step.answer;
     if let Answer::Read = answer {
         let after = step.session;
-        record_layout::pack(after, lent);
+        record_packed::pack(after, lent);
     }
     answers::told(answer)
 }

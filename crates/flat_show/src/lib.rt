@@ -26,7 +26,7 @@ fn put_shown(f: &[i32], t: &[i32], s: Session, place: &mut [u32])
         ≡ laidAt 0 (shownNumbers (lentTable s (now (f .entry))) (lentTable s (now (t .entry))) s)
         (now (place .entry)) ⌝ }
 {
-    let fits = checks::fits(s);
+    let fits = pair_checks::fits(s);
     if checks::lent_code(fits, s.rows, f, t) != 0 {
         record_layout::put_three(place, 0, 0, 0, 0);
         return;

@@ -35,7 +35,7 @@ pub fn take(f: &[i32], t: &[i32], lent: &mut [u32], pair: &mut [u32]) -> i32
     let answer = step.answer;
     if let Answer::Given(_) = answer {
         let after = step.session;
-        record_layout::pack(after, lent);
+        record_packed::pack(after, lent);
     }
     put_given(answer, pair);
     answers::told(answer)

@@ -7,8 +7,9 @@ use lib.ListN.{length, length-append}
 use Rattle.rules.specs.declared.Pair.{Pair}
 use Rattle.rules.specs.Query.{inputLength, settledSession, list, pairLine, pairLines, queryLine, lastLine, listing}
 use Rattle.printing.specs.Put.{putAt, put-on}
-use Rattle.printing.specs.Lines.{lineLength, lastLength, line-length, query-length, last-length}
 use Rattle.printing.specs.Laid.{laid, laid-length}
+use Rattle.pair_line.specs.Line.{lineLength, line-length}
+use Rattle.other_lines.specs.Lines.{lastLength, query-length, last-length}
 use Rattle.outcomes.specs.declared.Outcome.{Outcome}
 use Rattle.outcomes.specs.Outcomes.{queryOutcome, OutcomeOf}
 use Rattle.listing.specs.Shown.{lineOf, line-bytes, listLines}

@@ -9,8 +9,9 @@ use Rattle.rules.specs.Tables.{Table, row, squaredDistance, HasRows}
 use Rattle.rules.specs.Session.{placeCount}
 use Rattle.rules.specs.Root.{root, remainder}
 use Rattle.rules.specs.Query.{inputLength, list, pairLine, pairLines}
-use Rattle.printing.specs.declared.Line.{Line}
-use Rattle.printing.specs.Lines.{lineBytes, lineLength, lastLength}
+use Rattle.pair_line.specs.declared.Line.{Line}
+use Rattle.pair_line.specs.Line.{lineBytes, lineLength}
+use Rattle.other_lines.specs.Lines.{lastLength}
 
 -- the lines of a query's list
 abbrev pub listLines : Query → Table → Table → List ℕ

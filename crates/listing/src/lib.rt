@@ -1,6 +1,6 @@
 // What is told of a pair, and a whole query's listing as bytes.
 use outcomes::Outcome;
-use printing::Line;
+use pair_line::Line;
 use rules::Pair;
 ghost use mathlib.Core.Path.{_≡_};
 ghost use Prim.Native.Nat.{_+_, _*_, _-_, _≤_, _<_};
@@ -8,15 +8,15 @@ ghost use lib.ListN.{length};
 ghost use Rattle.rules.specs.Tables.{table, row};
 ghost use Rattle.rules.specs.Session.{placeCount};
 ghost use Rattle.rules.specs.Query.{listing};
-ghost use Rattle.printing.specs.Lines.{lineLength};
+ghost use Rattle.pair_line.specs.Line.{lineLength};
 ghost use Rattle.printing.specs.Put.{putAt};
 ghost use Rattle.outcomes.specs.Outcomes.{OutcomeOf};
 ghost use Rattle.listing.specs.Shown.{RowOf, Shown, lineOf, listLines, listingRoom};
 
 // The bytes of the longest listing: the query's line, those of 64 pairs, the last.
-pub const ROOM: usize = printing::QUERY_LENGTH
-    + printing::LINE_LENGTH * rules::PLACES
-    + printing::LAST_LENGTH;
+pub const ROOM: usize = other_lines::QUERY_LENGTH
+    + pair_line::LINE_LENGTH * rules::PLACES
+    + other_lines::LAST_LENGTH;
 
 // The pattern number of row i; one below 0, which no checked table has, is 0.
 fn pattern(n: u32, t: &[i32], i: u32) -> u32
@@ -65,7 +65,7 @@ fn put_pairs(out: &mut [u8], at: usize, n: u32, f: &[i32], t: &[i32], run: Outco
     while i < run.count {
         let p = run.pairs[i];
         let line = line_of(n, f, t, (i + 1) as u32, p);
-        printing::put_line(out, at + printing::LINE_LENGTH * i, line);
+        pair_line::put_line(out, at + pair_line::LINE_LENGTH * i, line);
         i += 1;
     }
 }
@@ -79,9 +79,9 @@ pub fn put_listing(out: &mut [u8], n: u32, f: &[i32], t: &[i32], run: Outcome) -
         ≡ putAt 0 (listing (run .query) (table n (now (f .entry))) (table n (now (t .entry)))) (now (out .entry)) ⌝ }
 {
     let settled = run.session;
-    let end = printing::QUERY_LENGTH + printing::LINE_LENGTH * run.count;
-    printing::put_query(out, 0, run.query);
-    put_pairs(out, printing::QUERY_LENGTH, n, f, t, run);
-    printing::put_last(out, end, settled);
-    end + printing::LAST_LENGTH
+    let end = other_lines::QUERY_LENGTH + pair_line::LINE_LENGTH * run.count;
+    other_lines::put_query(out, 0, run.query);
+    put_pairs(out, other_lines::QUERY_LENGTH, n, f, t, run);
+    other_lines::put_last(out, end, settled);
+    end + other_lines::LAST_LENGTH
 }

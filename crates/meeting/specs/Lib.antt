@@ -1,4 +1,1 @@
-pub mod Side
-pub mod Effect
-pub mod Stands
 pub mod Meets

@@ -1,32 +1,25 @@
 -- Block pairs met by a record that is ready: it stays ready. Assumes nothing.
-use mathlib.Core.Path.{_≡_, refl, sym, ap, ap₂, subst, _∙_}
+use mathlib.Core.Path.{_≡_, refl, sym, ap, ap₂, _∙_}
 use mathlib.Core.Bool.{Bool, true, false, cond}
 use mathlib.Core.List.{List, _++_}
 use Prim.Native.Nat.{ℕ, zero, suc, _+_, _*_, _-_, _≤_, _<_, min}
 use native.Mathlib.Nat.{mul-le-mul-right, suc-mul}
 use native.Mathlib.Numerals.{add-one}
 use native.Mathlib.Omega.{arith}
-use lib.IntN.{ℤ}
 use lib.ListN.{length, take, length-take}
 use Rattle.lists.specs.Lists.{sort}
 use Rattle.lists.specs.Words.{Ordered}
 use Rattle.lists.specs.Sorts.{sort-ordered, take-ordered}
 use Rattle.rules.specs.declared.Pair.{Pair}
 use Rattle.rules.specs.declared.Session.{Session}
-use Rattle.rules.specs.Tables.{Table, withdrawn, terms, Block, qualifying, ahead, width, HasRows}
-use Rattle.rules.specs.Tables.{table, part}
-use Rattle.rules.specs.Widths.{part-length, part-count}
+use Rattle.rules.specs.Tables.{Table, terms, Block, qualifying, ahead}
 use Rattle.rules.specs.Ranking.{ahead-strict}
 use Rattle.rules.specs.Session.{places, heldPairs}
 use Rattle.rules.specs.Read.{skipped, bestHeld, holding, meetBy, meet, rowsBetween, meetBlocksBy, meetBlocks}
-use Rattle.session_laws.specs.Tables.{row-part, range-part}
-use Rattle.session_laws.specs.ReadOut.{scores-fall}
-use Rattle.session_laws.specs.Calls.{Accepted, NewRowsFit, read-rows}
 use Rattle.keys.specs.Places.{list-of-places}
-use Rattle.block.specs.Block.{Rows}
-use Rattle.meeting.specs.declared.Span.{Span}
+use Rattle.block_pair.specs.declared.Span.{Span}
 use Rattle.choosing.specs.Ready.{Ready}
-use Rattle.meeting.specs.Side.{SpanFits, Passed, spanBlock}
+use Rattle.block_pair.specs.Spans.{SpanFits, spanBlock}
 
 -- the best of the pairs held and met are in order, and not too many
 best-ordered : (s : Session) (met : List Pair) → Ordered ahead (bestHeld s met)
@@ -67,41 +60,6 @@ pub blocks-ready : (field : Bool) (s : Session) (new : Block) (t : Table) (depth
 unfolding meetBlocksBy
 blocks-ready field s new t depth zero r = r
 blocks-ready field s new t depth (suc n) r = meet-ready _ _ _ (blocks-ready field s new t depth n r)
-
--- ---- Parts of a table as blocks
-
--- whole rows that passed 6 and 7, within a table's 65,535
-part-rows : (t : Table) (x : Span) → SpanFits x t → Rows (x .from) (part t (x .from) (x .to - x .from))
-part-rows t x fits =
-    let a = x .from in
-    let n = x .to - a in
-    let end : a + n ≡ x .to = omega (arith, fits .some) in
-    let there : HasRows t (a + n) = subst (HasRows t) (sym end) (fits .within) in
-    let count = part-count t a n there in
-    record {
-      whole = ap (_*_ (width (t .coordinates))) count ∙ sym (part-length t a n there);
-      few = omega (arith, count, fits .few);
-      range =
-          λ i h.
-          let k : i < n = omega (arith, count, h) in
-          range-part t a n i k ∙ fits .fit (a + i) (omega (arith, k)) .range;
-      falls =
-          λ i j h k.
-          let l : j < n = omega (arith, count, k) in
-          rw (row-part t a n j l, row-part t a n i (omega (arith, h, l)))
-          (scores-fall t (x .to) (fits .fit) (a + i) (a + j) (omega (arith, h)) (omega (arith, l)));
-    }
-
--- the same of a slice that is this part
-pub lent-rows : (t : Table) (x : Span) (l : List ℤ) → l ≡ part t (x .from) (x .to - x .from) .numbers → SpanFits x t
-    → Rows (x .from) (table (t .coordinates) l)
-lent-rows t x l e fits = subst (λ m. Rows (x .from) (table (t .coordinates) m)) (sym e) (part-rows t x fits)
-
--- ---- The rows of a read whose checks have passed
-
-pub passed : (field : Bool) (f t : Table) (s : Session) → Accepted f t s → NewRowsFit field f t s → Passed field f t s
-passed true f t s a new = let rows = read-rows true f t s a new in record { new = rows .0; other = rows .1 }
-passed false f t s a new = let rows = read-rows false f t s a new in record { new = rows .1; other = rows .0 }
 
 -- ---- A new block and an old one, as field and trim
 

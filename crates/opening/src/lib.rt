@@ -40,7 +40,7 @@ fn tables_code(m: u32, f: &[i32], n: u32, t: &[i32]) -> u32
 fn open_code(q: Query, m: u32, f: &[i32], n: u32, t: &[i32]) -> u32
     ensures { λ r. ⌜ r ≡ openCode q (table m (now (f .entry))) (table n (now (t .entry))) ⌝ }
 {
-    let query = number_checks::query_code(q);
+    let query = query_checks::query_code(q);
     let tables = tables_code(m, f, n, t);
     codes::first(query, tables)
 }

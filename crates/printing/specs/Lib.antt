@@ -1,3 +1,3 @@
 pub mod Put
-pub mod Lines
+pub mod Numbers
 pub mod Laid

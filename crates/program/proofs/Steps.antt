@@ -30,8 +30,8 @@ use Rattle.file_laws.specs.Table.{table-length}
 use Rattle.file_laws.specs.Sizes.{Told}
 use Rattle.printing.specs.Put.{put-front}
 use Rattle.listing.specs.Shown.{listingRoom}
-use Rattle.program_input.specs.Given.{tableRows, tableRoom, programFile, program-code, program-rows, program-told}
-use Rattle.program_input.specs.Given.{table-most, kind-either}
+use Rattle.program_sizes.specs.Sizes.{tableRows, tableRoom, table-most}
+use Rattle.program_file.specs.Given.{programFile, program-code, program-rows, program-told, kind-either}
 use Rattle.program.specs.Program.{Written, orRefusal, refusal-none, refusal-some, inputBytes, whole-is}
 
 -- ---- A file

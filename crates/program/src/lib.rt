@@ -11,7 +11,7 @@ ghost use lib.ListN.{length, drop};
 ghost use Rattle.rules.specs.Tables.{table, kindCoordinates, HasRows, firstRows, fieldTable, trimTable};
 ghost use Rattle.rules.specs.Numbers.{saidOf, refusal};
 ghost use Rattle.rules.specs.Query.{refusalLine, wholeQuery};
-ghost use Rattle.printing.specs.Lines.{refusalLength};
+ghost use Rattle.other_lines.specs.Lines.{refusalLength};
 ghost use Rattle.listing.specs.Shown.{listingRoom};
 ghost use Rattle.program.specs.Program.{Written, answerBytes, inputBytes};
 
@@ -33,8 +33,8 @@ fn refuse(out: &mut [u8], code: u32) -> usize
     requires { ⌜ refusalLength ≤ length (now out) ⌝ }
     ensures { λ r. ⌜ Written (refusalLine code) (now (out .entry)) (now (out .exit)) r ⌝ }
 {
-    printing::put_refusal(out, 0, code);
-    printing::REFUSAL_LENGTH
+    other_lines::put_refusal(out, 0, code);
+    other_lines::REFUSAL_LENGTH
 }
 
 // The listing, or the refusal of the opening.
@@ -79,15 +79,15 @@ fn put_whole(out: &mut [u8], field: &[u8], trim: &[u8], input: &[u8]) -> usize
     ensures { λ r. ⌜ Written (wholeQuery (now (field .entry)) (now (trim .entry)) (now (input .entry)))
         (now (out .entry)) (now (out .exit)) r ⌝ }
 {
-    let of_field = program_input::file_kind(1, 3, field);
-    let mut f = [0i32; program_input::TABLE_ROOM];
-    let a = program_input::load_table(field, of_field, &mut f);
+    let of_field = program_file::file_kind(1, 3, field);
+    let mut f = [0i32; program_sizes::TABLE_ROOM];
+    let a = program_file::load_table(field, of_field, &mut f);
     let Loaded::Rows(m) = a else {
         return refuse(out, refusal(a));
     };
-    let of_trim = program_input::file_kind(2, 4, trim);
-    let mut t = [0i32; program_input::TABLE_ROOM];
-    let b = program_input::load_table(trim, of_trim, &mut t);
+    let of_trim = program_file::file_kind(2, 4, trim);
+    let mut t = [0i32; program_sizes::TABLE_ROOM];
+    let b = program_file::load_table(trim, of_trim, &mut t);
     let Loaded::Rows(n) = b else {
         return refuse(out, refusal(b));
     };

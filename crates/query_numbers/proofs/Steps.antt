@@ -9,7 +9,7 @@ use Rattle.lists.specs.Lists.{each}
 use Rattle.rules.specs.declared.Pair.{Pair}
 use Rattle.rules.specs.declared.Query.{Query}
 use Rattle.rules.specs.Query.{list}
-use Rattle.printing.specs.declared.Line.{Line}
+use Rattle.pair_line.specs.declared.Line.{Line}
 use Rattle.printing.specs.Put.{putAt, put-on}
 use Rattle.printing.specs.Laid.{laid}
 use Rattle.outcomes.specs.declared.Outcome.{Outcome}

@@ -11,9 +11,9 @@ use Rattle.rules.specs.declared.Session.{Session}
 use Rattle.rules.specs.Session.{noPair}
 use Rattle.keys.specs.Held.{placeAt}
 use Rattle.keys.specs.Places.{placesOf, place-is, places-long, filled, one-filled}
-use Rattle.meeting.specs.declared.After.{After}
-use Rattle.meeting.specs.Stands.{withKeys}
-use Rattle.checks.specs.Placed.{placed}
+use Rattle.next_block.specs.declared.After.{After}
+use Rattle.next_block.specs.After.{withKeys}
+use Rattle.pair_checks.specs.Placed.{placed}
 
 -- the record whose numbers have changed, and whose pairs have not
 abbrev pub numbered : Session → After → Session

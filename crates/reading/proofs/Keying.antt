@@ -15,7 +15,7 @@ use Rattle.lists.specs.Sorts.{all-append}
 use Rattle.rules.specs.declared.Session.{Session}
 use Rattle.rules.specs.Session.{noPair}
 use Rattle.keys.specs.Held.{keyOf, Narrow, Keyed}
-use Rattle.meeting.specs.Stands.{Keys}
+use Rattle.block_pair.specs.Stands.{Keys}
 
 -- before turn i: where all fits, the keys of the held places before i are those of their pairs
 pub record Keying (s : Session) (i : ℕ) (fits : Bool) (keys : List ℕ) : Type 0 where

@@ -33,8 +33,8 @@ fn read_answer(code: u32, f: &[i32], t: &[i32], s: Session, last: Pair) -> Answe
 }
 
 // Read: settled, or one block of the table that is next, which meets the blocks already read of the other. The pair
-// places are looked through here, and in take, as in `checks::fits`, and filled here: handed on, the record would be
-// copied once more. While blocks meet, the pairs held are keys, lent to whoever puts one among them.
+// places are looked through here, and in take, as in `pair_checks::fits`, and filled here: handed on, the record would
+// be copied once more. While blocks meet, the pairs held are keys, lent to whoever puts one among them.
 pub fn read(f: &[i32], t: &[i32], s: Session) -> Step
     ensures { λ r. ⌜ r ≡ readCall (lentTable s (now (f .entry))) (lentTable s (now (t .entry))) s ⌝ }
 {
@@ -45,10 +45,10 @@ pub fn read(f: &[i32], t: &[i32], s: Session) -> Step
     let mut fits = numbers_fit(r.query, r.rows, r.depth, r.last, r.out, r.held, r.joined);
     let mut before: u64 = 0;
     let mut keys: [u64; 64] = [0; 64];
-    let mut i = checks::first_place(fits);
+    let mut i = pair_checks::first_place(fits);
     while i < 64 {
         let p = r.pairs[i];
-        let key = checks::place_key(i, n, depth, before, p);
+        let key = pair_checks::place_key(i, n, depth, before, p);
         if key == 0 {
             fits = false;
             break;
@@ -61,7 +61,7 @@ pub fn read(f: &[i32], t: &[i32], s: Session) -> Step
     let last = r.pairs[end];
     let answer = read_answer(code, f, t, r, last);
     if let Answer::Read = answer {
-        let after = meeting::read_block(f, t, r, &mut keys);
+        let after = next_block::read_block(f, t, r, &mut keys);
         let to = after.depth;
         let m = after.held as usize;
         r.depth = to;

@@ -1,14 +1,11 @@
-// The session's record laid out flat in a lent slice of numbers, for callers in C and Rust.
-use rules::Meaning;
+// How the session's record is laid out flat in a lent slice of numbers, for callers in C and Rust; a pair laid out so.
 use rules::PLACES;
 use rules::Pair;
-use rules::Session;
 ghost use mathlib.Core.Path.{_≡_};
 ghost use mathlib.Core.List.{[], _∷_};
 ghost use Prim.Native.Nat.{_+_, _≤_};
 ghost use lib.ListN.{length};
-ghost use Rattle.record_layout.specs.Flat.{pairSize, fieldWeightAt, flatSize, laidAt, laidIn};
-ghost use Rattle.record_layout.specs.Flat.{flatPair, flatHead, meaningNumber, flatTail};
+ghost use Rattle.record_layout.specs.Flat.{pairSize, laidAt, flatPair};
 
 // Where a record's numbers stand: first three of the query's.
 pub const K: usize = 0;
@@ -80,62 +77,4 @@ pub fn put_pair(out: &mut [u32], o: usize, p: Pair)
     ensures { λ _. ⌜ now (out .exit) ≡ laidAt o (flatPair p) (now (out .entry)) ⌝ }
 {
     put_three(out, o, p.sum, p.field, p.trim);
-}
-
-// The numbers in front of the pair places.
-fn put_head(out: &mut [u32], s: Session)
-    requires { ⌜ flatSize ≤ length (now out) ⌝ }
-    ensures { λ _. ⌜ now (out .exit) ≡ laidAt 0 (flatHead s) (now (out .entry)) ⌝ }
-{
-    let low = (s.joined % WORD) as u32;
-    let high = (s.joined / WORD) as u32;
-    put_three(out, K, s.query.k, s.query.block, s.query.radius);
-    put_three(
-        out,
-        FIELD_ROWS,
-        s.rows.field.0,
-        s.rows.trim.0,
-        s.depth.field.0,
-    );
-    put_three(out, TRIM_DEPTH, s.depth.trim.0, s.last, s.out);
-    put_three(out, HELD, s.held, low, high);
-}
-
-// A meaning as a number.
-fn meaning_number(m: Meaning) -> u32
-    ensures { λ r. ⌜ r ≡ meaningNumber m ⌝ }
-{
-    match m {
-        Meaning::Possibly => 0,
-        Meaning::Surely => 1,
-    }
-}
-
-// The two weights, the card, the two tolerances and the meaning, behind the pair places.
-fn put_tail(out: &mut [u32], s: Session)
-    requires { ⌜ flatSize ≤ length (now out) ⌝ }
-    ensures { λ _. ⌜ now (out .exit) ≡ laidAt fieldWeightAt (flatTail s) (now (out .entry)) ⌝ }
-{
-    let q = s.query;
-    let m = q.meaning;
-    let meaning = meaning_number(m);
-    let w = q.weights;
-    let t = q.tolerances;
-    put_three(out, FIELD_WEIGHT, w.field.0, w.trim.0, s.rows.card);
-    put_three(out, FIELD_TOLERANCE, t.field.0, t.trim.0, meaning);
-}
-
-// A record laid out in the first 210 numbers; the rest is left as it was.
-pub fn pack(s: Session, out: &mut [u32])
-    requires { ⌜ flatSize ≤ length (now out) ⌝ }
-    ensures { λ _. ⌜ now (out .exit) ≡ laidIn (now (out .entry)) s ⌝ }
-{
-    put_head(out, s);
-    let mut i: usize = 0;
-    while i < PLACES {
-        let p = s.pairs[i];
-        put_pair(out, PAIRS + PAIR_SIZE * i, p);
-        i += 1;
-    }
-    put_tail(out, s);
 }

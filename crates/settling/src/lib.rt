@@ -22,10 +22,10 @@ pub fn is_settled(f: &[i32], t: &[i32], s: Session, last: Pair) -> bool
     let m = s.rows.trim.0;
     let d = s.depth.field.0;
     let e = s.depth.trim.0;
-    if ceiling::is_empty(n, f, l, d) | ceiling::is_empty(n, t, m, e) {
+    if table_ends::is_empty(n, f, l, d) | table_ends::is_empty(n, t, m, e) {
         return true;
     }
-    if ceiling::read_out(n, f, l, d) & ceiling::read_out(n, t, m, e) {
+    if table_ends::read_out(n, f, l, d) & table_ends::read_out(n, t, m, e) {
         return true;
     }
     if s.out == s.query.k {
@@ -38,5 +38,5 @@ pub fn is_settled(f: &[i32], t: &[i32], s: Session, last: Pair) -> bool
         field: FieldRows(l),
         trim: TrimRows(m),
     };
-    ceiling::is_secured(f, t, n, rows, s.depth, s.query.weights, last)
+    securing::is_secured(f, t, n, rows, s.depth, s.query.weights, last)
 }

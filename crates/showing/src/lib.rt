@@ -27,7 +27,7 @@ pub fn show<'a>(f: &'a [i32], t: &'a [i32], s: Session) -> &'a [i32]
         ≡ showPlace (lentTable s (now (f .entry))) (lentTable s (now (t .entry))) (ptr (f .entry))
         (ptr (t .entry)) s ⌝ }
 {
-    let fits = checks::fits(s);
+    let fits = pair_checks::fits(s);
     if checks::lent_code(fits, s.rows, f, t) != 0 {
         return &f[..0];
     }

@@ -23,7 +23,7 @@ fn gives_pair(f: &[i32], t: &[i32], s: Session) -> bool
         field: FieldRows(s.rows.field.0),
         trim: TrimRows(s.rows.trim.0),
     };
-    ceiling::is_secured(f, t, s.rows.card, rows, s.depth, s.query.weights, p)
+    securing::is_secured(f, t, s.rows.card, rows, s.depth, s.query.weights, p)
 }
 
 // Whether no further pair can come.
@@ -37,8 +37,8 @@ fn is_finished(f: &[i32], t: &[i32], s: Session) -> bool
     let d = s.depth.field.0;
     let e = s.depth.trim.0;
     let none = tolerances::unsatisfiable(s.query, n);
-    let empty = ceiling::is_empty(n, f, l, d) | ceiling::is_empty(n, t, m, e);
-    let out = ceiling::read_out(n, f, l, d) & ceiling::read_out(n, t, m, e);
+    let empty = table_ends::is_empty(n, f, l, d) | table_ends::is_empty(n, t, m, e);
+    let out = table_ends::read_out(n, f, l, d) & table_ends::read_out(n, t, m, e);
     (s.out == s.query.k) | (none | (empty | (out & (s.held == 0))))
 }
 

@@ -9,7 +9,7 @@ use Rattle.rules.specs.declared.Pair.{Pair}
 use Rattle.rules.specs.declared.Session.{Session}
 use Rattle.rules.specs.Session.{noPair}
 use Rattle.rules.specs.Take.{movedOut}
-use Rattle.checks.specs.Placed.{placed}
+use Rattle.pair_checks.specs.Placed.{placed}
 use Rattle.taking.proofs.Shift.{moved, one-up, last-put}
 
 -- a record with a pair fewer held and one more out

@@ -18,10 +18,10 @@ pub fn take(f: &[i32], t: &[i32], s: Session) -> Step
     let depth = r.depth;
     let mut fits = numbers_fit(r.query, r.rows, r.depth, r.last, r.out, r.held, r.joined);
     let mut before: u64 = 0;
-    let mut i = checks::first_place(fits);
+    let mut i = pair_checks::first_place(fits);
     while i < 64 {
         let p = r.pairs[i];
-        let key = checks::place_key(i, n, depth, before, p);
+        let key = pair_checks::place_key(i, n, depth, before, p);
         if key == 0 {
             fits = false;
             break;

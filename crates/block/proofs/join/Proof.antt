@@ -11,7 +11,7 @@ use borrow.Author.Tests.{eqb-true}
 use Rattle.lists.specs.Bools.{and-out}
 use Rattle.rules.specs.Tables.{table, terms, rowCount, pairAt}
 use Rattle.rules.specs.Widths.{has-row}
-use Rattle.block.specs.Block.{at}
+use Rattle.block_rows.specs.Parts.{at}
 use Rattle.keys.specs.Held.{keyOf, Narrow}
 use Rattle.block.specs.Full.{later-narrow, later-behind}
 use Rattle.block.specs.Live.{rows-below, trim-falls, none-beyond-first, none-beyond-second}

@@ -1,5 +1,6 @@
 -- `all_cases` is safe and ends: 8,000 seeds. Assumes nothing.
 use Prim.Native.Nat.{_≤_, _-_}
+use native.Mathlib.Omega.{arith}
 use borrow.Author.Needs.{needs}
 use Rattle.brute.proofs.all_cases.Statement.{statement}
 use Rattle.brute.proofs.all_cases.Tie as tie
@@ -13,6 +14,6 @@ all-cases-spec =
     (search needs)
     (search needs)
     (search needs)
-    (search needs)
-    (search needs)
+    (λ c. omega (arith, c .before .before .loop-test .taken))
+    (λ c. omega (arith, c .before .before .loop-test .taken))
     (search needs))

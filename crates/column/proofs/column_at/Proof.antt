@@ -2,8 +2,9 @@
 use mathlib.Core.Path.{sym, ap, _∙_}
 use Prim.Native.Nat.{_+_}
 use Rattle.column.specs.Column.{columnHeld}
-use Rattle.column.specs.Scan.{upTo, heldOf}
-use Rattle.column.proofs.Bytes.{whole, short}
+use Rattle.column.specs.Held.{heldOf}
+use Rattle.column_scan.specs.Scan.{upTo}
+use Rattle.column_scan.proofs.Bytes.{whole, short}
 use Rattle.column.proofs.Scans.{scan-holds}
 use borrow.Author.Needs.{needs}
 use Rattle.column.proofs.column_at.Statement.{statement}

@@ -7,8 +7,8 @@ use lib.IntN.{ℤ, pos}
 use mir.Syntax.{w32}
 use mir.Facts.{toZ-ofZ}
 use borrow.Author.Tests.{not-true, not-false}
-use Rattle.column.specs.declared.Scan.{Scan}
-use Rattle.column.specs.Scan.{leastOf, signedWorth, heldOf}
+use Rattle.column_scan.specs.declared.Scan.{Scan}
+use Rattle.column.specs.Held.{leastOf, signedWorth, heldOf}
 use borrow.Author.Needs.{needs, sfits-of}
 use Rattle.column.proofs.held.Statement.{statement}
 use Rattle.column.proofs.held.Tie as tie

@@ -5,8 +5,9 @@ use Prim.Native.Nat.{_+_}
 use mir.Syntax.{w32}
 use mir.Facts.{toZ-ofZ}
 use Rattle.rules.specs.File.{columns, columnFits, columnNumber}
-use Rattle.column.specs.Scan.{upTo, signedWorth}
-use Rattle.column.proofs.Bytes.{whole, short}
+use Rattle.column_scan.specs.Scan.{upTo}
+use Rattle.column.specs.Held.{signedWorth}
+use Rattle.column_scan.proofs.Bytes.{whole, short}
 use Rattle.column.proofs.Scans.{scan-number}
 use borrow.Author.Needs.{needs, sfits-of}
 use Rattle.column.proofs.number_at.Statement.{statement}

@@ -6,7 +6,7 @@ use lib.IntN.{ℤ, pos, negℤ, _-ℤ_, +ℤ-idl}
 use mir.Syntax.{w32}
 use mir.Val.{SFits, toZ}
 use mir.Facts.{toZ-ofZ, toZ-pos}
-use Rattle.column.specs.Scan.{signedWorth}
+use Rattle.column.specs.Held.{signedWorth}
 use borrow.Author.Needs.{needs}
 use Rattle.column.proofs.signed_worth.Statement.{statement}
 use Rattle.column.proofs.signed_worth.Tie as tie

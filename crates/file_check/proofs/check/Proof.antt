@@ -6,7 +6,8 @@ use mir.Facts.{toZ-ofZ}
 use Rattle.rules.specs.File.{fileCount, fileTable, rowsLoaded, rowStart, wanted, headCode}
 use Rattle.file_laws.specs.Accepted.{HeadPassed, head-passed}
 use Rattle.file_laws.specs.Kinds.{fits-least}
-use Rattle.file_check.proofs.Head.{head-is, count-held, head-refuses, head-passes}
+use Rattle.file_header.proofs.Head.{head-is, count-held}
+use Rattle.file_check.proofs.Order.{head-refuses, head-passes}
 use borrow.Author.Needs.{needs}
 use Rattle.file_check.proofs.check.Statement.{statement}
 use Rattle.file_check.proofs.check.Tie as tie

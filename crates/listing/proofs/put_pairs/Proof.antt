@@ -9,8 +9,8 @@ use Rattle.rules.specs.Tables.{table}
 use Rattle.rules.specs.Session.{noPair, placeCount}
 use Rattle.rules.specs.Query.{list}
 use Rattle.printing.specs.Put.{putAt}
-use Rattle.printing.specs.Lines.{lineBytes, lineLength}
 use Rattle.printing.specs.Laid.{Writing, writing-starts, writing-on, writing-ends}
+use Rattle.pair_line.specs.Line.{lineBytes, lineLength}
 use Rattle.listing.specs.Shown.{line-bytes}
 use Rattle.listing.specs.ListShown.{counted, count-few, pair-at}
 use Rattle.listing.proofs.Lines.{lineAt, lineAt-length, lines-laid}

@@ -12,11 +12,11 @@ use Rattle.rules.specs.Widths.{rows-less}
 use Rattle.rules.specs.Session.{lentTable}
 use Rattle.rules.specs.Read.{meet, meetBlocksBy, meetBlocks}
 use Rattle.session_laws.specs.Read.{blocks-keep, blocks-joined}
-use Rattle.meeting.specs.declared.Span.{Span}
+use Rattle.block_pair.specs.declared.Span.{Span}
 use Rattle.sides.specs.Sides.{sidesIn}
 use Rattle.choosing.specs.Ready.{Ready}
-use Rattle.meeting.specs.Side.{SpanFits, spanBlock}
-use Rattle.meeting.specs.Stands.{Stands}
+use Rattle.block_pair.specs.Spans.{SpanFits, spanBlock}
+use Rattle.block_pair.specs.Stands.{Stands}
 use Rattle.meeting.specs.Meets.{blocks-ready, block-begins, block-next, blocks-next, inside-field, inside-trim}
 use Rattle.meeting.specs.Meets.{parts-meet, new-rows}
 use Rattle.meeting.proofs.meet_blocks.Statement.{statement}

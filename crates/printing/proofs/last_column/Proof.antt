@@ -1,6 +1,6 @@
 -- `last_column` meets its contract. Assumes nothing.
 use mathlib.Core.Path.{refl}
-use Rattle.printing.specs.Lines.{lastColumn}
+use Rattle.printing.specs.Numbers.{lastColumn}
 use borrow.Author.Needs.{needs}
 use Rattle.printing.proofs.last_column.Statement.{statement}
 use Rattle.printing.proofs.last_column.Tie as tie

@@ -7,7 +7,7 @@ use lib.ListN.{length, length-set}
 use borrow.Author.Needs.{needs}
 use Rattle.rules.specs.Query.{decimal}
 use Rattle.printing.specs.Put.{putAt, put-none}
-use Rattle.printing.specs.Lines.{left, none-left, one-column}
+use Rattle.printing.specs.Numbers.{left, none-left, one-column}
 use Rattle.printing.proofs.put_number.Statement.{statement}
 use Rattle.printing.proofs.put_number.Tie as tie
 

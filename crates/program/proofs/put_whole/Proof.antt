@@ -7,7 +7,8 @@ use Rattle.rules.specs.declared.Kinds.{Kinds}
 use Rattle.rules.specs.declared.Loaded.the-variants.{Rows}
 use Rattle.rules.specs.Query.{refusalLine, tableOf, fieldFileKind, trimFileKind}
 use Rattle.rules.specs.Tables.{table, kindCoordinates, fieldTable, trimTable, HasRows}
-use Rattle.program_input.specs.Given.{tableRoom, programFile}
+use Rattle.program_sizes.specs.Sizes.{tableRoom}
+use Rattle.program_file.specs.Given.{programFile}
 use Rattle.program.proofs.Steps.{table-front, table-there, file-rows, kind-few, field-own, trim-own, field-unfit}
 use Rattle.program.proofs.Steps.{trim-unfit, files-fit, written-as}
 use borrow.Author.Needs.{needs}

@@ -1,7 +1,7 @@
 -- `refuse` meets its contract. Assumes nothing.
 use mathlib.Core.Path.{sym}
 use native.Mathlib.Omega.{arith}
-use Rattle.printing.specs.Lines.{refusal-length}
+use Rattle.other_lines.specs.Lines.{refusal-length}
 use borrow.Author.Needs.{needs}
 use Rattle.program.proofs.refuse.Statement.{statement}
 use Rattle.program.proofs.refuse.Tie as tie

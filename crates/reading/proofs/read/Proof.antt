@@ -12,9 +12,9 @@ use Rattle.rules.specs.Query.{wasRead}
 use Rattle.session_laws.specs.Calls.{call-record}
 use Rattle.rules.specs.Calls.{recordFits, newBlockCode, step, readCall}
 use Rattle.rules.proofs.Places.{places-long}
-use Rattle.checks.proofs.Looking.{Looking, look-starts, look-key, look-on, look-stops, look-ends}
+use Rattle.pair_checks.proofs.Looking.{Looking, look-starts, look-key, look-on, look-stops, look-ends}
 use Rattle.checks.specs.Codes.{depths-fit}
-use Rattle.meeting.specs.Stands.{Keys}
+use Rattle.block_pair.specs.Stands.{Keys}
 use borrow.Author.Needs.{needs}
 use Rattle.reading.specs.Answers.{afterRead, read-asked, read-ends}
 use Rattle.checks.proofs.Checked.{Checked, checked}

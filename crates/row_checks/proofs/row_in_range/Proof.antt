@@ -3,7 +3,7 @@ use mathlib.Core.Path.{ap, _∙_}
 use mir.Syntax.{w32}
 use mir.Facts.{toZ-ofZ}
 use Rattle.rules.specs.Tables.{table, row, shadeAt, shadeFits, rowInRange}
-use Rattle.row_checks.specs.Ranges.{in-range-parts}
+use Rattle.row_ranges.specs.Ranges.{in-range-parts}
 use borrow.Author.Needs.{needs, sfits-of}
 use Rattle.row_checks.proofs.row_in_range.Statement.{statement}
 use Rattle.row_checks.proofs.row_in_range.Tie as tie

@@ -8,8 +8,8 @@ use borrow.Author.Tests.{eq-eqb, ne-eqb}
 use Rattle.rules.specs.Session.{lentTable, placeCount, nothingQualifies, aTableIsEmpty, bothReadOut, settledBy}
 use Rattle.rules.proofs.Places.{places-long}
 use Rattle.ceiling.specs.Bare.{secured-bare}
-use Rattle.ceiling.specs.BothRead.{RowsRead, accepted-rows}
-use Rattle.ceiling.specs.Last.{held-then-read, held-secured}
+use Rattle.table_ends.specs.BothRead.{RowsRead, accepted-rows}
+use Rattle.securing.specs.Last.{held-then-read, held-secured}
 use borrow.Author.Needs.{needs}
 use Rattle.settling.proofs.is_settled.Statement.{statement}
 use Rattle.settling.proofs.is_settled.Tie as tie

@@ -7,7 +7,7 @@ use Rattle.rules.specs.Session.{lentTable}
 use Rattle.rules.specs.Take.{firstHeld, givesPairBy}
 use Rattle.rules.proofs.Places.{places-long}
 use Rattle.ceiling.specs.Bare.{secured-bare}
-use Rattle.ceiling.specs.Last.{held-then-read}
+use Rattle.securing.specs.Last.{held-then-read}
 use borrow.Author.Needs.{needs}
 use Rattle.take_answers.proofs.gives_pair.Statement.{statement}
 use Rattle.take_answers.proofs.gives_pair.Tie as tie

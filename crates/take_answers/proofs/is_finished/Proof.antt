@@ -1,7 +1,7 @@
 -- `is_finished` meets its contract: the tests are the rule's. Assumes nothing.
 use Rattle.rules.specs.Session.{lentTable}
 use Rattle.rules.specs.Take.{finished}
-use Rattle.ceiling.specs.BothRead.{RowsRead, accepted-rows}
+use Rattle.table_ends.specs.BothRead.{RowsRead, accepted-rows}
 use borrow.Author.Needs.{needs}
 use Rattle.take_answers.proofs.is_finished.Statement.{statement}
 use Rattle.take_answers.proofs.is_finished.Tie as tie

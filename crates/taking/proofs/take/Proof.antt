@@ -13,7 +13,7 @@ use Rattle.rules.specs.Query.{wasGiven}
 use Rattle.rules.specs.Calls.{recordFits, step, takeCall}
 use Rattle.lists.specs.Bools.{and-left}
 use Rattle.rules.proofs.Places.{places-long}
-use Rattle.checks.proofs.Looking.{Looking, look-starts, look-on, look-stops, look-ends}
+use Rattle.pair_checks.proofs.Looking.{Looking, look-starts, look-on, look-stops, look-ends}
 use Rattle.checks.specs.Codes.{depths-fit}
 use borrow.Author.Needs.{needs}
 use Rattle.take_answers.specs.Answers.{afterTake, take-asked, take-ends}

@@ -1,5 +1,6 @@
 -- `joined` is safe and ends: one turn for each row of the other table. Assumes nothing.
 use Prim.Native.Nat.{_≤_, _-_}
+use native.Mathlib.Omega.{arith}
 use borrow.Author.Needs.{needs}
 use Rattle.brute.proofs.due.joined.Statement.{statement}
 use Rattle.brute.proofs.due.joined.Tie as tie
@@ -8,13 +9,13 @@ pub joined-spec : {M : Type 1} → statement M
 joined-spec =
     tie.close
     (tie.spec
-    (λ q m of-field a e d n₀ c₀ n c. c ≤ d)
-    (λ q m of-field a e d n₀ c₀ n c. d - c)
+    (λ c m of-field a e d n₀ b₀ n b. b ≤ d)
+    (λ c m of-field a e d n₀ b₀ n b. d - b)
     (search needs)
     (search needs)
     (search needs)
     (search needs)
     (search needs)
-    (search needs)
-    (search needs)
+    (λ c. omega (arith, c .before .before .loop-test .taken))
+    (λ c. omega (arith, c .before .before .loop-test .taken))
     (search needs))

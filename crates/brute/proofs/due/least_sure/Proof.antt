@@ -1,5 +1,6 @@
--- `least_sure` is safe and ends: every reading. Assumes nothing.
+-- `least_sure` is safe and ends: one turn for each reading. Assumes nothing.
 use Prim.Native.Nat.{_≤_, _-_}
+use native.Mathlib.Omega.{arith}
 use borrow.Author.Needs.{needs}
 use Rattle.brute.proofs.due.least_sure.Statement.{statement}
 use Rattle.brute.proofs.due.least_sure.Tie as tie
@@ -13,7 +14,6 @@ least-sure-spec =
     (search needs)
     (search needs)
     (search needs)
-    (search needs)
-    (search needs)
-    (search needs)
+    (λ c. omega (arith, c .before .loop-test .taken))
+    (λ c. omega (arith, c .before .loop-test .taken))
     (search needs))

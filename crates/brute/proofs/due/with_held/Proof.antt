@@ -1,5 +1,6 @@
 -- `with_held` is safe and ends: one turn for each pair that can be held. Assumes nothing.
 use Prim.Native.Nat.{_≤_, _-_}
+use native.Mathlib.Omega.{arith}
 use borrow.Author.Needs.{needs}
 use Rattle.brute.proofs.due.with_held.Statement.{statement}
 use Rattle.brute.proofs.due.with_held.Tie as tie
@@ -8,8 +9,8 @@ pub with-held-spec : {M : Type 1} → statement M
 with-held-spec =
     tie.close
     (tie.spec
-    (λ m s given all most r₀ cut₀ i₀ r cut i. i ≤ all)
-    (λ m s given all most r₀ cut₀ i₀ r cut i. all - i)
+    (λ m s p q left room held r₀ cut₀ i₀ r cut i. i ≤ held)
+    (λ m s p q left room held r₀ cut₀ i₀ r cut i. held - i)
     (search needs)
     (search needs)
     (search needs)
@@ -22,4 +23,10 @@ with-held-spec =
     (search needs)
     (search needs)
     (search needs)
+    (search needs)
+    (search needs)
+    (search needs)
+    (search needs)
+    (λ c. omega (arith, c .before .before .before .before .loop-test .taken))
+    (λ c. omega (arith, c .before .before .before .before .loop-test .taken))
     (search needs))

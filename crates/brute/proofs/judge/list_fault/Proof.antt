@@ -1,5 +1,6 @@
 -- `list_fault` is safe and ends: one turn for each pair. Assumes nothing.
 use Prim.Native.Nat.{_≤_, _-_}
+use native.Mathlib.Omega.{arith}
 use borrow.Author.Needs.{needs}
 use Rattle.brute.proofs.judge.list_fault.Statement.{statement}
 use Rattle.brute.proofs.judge.list_fault.Tie as tie
@@ -14,6 +15,6 @@ list-fault-spec =
     (search needs)
     (search needs)
     (search needs)
-    (search needs)
-    (search needs)
+    (λ c. omega (arith, c .before .before .loop-test .taken))
+    (λ c. omega (arith, c .before .before .loop-test .taken))
     (search needs))

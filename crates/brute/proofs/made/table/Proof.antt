@@ -1,5 +1,6 @@
 -- `table` is safe and ends: 12 rows. Assumes nothing.
 use Prim.Native.Nat.{_≤_, _-_}
+use native.Mathlib.Omega.{arith}
 use borrow.Author.Needs.{needs}
 use Rattle.brute.proofs.made.table.Statement.{statement}
 use Rattle.brute.proofs.made.table.Tie as tie
@@ -15,6 +16,6 @@ table-spec =
     (search needs)
     (search needs)
     (search needs)
-    (search needs)
-    (search needs)
+    (λ c. omega (arith, c .before .before .before .loop-test .taken))
+    (λ c. omega (arith, c .before .before .before .loop-test .taken))
     (search needs))

@@ -1,5 +1,6 @@
 -- `live` is safe and ends: one turn for each row. Assumes nothing.
 use Prim.Native.Nat.{_≤_, _-_}
+use native.Mathlib.Omega.{arith}
 use borrow.Author.Needs.{needs}
 use Rattle.brute.proofs.plain.live.Statement.{statement}
 use Rattle.brute.proofs.plain.live.Tie as tie
@@ -8,13 +9,14 @@ pub live-spec : {M : Type 1} → statement M
 live-spec =
     tie.close
     (tie.spec
-    (λ card t rows n₀ i₀ n i. i ≤ 12)
-    (λ card t rows n₀ i₀ n i. 12 - i)
+    (λ t rows n₀ i₀ n i. i ≤ 12)
+    (λ t rows n₀ i₀ n i. 12 - i)
     (search needs)
     (search needs)
     (search needs)
     (search needs)
     (search needs)
     (search needs)
-    (search needs)
+    (λ c. omega (arith, c .before .before .before .loop-test .taken))
+    (λ c. omega (arith, c .before .before .before .loop-test .taken))
     (search needs))

@@ -1,5 +1,6 @@
 -- `near_places` is safe and ends: one turn for each place. Assumes nothing.
 use Prim.Native.Nat.{_≤_, _-_}
+use native.Mathlib.Omega.{arith}
 use borrow.Author.Needs.{needs}
 use Rattle.brute.proofs.plain.near_places.Statement.{statement}
 use Rattle.brute.proofs.plain.near_places.Tie as tie
@@ -8,8 +9,8 @@ pub near-places-spec : {M : Type 1} → statement M
 near-places-spec =
     tie.close
     (tie.spec
-    (λ query card x y tolerance most n₀ j₀ n j. j ≤ most)
-    (λ query card x y tolerance most n₀ j₀ n j. most - j)
+    (λ asked x y tolerance most n₀ j₀ n j. j ≤ most)
+    (λ asked x y tolerance most n₀ j₀ n j. most - j)
     (search needs)
     (search needs)
     (search needs)
@@ -17,6 +18,6 @@ near-places-spec =
     (search needs)
     (search needs)
     (search needs)
-    (search needs)
-    (search needs)
+    (λ c. omega (arith, c .before .before .before .loop-test .taken))
+    (λ c. omega (arith, c .before .before .before .loop-test .taken))
     (search needs))

@@ -1,5 +1,6 @@
--- `sums` is safe and ends: every row with every row. Assumes nothing.
+-- `sums` is safe and ends: one turn for each pair of rows. Assumes nothing.
 use Prim.Native.Nat.{_≤_, _-_}
+use native.Mathlib.Omega.{arith}
 use borrow.Author.Needs.{needs}
 use Rattle.brute.proofs.plain.sums.Statement.{statement}
 use Rattle.brute.proofs.plain.sums.Tie as tie
@@ -8,12 +9,14 @@ pub sums-spec : {M : Type 1} → statement M
 sums-spec =
     tie.close
     (tie.spec
-    (λ query card f t rows m₀ x₀ m x. x ≤ 169)
-    (λ query card f t rows m₀ x₀ m x. 169 - x)
+    (λ asked f t fields trims m₀ x₀ m x. x ≤ 169)
+    (λ asked f t fields trims m₀ x₀ m x. 169 - x)
     (search needs)
     (search needs)
     (search needs)
     (search needs)
+    (λ c. c .before .loop-test .taken)
     (search needs)
-    (search needs)
+    (λ c. omega (arith, c .before .loop-test .taken))
+    (λ c. omega (arith, c .before .loop-test .taken))
     (search needs))
