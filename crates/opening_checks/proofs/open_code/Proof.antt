@@ -1,10 +1,10 @@
 -- `open_code` meets its contract: the query's number, then the tables'. Assumes nothing.
 use mathlib.Core.Path.{_∙_}
 use Rattle.rules.specs.Tables.{table}
-use Rattle.opening.specs.Codes.{open-is}
+use Rattle.opening_checks.specs.Codes.{open-is}
 use borrow.Author.Needs.{needs}
-use Rattle.opening.proofs.open_code.Statement.{statement}
-use Rattle.opening.proofs.open_code.Tie as tie
+use Rattle.opening_checks.proofs.open_code.Statement.{statement}
+use Rattle.opening_checks.proofs.open_code.Tie as tie
 
 query-code-requires : tie.Need-query-code-requires
 query-code-requires c κs = search needs

@@ -1,10 +1,10 @@
 -- `tables_code` meets its contract: check by check. Assumes nothing.
 use Rattle.rules.specs.Calls.{kindCode, sizeCode, cardsCode}
-use Rattle.opening.specs.Codes.{tablesCode}
+use Rattle.opening_checks.specs.Codes.{tablesCode}
 use mathlib.Core.Path.{refl}
 use borrow.Author.Needs.{needs}
-use Rattle.opening.proofs.tables_code.Statement.{statement}
-use Rattle.opening.proofs.tables_code.Tie as tie
+use Rattle.opening_checks.proofs.tables_code.Statement.{statement}
+use Rattle.opening_checks.proofs.tables_code.Tie as tie
 
 -- where all five checks have given their numbers, and where the first two have
 abbrev given : tie.After-first4 → tie.After-unless5
