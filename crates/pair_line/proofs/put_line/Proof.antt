@@ -47,7 +47,8 @@ returns c =
     let feed = c .before .before in
     let three = feed .before .before .before .before in
     let two = three .before .before .before .before in
-    let one = two .before .before .before .before .before .before in
+    let behind = two .before .before .before in
+    let one = behind .before .before .before in
     and-two 6 12 _ _ _ _ _ refl (one .put-two .ensures) (and-two 6 12 _ _ _ _ _ refl (two .put-two2 .ensures)
     (and-two 8 16 _ _ _ _ _ refl (three .put-two3 .ensures) (feed .put-feed .ensures)))
 

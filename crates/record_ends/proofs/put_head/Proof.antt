@@ -16,7 +16,9 @@ cast-low c = search needs
 cast-high : tie.Need-cast-high
 cast-high c =
     let fields = c .struct-known2 .given in
-    record { fits = omega (arith, fields .1 .1 .1 .1 .1 .1 .1 .0) }
+    let from-held = fields .1 .1 .1 .1 .1 in
+    let joined = from-held .1 .1 .0 in
+    record { fits = omega (arith, joined) }
 
 put-three-requires : tie.Need-put-three-requires
 put-three-requires c κs = search needs

@@ -24,14 +24,16 @@ same-length c = search needs
 returns : tie.Need-returns
 unfolding flatTail
 returns c =
-    let one = c .before .before .before .before .before .before in
-    let meaning = one .before .before .before .before .meaning-number in
-    let at = one .before .before .before .before .before .before .before in
+    let two = c .before .before in
+    let one = two .before .before .before .before in
+    let told = one .before .before .before .before in
+    let meaning = told .meaning-number in
+    let at = told .before .before .before in
     let q = at .args .s .query in
     let l : List ℕ = at .args .out .now in
     let x = q .weights .field .0 ∷ q .weights .trim .0 ∷ at .args .s .rows .card ∷ [] in
     let y : ℕ → List ℕ = λ m. q .tolerances .field .0 ∷ q .tolerances .trim .0 ∷ m ∷ [] in
-    c .before .before .put-three2 .ensures
+    two .put-three2 .ensures
     ∙ ap (laidAt fieldToleranceAt (y (meaning .result))) (one .put-three .ensures)
     ∙ ap (λ (m : ℕ). laidAt fieldToleranceAt (y m) (laidAt fieldWeightAt x l)) (meaning .ensures)
     ∙ laid-on fieldWeightAt x (y (meaningNumber (q .meaning))) l (omega (arith, at .pre))

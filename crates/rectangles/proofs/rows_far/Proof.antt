@@ -57,7 +57,7 @@ lowered-requires c κs = search needs
 
 -- where the loop stands, from the gap of its turn
 abbrev head : tie.After-lowered Inv-loop μ-loop → tie.At-loop Inv-loop μ-loop
-head c = c .before .before .before .before .before .before
+head c = let sides = c .before .before .before in sides .before .before .before
 
 -- one side more, at either branch
 turn : (c : tie.After-lowered Inv-loop μ-loop)
