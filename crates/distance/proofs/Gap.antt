@@ -1,18 +1,19 @@
 -- The gap of two signed numbers, as naturals: its size, and what subtracting at 64 bits and at 32 gives. Assumes
 -- nothing.
 use mathlib.Core.Path.{_≡_, refl, sym, ap, _∙_}
-use mathlib.Core.Bool.{Bool, true, false, cond}
+use mathlib.Core.Bool.{true, false}
 use Prim.Native.Nat.{ℕ, zero, suc, _+_, _-_, _≤_, _<_, _^_}
 use native.Mathlib.Omega.{arith}
 use lib.IntN.{ℤ, pos, negsuc, natAbs, subℕ, _-ℤ_}
 use lib.Signed.{leZ, mag, nonNeg}
-use lib.Dec.{T, ltb}
+use lib.Dec.{T}
 use mir.Syntax.{w32, w64}
 use mir.Val.{Fits, SFits, toZ, ofZ}
 use mir.Facts.{toZ-ofZ}
-use borrow.Author.Tests.{leb-true, leb-false, ltb-true, ltb-false, le-leb, le-ltb}
+use borrow.Author.Tests.{leb-true, leb-false, le-leb, le-ltb}
 use Rattle.lists.specs.Bools.{of-true}
 use Rattle.rules.specs.Tables.{gap}
+use Rattle.rules.specs.Whole.{abs-sub}
 
 -- the gap by the signs of the two numbers
 dist : ℤ → ℤ → ℕ
@@ -20,13 +21,6 @@ dist (pos a) (pos b) = (a - b) + (b - a)
 dist (pos a) (negsuc b) = a + suc b
 dist (negsuc a) (pos b) = suc a + b
 dist (negsuc a) (negsuc b) = (a - b) + (b - a)
-
-abs-sub : (a b : ℕ) → natAbs (subℕ a b) ≡ (a - b) + (b - a)
-abs-sub a b = go (ltb a b) refl
-  where
-    go : (t : Bool) → ltb a b ≡ t → natAbs (cond t (negsuc (b - suc a)) (pos (a - b))) ≡ (a - b) + (b - a)
-    go true e = let h : a < b = ltb-true a b e in omega arith
-    go false e = let h : b ≤ a = ltb-false a b e in omega arith
 
 gap-is : (x y : ℤ) → gap x y ≡ dist x y
 unfolding gap dist
@@ -55,16 +49,6 @@ total (pos a) (pos b) h = le-leb a b (let k : a < b = leb-false b a h in omega a
 total (pos a) (negsuc b) h = absurd (of-true (sym h))
 total (negsuc a) (pos b) h = refl
 total (negsuc a) (negsuc b) h = le-leb b a (let k : b < a = leb-false a b h in omega arith)
-
-dist-sym : (x y : ℤ) → dist x y ≡ dist y x
-unfolding dist
-dist-sym (pos a) (pos b) = omega arith
-dist-sym (pos a) (negsuc b) = omega arith
-dist-sym (negsuc a) (pos b) = omega arith
-dist-sym (negsuc a) (negsuc b) = omega arith
-
-pub gap-sym : (x y : ℤ) → gap x y ≡ gap y x
-gap-sym x y = gap-is x y ∙ dist-sym x y ∙ sym (gap-is y x)
 
 dist-below : (x y : ℤ) → mag x < 2 ^ 31 → mag y < 2 ^ 31 → dist x y < 2 ^ 32
 unfolding dist

@@ -8,8 +8,6 @@ use native.Mathlib.Numerals.{add-one}
 use native.Mathlib.Omega.{arith}
 use lib.Dec.{eqb}
 use lib.IntN.{ℤ, pos}
-use lib.ListN.{getD, drop}
-use lib.Seq.{getD-take, getD-drop}
 use lib.Signed.{leZ}
 use borrow.Author.Tests.{eq-eqb, ne-eqb, eqb-false}
 use Rattle.lists.specs.Lists.{every, range}
@@ -17,7 +15,7 @@ use Rattle.lists.specs.Parts.{every-same, mem-range}
 use Rattle.rules.specs.declared.Loaded.the-variants.{Rows, Unfit}
 use Rattle.rules.specs.Tables.{Table, width, num, HasRow, within, coordinateFits, fitsAt, shadeFits, shadeAt}
 use Rattle.rules.specs.Tables.{rowInRange, rowInOrder}
-use Rattle.rules.specs.Widths.{next-row, shade-length}
+use Rattle.rules.specs.Widths.{next-row, shade-length, shade-num}
 use Rattle.rules.specs.Calls.{rowCode}
 use Rattle.rules.specs.File.{isSigned, columnAt, columnFitsAt, numberAt, rowStart, rowColumnsFit}
 use Rattle.rules.specs.File.{fileTable, fileRowCode, andRow, rowsLoaded}
@@ -26,15 +24,6 @@ use Rattle.file_laws.specs.Table.{table-length, table-num}
 use Rattle.row_ranges.specs.Ranges.{in-range-parts}
 use Rattle.column.specs.Column.{number-held}
 use Rattle.file_row.specs.Held.{heldAt, columnsHeld, coordinateHeld, numbersHeld, rowHeld, heldRowCode}
-
--- coordinate k of a row
-shade-num : (t : Table) (i k : ℕ) → k < t .coordinates → getD (shadeAt t i) k (pos 0) ≡ num t i (k + 2)
-shade-num t i k h =
-    let o = width (t .coordinates) * i + 2 in
-    let e : o + k ≡ width (t .coordinates) * i + (k + 2) = omega arith in
-    getD-take (t .coordinates) (drop o (t .numbers)) k (pos 0) h
-    ∙ getD-drop o (t .numbers) k (pos 0)
-    ∙ ap (λ (p : ℕ). getD (t .numbers) p (pos 0)) e
 
 -- what is read of a row that fits are the file's numbers
 module _ (n : ℕ) (bytes : List ℕ) (i : ℕ) (fit : rowColumnsFit n bytes i ≡ true) (m : ℕ) (h : i < m) where

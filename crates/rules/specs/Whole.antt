@@ -30,7 +30,7 @@ Below x y = plus x + minus y < plus y + minus x
 
 -- ---- The gap of two numbers
 
-abs-sub : (a b : ℕ) → natAbs (subℕ a b) ≡ (a - b) + (b - a)
+pub abs-sub : (a b : ℕ) → natAbs (subℕ a b) ≡ (a - b) + (b - a)
 abs-sub a b = go (ltb a b) refl
   where
     go : (t : Bool) → ltb a b ≡ t → natAbs (cond t (negsuc (b - suc a)) (pos (a - b))) ≡ (a - b) + (b - a)
@@ -88,7 +88,7 @@ not-lt-is (negsuc a) (negsuc b) e = let h : a ≤ b = ltb-false b a e in omega a
 
 -- ---- A number moved up or down
 
-sub-is : (a b : ℕ) → plus (subℕ a b) + b ≡ minus (subℕ a b) + a
+pub sub-is : (a b : ℕ) → plus (subℕ a b) + b ≡ minus (subℕ a b) + a
 sub-is a b = go (ltb a b) refl
   where
     go : (t : Bool) → ltb a b ≡ t

@@ -5,25 +5,17 @@ use mathlib.Core.Bool.{Bool, true, false, cond}
 use mathlib.Core.Logic.{_⊎_, inl, inr}
 use Prim.Native.Nat.{ℕ, zero, suc, _+_, _-_, _≤_, _<_, _^_}
 use native.Mathlib.Omega.{arith}
-use lib.IntN.{ℤ, pos, negsuc, natAbs, subℕ, _-ℤ_}
+use lib.IntN.{ℤ, pos, negsuc, natAbs, _-ℤ_}
 use lib.Signed.{ltZ, nonNeg}
-use lib.Dec.{T, ltb}
+use lib.Dec.{T}
 use mir.Syntax.{w32, w64}
 use mir.Val.{SFits, toZ, ofZ}
 use mir.Facts.{toZ-ofZ}
-use borrow.Author.Tests.{ltb-true, ltb-false}
 use Rattle.rules.specs.declared.Side.{Side}
 use Rattle.rules.specs.Tables.{gap, sideGap}
-use Rattle.rules.specs.Whole.{plus, minus, Below, apart, apart-le, lt-is, not-lt-is}
+use Rattle.rules.specs.Whole.{plus, minus, Below, apart, apart-le, lt-is, not-lt-is, sub-is}
 
 -- ---- Differences
-
-sub-both : (a b : ℕ) → plus (subℕ a b) + b ≡ minus (subℕ a b) + a
-sub-both a b = go (ltb a b) refl
-  where
-    go : (t : Bool) → ltb a b ≡ t → let z = cond t (negsuc (b - suc a)) (pos (a - b)) in plus z + b ≡ minus z + a
-    go true e = let h : a < b = ltb-true a b e in omega arith
-    go false e = let h : b ≤ a = ltb-false a b e in omega arith
 
 -- z is x less y
 abbrev Less : ℤ → ℤ → ℤ → Type 0
@@ -31,11 +23,11 @@ Less x y z = plus z + (plus y + minus x) ≡ minus z + (plus x + minus y)
 
 less : (x y : ℤ) → Less x y (x -ℤ y)
 less (pos a) (pos zero) = omega arith
-less (pos a) (pos (suc b)) = omega (arith, sub-both a (suc b))
+less (pos a) (pos (suc b)) = omega (arith, sub-is a (suc b))
 less (pos a) (negsuc b) = omega arith
-less (negsuc a) (pos zero) = omega (arith, sub-both 0 (suc a))
+less (negsuc a) (pos zero) = omega (arith, sub-is 0 (suc a))
 less (negsuc a) (pos (suc b)) = omega arith
-less (negsuc a) (negsuc b) = omega (arith, sub-both (suc b) (suc a))
+less (negsuc a) (negsuc b) = omega (arith, sub-is (suc b) (suc a))
 
 small : (x : ℤ) → SFits w32 x → (plus x < 2 ^ 31) × (minus x ≤ 2 ^ 31)
 small (pos a) f = omega (arith, f .sfits)

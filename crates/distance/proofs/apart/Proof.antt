@@ -2,6 +2,7 @@
 use mathlib.Core.Path.{_≡_, refl}
 use mathlib.Core.Bool.{true}
 use lib.Signed.{leZ}
+use Rattle.rules.specs.Whole.{gap-sym}
 use Rattle.distance.proofs.Gap as G
 use Rattle.distance.proofs.apart.Statement.{statement}
 use Rattle.distance.proofs.apart.Tie as tie
@@ -41,7 +42,7 @@ returns-2 : tie.Need-returns-2
 returns-2 c =
     let s = c .before in
     rw (G.cast-is (s .args .y) (s .args .x) (s .fits .y) (s .fits .x) (other c))
-    (G.gap-sym (s .args .y) (s .args .x), G.gap-below (s .args .y) (s .args .x) (s .fits .y) (s .fits .x))
+    (gap-sym (s .args .y) (s .args .x), G.gap-below (s .args .y) (s .args .x) (s .fits .y) (s .fits .x))
 
 pub apart-spec : {M : Type 1} → statement M
 apart-spec =

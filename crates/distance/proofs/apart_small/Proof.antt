@@ -2,6 +2,7 @@
 use mathlib.Core.Path.{_≡_, refl}
 use mathlib.Core.Bool.{true}
 use lib.Signed.{leZ}
+use Rattle.rules.specs.Whole.{gap-sym}
 use Rattle.distance.proofs.Gap as G
 use Rattle.distance.proofs.apart_small.Statement.{statement}
 use Rattle.distance.proofs.apart_small.Tie as tie
@@ -31,7 +32,7 @@ returns-2 : tie.Need-returns-2
 returns-2 c =
     let s = c .before in
     rw (G.cast-is-small (s .args .y) (s .args .x) (s .pre .1) (s .pre .0) (other c))
-    (G.gap-sym (s .args .y) (s .args .x), G.gap-small (s .args .y) (s .args .x) (s .pre .1) (s .pre .0))
+    (gap-sym (s .args .y) (s .args .x), G.gap-small (s .args .y) (s .args .x) (s .pre .1) (s .pre .0))
 
 pub apart-small-spec : {M : Type 1} → statement M
 apart-small-spec =
