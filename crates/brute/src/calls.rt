@@ -15,6 +15,7 @@ use rules::TrimKind;
 use rules::TrimTolerance;
 use rules::TrimWeight;
 use rules::Weights;
+use std::num::wrapping_add_u32;
 
 // How many numbers so many rows have on a card of 2 or 3 coordinates.
 pub fn numbers(card: u32, rows: u32) -> u32 {
@@ -48,12 +49,20 @@ pub fn first(t: &[i32], n: u32) -> &[i32] {
     t
 }
 
-fn kinds_on(card: u32) -> Kinds {
-    let more = 2 * (card % 2);
+// The kind of a card's field table (1) or trim table (2).
+pub fn kind(card: u32, table: u32) -> u32 {
+    wrapping_add_u32(table, 2 * (card % 2))
+}
+
+fn kinds(field: u32, trim: u32) -> Kinds {
     Kinds {
-        field: FieldKind(1 + more),
-        trim: TrimKind(2 + more),
+        field: FieldKind(field),
+        trim: TrimKind(trim),
     }
+}
+
+fn kinds_on(card: u32) -> Kinds {
+    kinds(kind(card, 1), kind(card, 2))
 }
 
 fn meaning(surely: bool) -> Meaning {
@@ -63,7 +72,7 @@ fn meaning(surely: bool) -> Meaning {
     Meaning::Possibly
 }
 
-fn query_of(a: Asked) -> Query {
+pub fn query_of(a: Asked) -> Query {
     let weights = Weights {
         field: FieldWeight(a.field_weight),
         trim: TrimWeight(a.trim_weight),
@@ -82,8 +91,13 @@ fn query_of(a: Asked) -> Query {
     }
 }
 
+// An opening of tables of these kinds.
+pub fn open_as(f: &[i32], t: &[i32], a: Asked, field: u32, trim: u32) -> Step {
+    opening::start(query_of(a), kinds(field, trim), f, t)
+}
+
 pub fn open(f: &[i32], t: &[i32], a: Asked) -> Step {
-    opening::start(query_of(a), kinds_on(a.card), f, t)
+    open_as(f, t, a, kind(a.card, 1), kind(a.card, 2))
 }
 
 // A read or a take.

@@ -38,6 +38,8 @@ pub const HELD: u32 = 13;
 
 pub const SHOWN: u32 = 14;
 
+pub const REFUSAL: u32 = 15;
+
 // A session as its caller sees it after a call.
 pub struct Seen {
     // The pairs brought out, in order.

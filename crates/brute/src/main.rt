@@ -14,6 +14,7 @@ mod made;
 mod plain;
 mod play;
 mod record;
+mod refused;
 mod tally;
 mod wrong;
 
@@ -143,6 +144,17 @@ fn answers(a: &[u64; 48]) {
     line(a, due::FINISHED, b"finished: ");
 }
 
+// The refused calls, by number.
+fn refusals(a: &[u64; 48]) {
+    for i in 1u32..20 {
+        if a[i as usize] != 0 {
+            io::write_all(STDOUT_FILENO, b"refused by ");
+            io::print_decimal(STDOUT_FILENO, i as u64);
+            line(a, i, b": ");
+        }
+    }
+}
+
 // How often the row limit was met, and what went wrong.
 fn ends(a: &[u64; 48]) {
     line(a, tally::EXACT, b"limits reached exactly: ");
@@ -161,5 +173,6 @@ fn main() {
     cases(&tally);
     blocks(&tally);
     answers(&tally);
+    refusals(&tally);
     ends(&tally);
 }

@@ -11,11 +11,13 @@ use crate::plain::Asked;
 use crate::plain::Sums;
 use crate::record;
 use crate::record::Record;
+use crate::refused;
 use crate::tally;
 use rules::Answer;
 use rules::Pair;
 use rules::Session;
 use std::num::wrapping_add_u32;
+use std::num::wrapping_add_u64;
 use std::num::wrapping_sub_u32;
 
 // A session, and what its caller has seen of it.
@@ -61,7 +63,7 @@ fn opened(c: Case, m: &Sums, f: &[i32], t: &[i32], a: Asked) -> Played {
 }
 
 // After a read as many rows must be shown as were read.
-fn hidden<'a>(
+pub fn hidden<'a>(
     f: &'a [i32],
     t: &'a [i32],
     after: Session,
@@ -71,7 +73,7 @@ fn hidden<'a>(
 ) -> u32 {
     let fields = wrapping_sub_u32(r[record::FIELD_DEPTH], s[record::FIELD_DEPTH]);
     let trims = wrapping_sub_u32(r[record::TRIM_DEPTH], s[record::TRIM_DEPTH]);
-    let read = calls::numbers(r[0], wrapping_add_u32(fields, trims));
+    let read = calls::numbers(r[record::CARD], wrapping_add_u32(fields, trims));
     let shows = calls::shown(f, t, after) == read;
     when((said == due::READ) & !shows, judge::SHOWN, 0)
 }
@@ -128,6 +130,28 @@ fn counted(seen: Seen, tally: &mut [u64; 48]) {
     tally::count_if(tally, tie, tally::TIES);
 }
 
+// A seed for a step of a seed's session.
+fn step_seed(seed: u64, step: u64) -> u64 {
+    wrapping_add_u64(seed << 16, step)
+}
+
+// The calls that must be refused before a step.
+fn refused_at<'a>(
+    c: Case,
+    m: &Sums,
+    f: &'a [i32],
+    t: &'a [i32],
+    now: Session,
+    seed: u64,
+    tally: &mut [u64; 48],
+) {
+    let s = record::numbers(now);
+    refused::calls_at(f, t, &s, seed, tally);
+    if !due::sure(c, m, s[record::FIELD_DEPTH], s[record::TRIM_DEPTH]) {
+        refused::read_at(f, t, &s, seed, tally);
+    }
+}
+
 // A session from its opening to its end, and a read and a take after it.
 pub fn whole<'a>(
     c: Case,
@@ -140,10 +164,12 @@ pub fn whole<'a>(
 ) -> Played {
     let order = dice::below(seed, 9, 4);
     let mut now = opened(c, m, f, t, a);
+    refused::openings(f, t, a, seed, tally);
     for step in 1000u64..1600 {
         let said = now.seen.said;
         if said != due::FINISHED {
             let is_read = read_next(order, said, dice::one_in(seed, step, 2));
+            refused_at(c, m, f, t, now.session, step_seed(seed, step), tally);
             now = called(c, m, f, t, now, is_read);
             counted(now.seen, tally);
         }

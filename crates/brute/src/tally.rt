@@ -1,4 +1,4 @@
-// Counters. Places 20 to 25 count answers by their number.
+// Counters. Places 1 to 19 count refused calls, 20 to 25 answers, by their number.
 
 pub const CASES: u32 = 30;
 

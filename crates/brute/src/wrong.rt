@@ -17,6 +17,7 @@ use crate::plain::pair;
 use crate::play;
 use crate::record;
 use crate::record::Record;
+use crate::refused;
 use libc::STDOUT_FILENO;
 use rules::Pair;
 use std::num::wrapping_add_u32;
@@ -250,6 +251,43 @@ fn wrong_query() {
     );
 }
 
+// Says whether this fault is found in an opening that is to be refused by a number and to give back this record.
+fn refusal(name: &[u8], k: u32, s: &Record, number: u32, fault: u32) {
+    let f = field();
+    let t = trim();
+    let step = calls::open(
+        calls::first(&f, 12),
+        calls::first(&t, 12),
+        asked(2, k, 0, 0),
+    );
+    line(name, refused::kept(step, s, number) == fault);
+}
+
+fn wrong_refusals() {
+    let zeros = [0u32; 209];
+    let open = reads(0);
+    refusal(b"a right refusal, no fault", 0, &zeros, 1, 0);
+    refusal(b"refused by another number", 0, &zeros, 2, judge::REFUSAL);
+    refusal(b"not refused", 3, &open, 1, judge::REFUSAL);
+    refusal(b"refused, with another record", 0, &open, 1, judge::CHANGED);
+}
+
+// As if the last of three reads had read nothing.
+fn wrong_shown() {
+    let f = field();
+    let t = trim();
+    let r = reads(3);
+    let found = play::hidden(
+        calls::first(&f, 12),
+        calls::first(&t, 12),
+        record::session(&r),
+        &r,
+        &r,
+        READ,
+    );
+    line(b"rows shown that were not read", found == judge::SHOWN);
+}
+
 pub fn all() {
     finds(b"a right list, no fault", three(), right(), 0);
     wrong_pairs();
@@ -260,4 +298,6 @@ pub fn all() {
     wrong_session();
     wrong_records();
     wrong_query();
+    wrong_refusals();
+    wrong_shown();
 }

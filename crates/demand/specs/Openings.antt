@@ -6,7 +6,7 @@ use mathlib.Core.List.{List}
 use Rattle.rules.specs.declared.Query.{Query}
 use Rattle.rules.specs.declared.Step.{Step}
 use Rattle.rules.specs.declared.Answer.the-variants.{Opened}
-use Rattle.rules.specs.Tables.{Table, rowCount}
+use Rattle.rules.specs.Tables.{Table}
 use Rattle.rules.specs.Session.{twoTables, opened}
 use Rattle.rules.specs.Calls.{queryCode, isCard, step, openCall}
 use Rattle.session_laws.specs.Calls.{OneCard, opened-query, opened-cards, legal-opened}

@@ -12,6 +12,7 @@ use mir.Val.{Fits, SFits, toZ, ofZ}
 use mir.Facts.{toZ-ofZ}
 use borrow.Author.Tests.{leb-true, leb-false, le-leb, le-ltb}
 use Rattle.lists.specs.Bools.{of-true}
+use Rattle.lists.specs.Wide.{wide, wide-is}
 use Rattle.rules.specs.Tables.{gap}
 use Rattle.rules.specs.Whole.{abs-sub}
 
@@ -69,16 +70,6 @@ dist-mag (negsuc a) (negsuc b) = omega arith
 
 pub gap-mag : (x y : ℤ) → gap x y ≤ mag x + mag y + 1
 gap-mag x y = rw (gap-is x y) (dist-mag x y)
-
--- a 32-bit number widened to 64 bits, as the code has it
-abbrev pub wide : ℤ → ℤ
-wide z = toZ w64 (ofZ w64 (toZ w32 (ofZ w32 z)))
-
-pub fits-wide : (z : ℤ) → SFits w32 z → SFits w64 (toZ w32 (ofZ w32 z))
-fits-wide z h = rw (toZ-ofZ h) (record { sfits = omega arith })
-
-wide-is : (z : ℤ) → SFits w32 z → wide z ≡ z
-wide-is z h = toZ-ofZ {w = w64} (fits-wide z h) ∙ toZ-ofZ h
 
 -- x - y where y <= x, both widened: it fits, it may be cast, and the cast is the gap
 module _ (x y : ℤ) (f : SFits w32 x) (g : SFits w32 y) (h : leZ (wide y) (wide x) ≡ true) where

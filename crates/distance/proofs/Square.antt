@@ -1,23 +1,19 @@
 -- Squares of gaps: they fit, and how a loop over coordinates adds them up. Assumes nothing.
 use mathlib.Core.Path.{_≡_}
 use mathlib.Core.List.{List}
-use Prim.Native.Nat.{ℕ, _+_, _*_, _≤_, _<_, _^_}
+use Prim.Native.Nat.{ℕ, _+_, _*_, _≤_, _<_}
 use native.Mathlib.Nat.{mul-le-mul}
 use native.Mathlib.Omega.{arith}
 use native.Mathlib.Numerals.{add-one}
 use lib.IntN.{ℤ, pos}
 use lib.ListN.{length, take}
-use mir.Syntax.{w32, w64}
+use mir.Syntax.{w32}
 use mir.Val.{Fits}
 use Rattle.rules.specs.Tables.{squares}
 use Rattle.rules.specs.Squares.{squareAt, squares-more, squares-all}
 
 square-le : {m n : ℕ} → m ≤ n → m * m ≤ n * n
 square-le h = mul-le-mul h h
-
-pub square-fits : (n : ℕ) → n < 2 ^ 32 → Fits w64 (n * n)
-square-fits n h = record
-    { fits = (let k : n * n ≤ 4294967295 * 4294967295 = square-le {n = 4294967295} (omega arith) in omega arith) }
 
 -- the squares of three small gaps, each with tolerances, fit 32 bits together
 pub square-small : (n : ℕ) → n < 33768 → n * n ≤ 1140210289

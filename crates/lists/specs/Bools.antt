@@ -1,7 +1,7 @@
 -- Laws of Booleans: tests that pass, fail, and stand together. A law that ends in -out says what follows from a test
 -- made of others, one that ends in -in what makes it pass. Assumes nothing.
 use mathlib.Core.Path.{_≡_, refl, sym, subst, _∙_}
-use mathlib.Core.Bool.{Bool, true, false, _&&_, _||_, true≢false}
+use mathlib.Core.Bool.{Bool, true, false, cond, _&&_, _||_, true≢false}
 use mathlib.Core.List.{List, [], _∷_}
 use mathlib.Core.Logic.{_⊎_, inl, inr}
 use Prim.Native.Nat.{ℕ, zero, suc}
@@ -20,6 +20,11 @@ fails false h = refl
 
 pub of-true : {b : Bool} → b ≡ true → T b
 of-true e = subst T (sym e) tt
+
+-- a choice between equals
+pub cond-same : {A : Type 0} (b : Bool) (x : A) → cond b x x ≡ x
+cond-same true x = refl
+cond-same false x = refl
 
 -- ---- And
 

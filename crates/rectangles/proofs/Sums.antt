@@ -3,15 +3,12 @@
 use mathlib.Core.Path.{_≡_, sym, ap₂, _∙_}
 use mathlib.Core.Bool.{true, false}
 use mathlib.Core.List.{List}
-use Prim.Native.Nat.{ℕ, _+_, _*_, _-_, _≤_, _<_, _^_}
-use native.Mathlib.Nat.{mul-le-mul}
+use Prim.Native.Nat.{ℕ, _+_, _*_, _-_, _≤_, _<_}
 use native.Mathlib.Omega.{arith}
 use native.Mathlib.Numerals.{add-one}
 use lib.Dec.{ltb}
 use lib.IntN.{ℤ}
 use lib.ListN.{getD, take}
-use mir.Syntax.{w64}
-use mir.Val.{Fits}
 use borrow.Author.Tests.{lt-ltb, le-ltb, ltb-false}
 use Rattle.rules.specs.declared.Query.{Query}
 use Rattle.rules.specs.declared.Side.{Side}
@@ -22,12 +19,6 @@ use Rattle.rules.specs.Squares.{squareAt, squares-more, squares-first, squares-
 use Rattle.rules.specs.Rectangles.{noSide, apartSquare, far-first}
 use Rattle.sides.specs.Sides.{sideIn, sidesIn, firstSides}
 use Rattle.sides.specs.SideLaws.{in-length, in-at, first-length, first-at, first-rectangle, all-first}
-
-pub square-fits : (n : ℕ) → n < 2 ^ 32 → Fits w64 (n * n)
-square-fits n h =
-    let most : n ≤ 4294967295 = omega arith in
-    let k : n * n ≤ 4294967295 * 4294967295 = mul-le-mul most most in
-    record { fits = omega arith }
 
 -- gaps are lowered by so much
 module _ (less : ℕ) (l : List ℤ) (t : Table) (m : ℕ) where

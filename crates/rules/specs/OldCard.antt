@@ -14,7 +14,7 @@ use Rattle.lists.specs.Bools.{and-true}
 use Rattle.rules.specs.declared.Query.{Query}
 use Rattle.rules.specs.Tables.{oldTable, rowCount, sizeFits, within, coordinateFits, fitsAt, shadeFits, inRange}
 use Rattle.rules.specs.Tables.{rowInRange, shadeAt, gap, squares, squaredDistance, tolerance, qualifies}
-use Rattle.rules.specs.File.{columns, columnFits, columnNumber, endsLine, columnStart, rowBytes, rowStart}
+use Rattle.rules.specs.File.{columns, columnFits, columnNumber, endsLine, columnStart, rowBytes}
 use Rattle.rules.specs.File.{columnFitsAt, numberAt, rowColumnsFit, rowNumbers}
 use Rattle.rules.specs.Query.{mostFileBytes}
 use Rattle.rules.specs.Tolerances.{qualifies-exact}

@@ -19,7 +19,7 @@ use Rattle.rules.specs.File.{loadAnswer, loadNumbers}
 use Rattle.rules.specs.Root.{root, remainder}
 use Rattle.rules.specs.Query.{readUntilSettled, settledSession, list, pairLine, wholeQuery, refusalLine}
 use Rattle.rules.specs.Run.{run}
-use Rattle.rules.specs.Example.{bytes, fieldFile, trimFile, fields, trims, query, afterReads}
+use Rattle.rules.specs.Example.{bytes, fieldFile, fields, trims, query, afterReads}
 
 -- ---- Where the last block begins: a whole one, and a short one
 

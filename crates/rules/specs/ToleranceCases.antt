@@ -15,7 +15,7 @@ use Rattle.rules.specs.Numbers.{said}
 use Rattle.rules.specs.Calls.{queryCode, recordCode, openCode, openCall, readCall, takeCall}
 use Rattle.rules.specs.Query.{settledSession, list}
 use Rattle.rules.specs.Run.{run}
-use Rattle.rules.specs.Example.{fields, trims, query, afterReads}
+use Rattle.rules.specs.Example.{query, afterReads}
 use Rattle.rules.specs.Small.{asked, weighing, withQuery}
 
 -- a query with these tolerances, and this made of them

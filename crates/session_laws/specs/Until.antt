@@ -12,7 +12,7 @@ use Rattle.rules.specs.declared.Step.{Step}
 use Rattle.rules.specs.declared.Answer.the-variants.{Refused, Opened}
 use Rattle.rules.specs.declared.Pair.{Pair}
 use Rattle.rules.specs.declared.Query.{Query}
-use Rattle.rules.specs.Tables.{Table, rowCount}
+use Rattle.rules.specs.Tables.{Table}
 use Rattle.rules.specs.Session.{twoTables, opened, zeros}
 use Rattle.rules.specs.Read.{fieldNext}
 use Rattle.rules.specs.Take.{movedOut}

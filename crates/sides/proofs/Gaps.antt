@@ -1,6 +1,6 @@
 -- The gap of two sides at 64 bits: differences of 32-bit numbers fit, and the one that the tests choose is the gap.
 -- Assumes nothing.
-use mathlib.Core.Path.{_≡_, refl, sym, subst, _∙_}
+use mathlib.Core.Path.{_≡_, refl, sym, subst}
 use mathlib.Core.Bool.{Bool, true, false, cond}
 use mathlib.Core.Logic.{_⊎_, inl, inr}
 use Prim.Native.Nat.{ℕ, zero, suc, _+_, _-_, _≤_, _<_, _^_}
@@ -11,6 +11,7 @@ use lib.Dec.{T}
 use mir.Syntax.{w32, w64}
 use mir.Val.{SFits, toZ, ofZ}
 use mir.Facts.{toZ-ofZ}
+use Rattle.lists.specs.Wide.{wide, wide-is}
 use Rattle.rules.specs.declared.Side.{Side}
 use Rattle.rules.specs.Tables.{gap, sideGap}
 use Rattle.rules.specs.Whole.{plus, minus, Below, apart, apart-le, lt-is, not-lt-is, sub-is}
@@ -37,16 +38,6 @@ small (negsuc a) f = omega (arith, f .sfits)
 fits-by : (z : ℤ) (m n : ℕ) → plus z + m ≡ minus z + n → m ≤ 2 ^ 32 → n ≤ 2 ^ 32 → SFits w64 z
 fits-by (pos a) m n e h k = record { sfits = omega arith }
 fits-by (negsuc a) m n e h k = record { sfits = omega arith }
-
--- a 32-bit number widened to 64 bits, as the code has it
-abbrev pub wide : ℤ → ℤ
-wide z = toZ w64 (ofZ w64 (toZ w32 (ofZ w32 z)))
-
-pub fits-wide : (z : ℤ) → SFits w32 z → SFits w64 (toZ w32 (ofZ w32 z))
-fits-wide z h = rw (toZ-ofZ h) (record { sfits = omega (arith, h .sfits) })
-
-wide-is : (z : ℤ) → SFits w32 z → wide z ≡ z
-wide-is z h = toZ-ofZ {w = w64} (fits-wide z h) ∙ toZ-ofZ h
 
 -- the difference of two, as the code has it
 abbrev pub difference : ℤ → ℤ → ℤ

@@ -11,7 +11,7 @@ use lib.Dec.{leb, eqb}
 use lib.ListN.{length, take}
 use borrow.Author.Tests.{leb-true, leb-false, le-leb, lt-leb, eqb-true, eqb-false, ne-eqb}
 use Rattle.lists.specs.Lists.{atLeast, every}
-use Rattle.lists.specs.Bools.{clash}
+use Rattle.lists.specs.Bools.{clash, cond-same}
 use Rattle.lists.specs.Sorts.{all-at}
 use Rattle.lists.specs.Parts.{every-of}
 use Rattle.join.specs.Join as Join
@@ -71,11 +71,7 @@ secured-high f t s p hd he h =
       ne-eqb (s .depth .trim .0) 0 (λ z. omega arith),
       le-leb (ceiling f t s) (p .sum) h,
     )
-    (go (bothReadOut f t s))
-  where
-    go : (b : Bool) → cond b true true ≡ true
-    go true = refl
-    go false = refl
+    (cond-same (bothReadOut f t s) true)
 
 module _ {q : Query} {f t : Table} {out : List Pair} {s : Session} (a : Reached q f t out s) where
   abbrev d : ℕ

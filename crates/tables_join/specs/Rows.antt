@@ -1,7 +1,7 @@
 -- The rules' tables as plain tables of the join, lists of rows: legal tables and their rows correspond one to one,
 -- and keep the laws of the join. Assumes nothing.
 use mathlib.Core.Path.{_≡_, refl, sym, ap, ap₂, subst, subst₂, _∙_}
-use mathlib.Core.Bool.{Bool, true, false, cond, _&&_, _||_, not}
+use mathlib.Core.Bool.{Bool, true, false, _&&_, _||_, not}
 use mathlib.Core.List.{List, [], _∷_, _++_, map}
 use mathlib.Core.Logic.{⊎-elim}
 use Prim.Native.Nat.{ℕ, zero, suc, _+_, _*_, _-_, _/_, _%_, _≤_, _<_}
@@ -18,7 +18,7 @@ use lib.Seq.{ext-getD, take-nil, drop-nil, take-at, take-append-add, drop-append
 use lib.Seq.{getD-drop}
 use borrow.Author.Tests.{leb-true, le-leb, eqb-true, eqb-false, eq-eqb, ne-eqb, lt-leb}
 use Rattle.lists.specs.Lists.{range}
-use Rattle.lists.specs.Bools.{clash, and-false, or-out}
+use Rattle.lists.specs.Bools.{clash, cond-same, and-false, or-out}
 use Rattle.lists.specs.Parts.{map-range-at, length-map-range, every-of, mem-range}
 use Rattle.join.specs.Join.{Side, Laws}
 use Rattle.join.specs.Plain.{Rows, PlainLegal}
@@ -440,11 +440,7 @@ some-live n = refl
 
 zero-in : (k : ℕ) → coordinateFits k (pos 0) ≡ true
 unfolding coordinateFits within
-zero-in k = go (ltb k 2)
-  where
-    go : (b : Bool) → cond b true true ≡ true
-    go true = refl
-    go false = refl
+zero-in k = cond-same (ltb k 2) true
 
 zeros-fit : (n : ℕ) → shadeFits (replicate n (pos 0)) ≡ true
 unfolding shadeFits fitsAt

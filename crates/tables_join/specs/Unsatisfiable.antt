@@ -1,9 +1,9 @@
 -- A query that nothing can meet: every read of it answers settled, every take finished, nothing is read and the list is
 -- empty. (That 0 and 0 is sure of it stands in Sure.antt.) Assumes legal tables for the whole query alone.
 use mathlib.Core.Path.{_≡_, ap, _∙_}
-use mathlib.Core.Bool.{true, false, _||_}
+use mathlib.Core.Bool.{true}
 use mathlib.Core.List.{[]}
-use Prim.Native.Nat.{ℕ, suc, _+_, _<_}
+use Prim.Native.Nat.{suc, _+_, _<_}
 use native.Mathlib.Omega.{arith}
 use lib.Dec.{eqb}
 use lib.ListN.{length, length-replicate}

@@ -7,7 +7,6 @@ use borrow.Author.Tests.{lt-ltb, le-ltb, eq-eqb, ne-eqb}
 use Rattle.rules.specs.Session.{lentTable}
 use Rattle.rules.specs.Read.{fieldNextBy, fieldNext}
 use Rattle.table_ends.specs.BothRead.{RowsRead, accepted-rows}
-use borrow.Author.Needs.{needs}
 use Rattle.choosing.proofs.field_next.Statement.{statement}
 use Rattle.choosing.proofs.field_next.Tie as tie
 

@@ -3,9 +3,9 @@ use mathlib.Core.Path.{ap}
 use Prim.Native.Nat.{ℕ, _*_}
 use lib.IntN.{pos}
 use lib.ListN.{getD}
+use Rattle.lists.specs.Wide.{square-fits}
 use Rattle.rules.specs.Squares.{squareAt}
 use Rattle.distance.proofs.Gap as G
-use Rattle.distance.proofs.Square as S
 use borrow.Author.Needs.{needs}
 use Rattle.distance.proofs.square_at.Statement.{statement}
 use Rattle.distance.proofs.square_at.Tie as tie
@@ -26,7 +26,7 @@ apart-requires : tie.Need-apart-requires
 apart-requires c κs = search needs
 
 mul-result : tie.Need-mul-result
-mul-result c = S.square-fits (c .apart .result) (c .apart .ensures .1)
+mul-result c = square-fits (c .apart .result) (c .apart .ensures .1)
 
 returns : tie.Need-returns
 unfolding squareAt

@@ -1,5 +1,5 @@
 -- `put_row` meets its contract, whichever code is chosen. Assumes nothing.
-use mathlib.Core.Path.{subst, sym}
+use mathlib.Core.Path.{subst}
 use Prim.Native.Nat.{ℕ, _+_, _≤_}
 use lib.ListN.{length}
 use Rattle.rules.specs.Tables.{width}

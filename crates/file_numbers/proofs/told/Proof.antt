@@ -1,12 +1,12 @@
 -- `told` meets its contract. Assumes nothing.
 use mathlib.Core.Path.{_≡_, sym, ap, subst, _∙_}
-use Prim.Native.Nat.{ℕ, _+_, _*_, _≤_}
+use Prim.Native.Nat.{_+_, _*_, _≤_}
 use native.Mathlib.Omega.{arith}
 use native.Mathlib.Nat.{mul-le-mul}
 use lib.IntN.{pos}
 use mir.Syntax.{w32}
 use mir.Facts.{toZ-ofZ, toZ-pos}
-use Rattle.rules.specs.declared.Loaded.the-variants.{Rows, Unfit}
+use Rattle.rules.specs.declared.Loaded.the-variants.{Unfit}
 use Rattle.rules.specs.Tables.{mostRows}
 use Rattle.file_laws.specs.Sizes.{Told}
 use Rattle.file_numbers.specs.Answers.{numbered, rowTimes}

@@ -1,6 +1,6 @@
 -- `put_whole` meets its contract: the checks in document 01's order, then the listing. Assumes nothing.
 use mathlib.Core.Path.{_≡_, ap, _∙_}
-use Prim.Native.Nat.{ℕ, _≤_}
+use Prim.Native.Nat.{ℕ}
 use native.Mathlib.Omega.{arith}
 use lib.ListN.{length, length-replicate}
 use Rattle.rules.specs.declared.Kinds.{Kinds}

@@ -4,7 +4,6 @@ use mathlib.Core.Logic.{⊎-elim}
 use mathlib.Core.Bool.{true, false}
 use Prim.Native.Nat.{_-_, _≤_}
 use native.Mathlib.Omega.{arith}
-use borrow.Author.Tests.{eq-eqb}
 use Rattle.lists.specs.Bools.{clash}
 use Rattle.rules.specs.Session.{lentTable, settled}
 use Rattle.rules.specs.declared.Step.{Step}

@@ -4,6 +4,7 @@ use Prim.Native.Nat.{_+_, _*_, _-_, _≤_}
 use native.Mathlib.Omega.{arith}
 use lib.IntN.{pos}
 use lib.ListN.{getD}
+use Rattle.lists.specs.Wide.{square-fits}
 use Rattle.rules.specs.Tables.{table, squares, sideGap}
 use Rattle.sides.proofs.Ends.{passed}
 use Rattle.rectangles.proofs.Sums as S
@@ -19,7 +20,7 @@ abbrev μ-loop : tie.MeasureT-loop
 μ-loop n radius less sides t m r left₀ k₀ left k = n - k
 
 mul-left : tie.Need-mul-left Inv-loop μ-loop
-mul-left c = S.square-fits (c .args .radius) (omega (arith, c .fits .radius))
+mul-left c = square-fits (c .args .radius) (omega (arith, c .fits .radius))
 
 loop-holds : tie.Need-loop-holds Inv-loop μ-loop
 unfolding squares
@@ -79,7 +80,7 @@ turn c =
     (c .lowered .ensures ∙ ap (λ n. n - s .args .less) gap)
 
 mul-square : tie.Need-mul-square Inv-loop μ-loop
-mul-square c = S.square-fits (c .lowered .result) (omega (arith, c .lowered .ensures, c .before .side-gap .ensures .1))
+mul-square c = square-fits (c .lowered .result) (omega (arith, c .lowered .ensures, c .before .side-gap .ensures .1))
 
 returns : tie.Need-returns Inv-loop μ-loop
 returns c =

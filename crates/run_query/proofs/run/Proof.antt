@@ -13,7 +13,7 @@ use Rattle.rules.specs.Calls.{openCall}
 use Rattle.rules.specs.Query.{settledSession, list}
 use Rattle.outcomes.specs.declared.ReadOut.{ReadOut}
 use Rattle.outcomes.specs.declared.TakenOut.{TakenOut}
-use Rattle.outcomes.specs.Until.{readOn, settled-on, list-taken}
+use Rattle.outcomes.specs.Until.{settled-on, list-taken}
 use Rattle.outcomes.specs.Outcomes.{refusedBy, readOut, takenOut, queryOutcome, opening-code, read-begun}
 use Rattle.outcomes.specs.Outcomes.{take-done}
 use Rattle.run_query.proofs.run.Statement.{statement}

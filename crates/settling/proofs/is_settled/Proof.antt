@@ -10,7 +10,6 @@ use Rattle.rules.proofs.Places.{places-long}
 use Rattle.ceiling.specs.Bare.{secured-bare}
 use Rattle.table_ends.specs.BothRead.{RowsRead, accepted-rows}
 use Rattle.securing.specs.Last.{held-then-read, held-secured}
-use borrow.Author.Needs.{needs}
 use Rattle.settling.proofs.is_settled.Statement.{statement}
 use Rattle.settling.proofs.is_settled.Tie as tie
 

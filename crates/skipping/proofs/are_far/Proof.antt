@@ -1,7 +1,6 @@
 -- `are_far` meets its contract, whichever block is the new one. Assumes nothing.
 use mathlib.Core.Path.{_≡_, sym, subst, _∙_}
 use mathlib.Core.Bool.{cond}
-use native.Mathlib.Omega.{arith}
 use Rattle.rules.specs.Tables.{table, rectangle}
 use Rattle.rules.specs.Rectangles.{far-turned}
 use Rattle.session_laws.specs.Record.{card-least, card-small}

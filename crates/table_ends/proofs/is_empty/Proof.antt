@@ -4,7 +4,6 @@ use borrow.Author.Tests.{eq-eqb, ne-eqb, lt-ltb, le-ltb}
 use Rattle.rules.specs.Tables.{table}
 use Rattle.rules.specs.Widths.{rows-row}
 use Rattle.rules.specs.Session.{isEmpty}
-use borrow.Author.Needs.{needs}
 use Rattle.table_ends.proofs.is_empty.Statement.{statement}
 use Rattle.table_ends.proofs.is_empty.Tie as tie
 

@@ -2,7 +2,6 @@
 use Rattle.rules.specs.Session.{lentTable}
 use Rattle.rules.specs.Take.{finished}
 use Rattle.table_ends.specs.BothRead.{RowsRead, accepted-rows}
-use borrow.Author.Needs.{needs}
 use Rattle.take_answers.proofs.is_finished.Statement.{statement}
 use Rattle.take_answers.proofs.is_finished.Tie as tie
 

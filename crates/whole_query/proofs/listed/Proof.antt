@@ -11,7 +11,7 @@ use Rattle.rules.specs.Query.{listing}
 use Rattle.printing.specs.Put.{putAt}
 use Rattle.listing.specs.Shown.{listingRoom}
 use Rattle.whole_query.specs.Asked.{askedField, askedTrim, lentListingAnswer, lentListingBytes}
-use Rattle.whole_query.proofs.Ends.{Asking, outcome-is, code-refusal, has-room, lents, outcome-lent, refused}
+use Rattle.whole_query.proofs.Ends.{Asking, code-refusal, has-room, lents, outcome-lent, refused}
 use Rattle.whole_query.proofs.Ends.{found}
 use Rattle.whole_query.proofs.listed.Statement.{statement}
 use Rattle.whole_query.proofs.listed.Tie as tie
