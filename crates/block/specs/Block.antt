@@ -13,7 +13,7 @@ use Rattle.rules.specs.Tables.{ahead, width, rowCount}
 use Rattle.keys.specs.Held.{Keyed}
 
 -- a part of n whole rows within a table's 65,535, each of which passed 6 and 7
-pub record Rows (a : ℕ) (rows : Table) : Type 0 where
+pub record RowsPassed (a : ℕ) (rows : Table) : Type 0 where
   pub whole : width (rows .coordinates) * rowCount rows ≡ length (rows .numbers)
   pub few : a + rowCount rows ≤ mostRows
   pub range : (i : ℕ) → i < rowCount rows → rowInRange rows i ≡ true

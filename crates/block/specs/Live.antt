@@ -10,17 +10,17 @@ use Rattle.rules.specs.declared.Query.{Query}
 use Rattle.rules.specs.Tables.{Table, row, rowCount, withdrawn, rowsQualify, weighted, terms}
 use Rattle.session_laws.specs.ReadOut.{rows-qualify-out}
 use Rattle.near_rows.specs.Live.{Live}
-use Rattle.block_rows.specs.Parts.{Below}
-use Rattle.block.specs.Block.{Rows}
+use Rattle.block_rows.specs.Parts.{WithdrawnBelow}
+use Rattle.block.specs.Block.{RowsPassed}
 
 -- scores fall
-pub rows-below : (a : ℕ) (rows : Table) → Rows a rows → Below rows
+pub rows-below : (a : ℕ) (rows : Table) → RowsPassed a rows → WithdrawnBelow rows
 unfolding withdrawn
 rows-below a rows r i j h k e =
     eq-eqb (row rows j .score) 0 (omega (arith, r .falls i j h k, eqb-true (row rows i .score) 0 e))
 
 -- and so do weighted scores
-pub trim-falls : (q : Query) (a : ℕ) (rows : Table) → Rows a rows → (k j : ℕ) → k ≤ j → j < rowCount rows
+pub trim-falls : (q : Query) (a : ℕ) (rows : Table) → RowsPassed a rows → (k j : ℕ) → k ≤ j → j < rowCount rows
     → terms q .trim (row rows j) ≤ terms q .trim (row rows k)
 unfolding weighted
 trim-falls q a rows r k j h l =

@@ -8,11 +8,11 @@ use Rattle.rules.specs.Calls.{isCard}
 use Rattle.session_laws.specs.Shades.{row-small}
 use Rattle.session_laws.specs.Record.{QueryFits}
 use Rattle.near_rows.specs.Small.{SmallPairs}
-use Rattle.block.specs.Block.{Rows}
+use Rattle.block.specs.Block.{RowsPassed}
 
 -- two blocks of such rows
-pub rows-small : (q : Query) (a c : ℕ) (x y : Table) → isCard (x .coordinates) ≡ true → QueryFits q → Rows a x
-    → Rows c y → SmallPairs q x y
+pub rows-small : (q : Query) (a c : ℕ) (x y : Table) → isCard (x .coordinates) ≡ true → QueryFits q → RowsPassed a x
+    → RowsPassed c y → SmallPairs q x y
 rows-small q a c x y card fits first second =
     record {
       within = fits .radius;

@@ -11,7 +11,7 @@ ghost use Rattle.rules.specs.Tables.{table, terms};
 ghost use Rattle.rules.specs.Calls.{isCard};
 ghost use Rattle.session_laws.specs.Record.{QueryFits};
 ghost use Rattle.block_rows.specs.Parts.{at};
-ghost use Rattle.block.specs.Block.{Rows, Joined};
+ghost use Rattle.block.specs.Block.{RowsPassed, Joined};
 
 // The block join: of the pairs held and the qualifying pairs of x and y the best-ranked, at most room: how many are
 // held then. It goes from one near pair of live rows to the next; where the room is used up and a pair would fall off,
@@ -28,7 +28,7 @@ pub fn join(
     held: usize,
 ) -> usize
     requires { ⌜ (held ≤ room) × (room ≤ 64) × (length (now keys) ≡ 64) ⌝ }
-    requires { ⌜ QueryFits q × (isCard n ≡ true) × Rows a (table n (now x)) × Rows c (table n (now y)) ⌝ }
+    requires { ⌜ QueryFits q × (isCard n ≡ true) × RowsPassed a (table n (now x)) × RowsPassed c (table n (now y)) ⌝ }
     ensures { λ r. ⌜ Joined (terms q) room (at a (table n (now (x .entry)))) (at c (table n (now (y .entry)))) held
         (now (keys .entry)) r (now (keys .exit)) ⌝ }
 {

@@ -22,8 +22,8 @@ abbrev pub joinedPair : Session → Block → Block → Session
 joinedPair s x y = holding s (bestHeld s (qualifying (terms (s .query)) x y))
 
 -- so many block pairs more are joined
-unfoldable pub counted : Session → ℕ → Session
-counted s w =
+unfoldable pub joinedMore : Session → ℕ → Session
+joinedMore s w =
     record {
       query = s .query;
       rows = s .rows;
@@ -44,8 +44,8 @@ module _ (s : Session) (r : Ready s) where
       (ap (sort ahead) (append-nil (heldPairs s)) ∙ ordered-sort ahead (heldPairs s) (r .order))
       ∙ take-all (s .query .k - s .out) (heldPairs s) (omega (arith, r .count, r .room))
 
-  holding-same : holding s (heldPairs s) ≡ counted s 1
-  unfolding holding counted
+  holding-same : holding s (heldPairs s) ≡ joinedMore s 1
+  unfolding holding joinedMore
   holding-same =
       λ i.
       record {
@@ -59,8 +59,8 @@ module _ (s : Session) (r : Ready s) where
         joined = s .joined + 1;
       }
 
-  counted-none : counted s 0 ≡ s
-  unfolding counted
+  counted-none : joinedMore s 0 ≡ s
+  unfolding joinedMore
   counted-none =
       let e : s .joined + 0 ≡ s .joined = omega arith in
       λ i.
@@ -85,11 +85,11 @@ module _ (s : Session) (r : Ready s) where
     unfolding meetBy
     effect-joins e = sym (ap met (sym test ∙ f .joined e))
 
-    pub effect-counts : (w ≡ 2 → ⊥) → counted s w ≡ meet s x y
+    pub effect-counts : (w ≡ 2 → ⊥) → joinedMore s w ≡ meet s x y
     unfolding meetBy
     effect-counts h = go w f h
       where
-        go : (w : ℕ) → Effect full low (s .query) (x .rows) (y .rows) w → (w ≡ 2 → ⊥) → counted s w ≡ meet s x y
+        go : (w : ℕ) → Effect full low (s .query) (x .rows) (y .rows) w → (w ≡ 2 → ⊥) → joinedMore s w ≡ meet s x y
         go zero f h = counted-none ∙ sym (ap met (sym test ∙ f .skip refl))
         go (suc zero) f h =
             let q = f .quiet refl in

@@ -8,12 +8,12 @@ use Rattle.rules.specs.Tables.{Table, width, HasRows, table, part}
 use Rattle.rules.specs.Widths.{part-length, part-count}
 use Rattle.session_laws.specs.Tables.{row-part, range-part}
 use Rattle.session_laws.specs.ReadOut.{scores-fall}
-use Rattle.block.specs.Block.{Rows}
+use Rattle.block.specs.Block.{RowsPassed}
 use Rattle.block_pair.specs.declared.Span.{Span}
 use Rattle.block_pair.specs.Spans.{SpanFits}
 
 -- whole rows that passed 6 and 7, within a table's 65,535
-part-rows : (t : Table) (x : Span) → SpanFits x t → Rows (x .from) (part t (x .from) (x .to - x .from))
+part-rows : (t : Table) (x : Span) → SpanFits x t → RowsPassed (x .from) (part t (x .from) (x .to - x .from))
 part-rows t x fits =
     let a = x .from in
     let n = x .to - a in
@@ -36,5 +36,5 @@ part-rows t x fits =
 
 -- the same of a slice that is this part
 pub lent-rows : (t : Table) (x : Span) (l : List ℤ) → l ≡ part t (x .from) (x .to - x .from) .numbers → SpanFits x t
-    → Rows (x .from) (table (t .coordinates) l)
-lent-rows t x l e fits = subst (λ m. Rows (x .from) (table (t .coordinates) m)) (sym e) (part-rows t x fits)
+    → RowsPassed (x .from) (table (t .coordinates) l)
+lent-rows t x l e fits = subst (λ m. RowsPassed (x .from) (table (t .coordinates) m)) (sym e) (part-rows t x fits)

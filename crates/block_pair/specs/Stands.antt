@@ -8,6 +8,7 @@ use lib.Dec.{ltb, eqb}
 use lib.ListN.{length, getD, take}
 use lib.Seq.{length-take-le, getD-take}
 use borrow.Author.Tests.{eq-eqb, ne-eqb, eqb-true, eqb-false}
+use Rattle.rules.specs.Meaning.{firstScores}
 use Rattle.rules.specs.declared.Pair.{Pair}
 use Rattle.rules.specs.declared.Query.{Query}
 use Rattle.rules.specs.declared.Session.{Session}
@@ -21,8 +22,8 @@ use Rattle.keys.specs.Places.{list-of-places}
 use Rattle.block.specs.Block.{Joined}
 use Rattle.block_pair.specs.declared.Met.{Met}
 use Rattle.choosing.specs.Ready.{Ready}
-use Rattle.skipping.specs.Effect.{Effect, firstScores, skips}
-use Rattle.block_pair.specs.Effect.{joinedPair, counted, effect-joins, effect-counts}
+use Rattle.skipping.specs.Effect.{Effect, skips}
+use Rattle.block_pair.specs.Effect.{joinedPair, joinedMore, effect-joins, effect-counts}
 
 -- 64 numbers, of which the first stand for the pairs that a record holds
 pub record Keys (r : Session) (keys : List ℕ) : Type 0 where
@@ -123,8 +124,8 @@ module _ (r : Session) (ready : Ready r) (room : ℕ) (left : r .query .k - r .o
     stands-joined e n after k =
         rw (sym (effect-joins r ready (eqb (m .held) room) lowSum x y (skips-is x y) w effect e)) (best n after k)
 
-    same : Stands (counted r w) (record { held = m .held; joined = m .joined + w }) keys
-    unfolding counted
+    same : Stands (joinedMore r w) (record { held = m .held; joined = m .joined + w }) keys
+    unfolding joinedMore
     same =
         record {
           held = stands .held;

@@ -11,11 +11,11 @@ abbrev pub at : ℕ → Table → Block
 at a rows = record { start = a; rows = rows }
 
 -- below a withdrawn row all are: scores fall
-abbrev pub Below : Table → Type 0
-Below rows =
+abbrev pub WithdrawnBelow : Table → Type 0
+WithdrawnBelow rows =
     (i j : ℕ) → i ≤ j → j < rowCount rows → withdrawn (row rows i) ≡ true → withdrawn (row rows j) ≡ true
 
 -- above a row that is not withdrawn none is
-pub above-live : (rows : Table) → Below rows → (i j : ℕ) → i ≤ j → j < rowCount rows
+pub above-live : (rows : Table) → WithdrawnBelow rows → (i j : ℕ) → i ≤ j → j < rowCount rows
     → withdrawn (row rows j) ≡ false → withdrawn (row rows i) ≡ false
 above-live rows below i j h k e = fails (withdrawn (row rows i)) (λ f. clash (below i j h k f) e)

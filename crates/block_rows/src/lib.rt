@@ -9,7 +9,7 @@ ghost use Rattle.rules.specs.Tables.{table, mostRows, rowInRange, terms, pairAt
 ghost use Rattle.session_laws.specs.Record.{QueryFits};
 ghost use Rattle.keys.specs.Held.{Narrow};
 ghost use Rattle.near_rows.specs.Live.{Live};
-ghost use Rattle.block_rows.specs.Parts.{at, Below};
+ghost use Rattle.block_rows.specs.Parts.{at, WithdrawnBelow};
 
 // The pair of row i + 1 of x and row j + 1 of y, each score by its table's weight; a and c rows stand before x and y in
 // their tables. Two weighted scores of rows that passed 6 add up to a small sum.
@@ -40,7 +40,7 @@ pub fn pair_at(
 
 // How many rows of x are not withdrawn: withdrawn rows stand at the end.
 pub fn live_rows(n: u32, x: &[i32]) -> usize
-    requires { ⌜ Below (table n (now x)) ⌝ }
+    requires { ⌜ WithdrawnBelow (table n (now x)) ⌝ }
     ensures { λ r. ⌜ Live (table n (now (x .entry))) r ⌝ }
 {
     let mut m = tables::row_count(n, x);

@@ -25,11 +25,11 @@ bare n rows depth weights =
     }
 
 -- a session's row counts
-abbrev pub rowsOf : Session → Counts
-rowsOf s = record { field = s .rows .field; trim = s .rows .trim }
+abbrev pub rowCounts : Session → Counts
+rowCounts s = record { field = s .rows .field; trim = s .rows .trim }
 
 -- it secures what the session does
 pub secured-bare : (f t : Table) (s : Session) (p : Pair)
-    → secured f t (bare (s .rows .card) (rowsOf s) (s .depth) (s .query .weights)) p ≡ secured f t s p
+    → secured f t (bare (s .rows .card) (rowCounts s) (s .depth) (s .query .weights)) p ≡ secured f t s p
 unfolding securedBy ceilingBy
 secured-bare f t s p = refl

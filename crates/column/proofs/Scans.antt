@@ -14,7 +14,7 @@ use Rattle.rules.specs.File.{isDigit, afterBlanks, digitsFit, hasMinus, afterMi
 use Rattle.rules.specs.File.{columnFits, columnNumber}
 use Rattle.lists.specs.Bools.{and-left, and-right, and-true}
 use Rattle.file_laws.specs.Spelling.{digit-range}
-use Rattle.file_laws.specs.Places.{placeAt, byPlaces, place-tenfold, digits-places, digits-less}
+use Rattle.file_laws.specs.Places.{placeValueAt, byPlaces, place-tenfold, digits-places, digits-less}
 use Rattle.column_scan.specs.declared.Scan.{Scan}
 use Rattle.column_scan.specs.Scan.{byteWorth, stepped, start, scanned}
 use Rattle.column_scan.proofs.Bytes.{digit-worth}
@@ -59,21 +59,21 @@ unfit-first m b (c ∷ l) h = rw h
 -- ---- So many digits that do not begin with 0 are worth so much at least, others less
 
 -- digits are worth less than one more place
-digits-below : (l : List ℕ) → length l ≤ 6 → every isDigit l ≡ true → byPlaces l < placeAt (length l)
+digits-below : (l : List ℕ) → length l ≤ 6 → every isDigit l ≡ true → byPlaces l < placeValueAt (length l)
 unfolding every byPlaces
 digits-below [] h e = omega arith
 digits-below (b ∷ l) h e =
     let d = and-left (isDigit b) (every isDigit l) e in
     let r = digit-range b d in
     let rest = digits-below l (omega arith) (and-right (isDigit b) (every isDigit l) e) in
-    let same : placeAt (length l) ≤ placeAt (length l) = omega arith in
+    let same : placeValueAt (length l) ≤ placeValueAt (length l) = omega arith in
     let digit : b - 48 ≤ 9 = omega arith in
     rw (place-tenfold (length l) (omega arith)) (omega (arith, mul-le-mul same digit))
 
 -- the first of two digits or more
 module _ (b : ℕ) (l : List ℕ) (d : isDigit b ≡ true) (short : length l ≤ 6) (all : every isDigit l ≡ true) where
   abbrev p : ℕ
-  p = placeAt (length l)
+  p = placeValueAt (length l)
 
   first-tells : leb p (p * (b - 48) + byPlaces l) ≡ not (eqb b 48)
   first-tells = go (eqb b 48) refl
@@ -93,16 +93,16 @@ module _ (b : ℕ) (l : List ℕ) (d : isDigit b ≡ true) (short : length l ≤
 
 -- where all are digits, what they are worth tells whether the first is 0
 told : (m : Bool) (b : ℕ) (l : List ℕ) → isDigit b ≡ true → length l ≤ 6 →
-    cond (every isDigit l) (digitsHeld m (suc (length l)) (placeAt (length l) * (b - 48) + byPlaces l)) unfit ≡
+    cond (every isDigit l) (digitsHeld m (suc (length l)) (placeValueAt (length l) * (b - 48) + byPlaces l)) unfit ≡
     numberHeld m (b ∷ l)
 unfolding numberHeld byPlaces digitsFit every
 told m b [] d h =
-    let n = placeAt 0 * (b - 48) + 0 in
+    let n = placeValueAt 0 * (b - 48) + 0 in
     ap (λ (t : Bool). heldAs m (t && not (m && eqb n 0)) n) (le-leb 0 n (omega arith) ∙ sym d)
 told m b (c ∷ l) d h = go (every isDigit (c ∷ l)) refl
   where
     p : ℕ
-    p = placeAt (length (c ∷ l))
+    p = placeValueAt (length (c ∷ l))
 
     n : ℕ
     n = p * (b - 48) + byPlaces (c ∷ l)
@@ -120,7 +120,7 @@ module _ (signed : Bool) where
   bad-stays : (s : Scan) (l : List ℕ) → s .bad ≡ true → scanned signed s l .bad ≡ true
   unfolding scanned stepped
   bad-stays s [] h = h
-  bad-stays s (b ∷ l) h = bad-stays (stepped signed (placeAt (length l)) s b) l (rw h)
+  bad-stays s (b ∷ l) h = bad-stays (stepped signed (placeValueAt (length l)) s b) l (rw h)
 
   bad-ends : (s : Scan) (l : List ℕ) → s .bad ≡ true → heldOf (scanned signed s l) ≡ unfit
   bad-ends s l h = bad-held (scanned signed s l) (bad-stays s l h)
@@ -165,7 +165,7 @@ module _ (signed : Bool) where
   from-digits m c n (b ∷ l) = go (isDigit b) refl (from-digits m (c + 1) (n + p * (b - 48)) l)
     where
       p : ℕ
-      p = placeAt (length l)
+      p = placeValueAt (length l)
 
       go : (t : Bool) → isDigit b ≡ t →
           heldOf (scanned signed (inDigits m (c + 1) (n + p * (b - 48))) l) ≡
@@ -182,9 +182,9 @@ module _ (signed : Bool) where
 
   -- from the first digit on
   first-digit : (m : Bool) (b : ℕ) (l : List ℕ) → length l ≤ 6 → isDigit b ≡ true →
-      heldOf (scanned signed (inDigits m 1 (placeAt (length l) * (b - 48))) l) ≡ numberHeld m (b ∷ l)
+      heldOf (scanned signed (inDigits m 1 (placeValueAt (length l) * (b - 48))) l) ≡ numberHeld m (b ∷ l)
   first-digit m b l short d =
-      let n = placeAt (length l) * (b - 48) in
+      let n = placeValueAt (length l) * (b - 48) in
       let count : 1 + length l ≡ suc (length l) = omega arith in
       from-digits m 1 n l
       ∙ ap (λ (c : ℕ). cond (every isDigit l) (digitsHeld m c (n + byPlaces l)) unfit) count
@@ -196,7 +196,7 @@ module _ (signed : Bool) where
   from-minus (b ∷ l) short = go (isDigit b) refl
     where
       p : ℕ
-      p = placeAt (length l)
+      p = placeValueAt (length l)
 
       go : (t : Bool) → isDigit b ≡ t → heldOf (scanned signed (stepped signed p atMinus b) l) ≡ numberHeld true (b ∷ l)
       go true d =
@@ -207,13 +207,13 @@ module _ (signed : Bool) where
 
   -- a first byte that is no blank: a minus, a digit, or another
   first-byte : (b : ℕ) (l : List ℕ) → length l ≤ 6 → eqb b 32 ≡ false →
-      heldOf (scanned signed (stepped signed (placeAt (length l)) start b) l) ≡
+      heldOf (scanned signed (stepped signed (placeValueAt (length l)) start b) l) ≡
       numberHeld (hasMinus signed (b ∷ l)) (afterMinus signed (b ∷ l))
   unfolding hasMinus afterMinus
   first-byte b l short other = go (signed && eqb b 45) refl (isDigit b) refl
     where
       p : ℕ
-      p = placeAt (length l)
+      p = placeValueAt (length l)
 
       go : (m : Bool) → (signed && eqb b 45) ≡ m → (t : Bool) → isDigit b ≡ t →
           heldOf (scanned signed (stepped signed p start b) l) ≡ numberHeld m (cond m l (b ∷ l))
@@ -234,7 +234,7 @@ module _ (signed : Bool) where
   placed-holds (b ∷ l) short = go (eqb b 32) refl (placed-holds l (omega arith))
     where
       p : ℕ
-      p = placeAt (length l)
+      p = placeValueAt (length l)
 
       go : (t : Bool) → eqb b 32 ≡ t →
           heldOf (scanned signed start l) ≡

@@ -10,13 +10,13 @@ use lib.ListN.{length, getD, take, drop, length-drop}
 use lib.Seq.{drop-cons, length-take-le}
 use Rattle.rules.specs.File.{isDigit, columns}
 use Rattle.file_laws.specs.Spelling.{digit-range}
-use Rattle.file_laws.specs.Places.{placeAt, place-power}
+use Rattle.file_laws.specs.Places.{placeValueAt, place-power}
 use mir.Val.{boolByte}
 use Rattle.column_scan.specs.Scan.{upTo, byteWorth}
 
-pub whole : (bytes : List ℕ) (at width : ℕ) → columns bytes at width ≡ upTo bytes at (at + width)
+pub columns-whole : (bytes : List ℕ) (at width : ℕ) → columns bytes at width ≡ upTo bytes at (at + width)
 unfolding upTo
-whole bytes at width =
+columns-whole bytes at width =
     let k : at + width - at ≡ width = omega arith in ap (λ (n : ℕ). take n (drop at bytes)) (sym k)
 
 pub none : (bytes : List ℕ) (e : ℕ) → upTo bytes e e ≡ []
@@ -54,7 +54,7 @@ one-most false = omega arith
 
 -- ---- Place values: r bytes that are left are worth less than 2 × 10 ^ r
 
-pub place-small : (i : ℕ) → i < 7 → placeAt i ≤ 1000000
+pub place-small : (i : ℕ) → i < 7 → placeValueAt i ≤ 1000000
 place-small i h = rw (place-power i h) (pow-le-pow-right {n = 10} (omega arith) {i = i} {j = 6} (omega arith))
 
 pub left-most : (r : ℕ) → r ≤ 7 → 2 * 10 ^ r ≤ 20000000
@@ -65,7 +65,7 @@ pub left-some : (n r : ℕ) → n + 2 * 10 ^ r ≤ 20000000 → n < 20000000
 left-some n r h = omega (arith, one-le-pow r 10 (omega arith))
 
 pub worth-grows : (n d r : ℕ) → r < 7 → n + 2 * 10 ^ suc r ≤ 20000000 → d ≤ 15 →
-    (n + placeAt r * d) + 2 * 10 ^ r ≤ 20000000
+    (n + placeValueAt r * d) + 2 * 10 ^ r ≤ 20000000
 worth-grows n d r small h l =
     let more : 10 ^ suc r ≡ 10 * 10 ^ r = rw pow-suc (omega arith) in
     let most : 10 ^ r * d ≤ 10 ^ r * 15 = mul-le-mul (omega arith) l in

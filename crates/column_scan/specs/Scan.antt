@@ -5,8 +5,8 @@ use mathlib.Core.List.{List, [], _∷_}
 use lib.Dec.{eqb}
 use lib.ListN.{length, take, drop}
 use mir.Val.{boolByte}
-use Rattle.rules.specs.File.{blank, minus, isDigit}
-use Rattle.file_laws.specs.Places.{placeAt}
+use Rattle.rules.specs.File.{blank, minusSign, isDigit}
+use Rattle.file_laws.specs.Places.{placeValueAt}
 use Rattle.column_scan.specs.declared.Scan.{Scan}
 
 -- the bytes from place i up to place e, without that of e itself
@@ -27,12 +27,12 @@ stepped signed place s b =
     record {
       seen = not (eqb b blank);
       digits = s .digits + boolByte (isDigit b);
-      negative = s .negative || (signed && eqb b minus);
-      bad = s .bad || (not (isDigit b) && (s .seen || not (eqb b blank || (signed && eqb b minus))));
-      worth = s .worth + place * byteWorth (signed && eqb b minus) b;
+      negative = s .negative || (signed && eqb b minusSign);
+      bad = s .bad || (not (isDigit b) && (s .seen || not (eqb b blank || (signed && eqb b minusSign))));
+      worth = s .worth + place * byteWorth (signed && eqb b minusSign) b;
     }
 
 -- all bytes, each by the entry of those behind it
 unfoldable pub scanned : Bool → Scan → List ℕ → Scan
 scanned signed s [] = s
-scanned signed s (b ∷ l) = scanned signed (stepped signed (placeAt (length l)) s b) l
+scanned signed s (b ∷ l) = scanned signed (stepped signed (placeValueAt (length l)) s b) l

@@ -2,7 +2,7 @@
 ghost use mathlib.Core.Path.{_≡_};
 ghost use Prim.Native.Nat.{_+_, _≤_, _<_};
 ghost use lib.ListN.{length};
-ghost use Rattle.file_laws.specs.Places.{placeAt};
+ghost use Rattle.file_laws.specs.Places.{placeValueAt};
 ghost use Rattle.column_scan.specs.Scan.{upTo, byteWorth, stepped, start, scanned};
 
 // What is known of a column's bytes up to a place.
@@ -24,7 +24,7 @@ const PLACES: [u32; 7] = [1, 10, 100, 1000, 10000, 100000, 1000000];
 
 fn place_value(i: usize) -> u32
     requires { ⌜ i < 7 ⌝ }
-    ensures { λ r. ⌜ r ≡ placeAt i ⌝ }
+    ensures { λ r. ⌜ r ≡ placeValueAt i ⌝ }
 {
     PLACES[i]
 }

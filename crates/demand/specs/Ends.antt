@@ -21,7 +21,7 @@ use Rattle.rules.specs.Numbers.{said}
 use Rattle.rules.specs.Calls.{queryCode, callCode, newBlockCode, step, openCall, readCallBy, readCall, takeCallBy}
 use Rattle.rules.specs.Calls.{takeCall}
 use Rattle.session_laws.specs.Calls.{OneCard, legal-opened, call-accepted, new-block-accepted}
-use Rattle.session_laws.specs.Read.{depths}
+use Rattle.session_laws.specs.Read.{rowsRead}
 use Rattle.session_laws.specs.Take.{gives-some, settled-take}
 use Rattle.session_laws.specs.Sound.{Sound, sound-open}
 use Rattle.tables_join.specs.Reached.{Reached, read-sound, take-sound, reached-fits, read-deepens}
@@ -87,16 +87,17 @@ module _ (q : Query) (f t : Table) (g : legal f ≡ true) (h : legal t ≡ true)
   -- Reads are few
 
   line-reads : {out : List Pair} {s : Session} (x : Step) → Reached q f t out s → Changed f t s x
-      → depths s + readsOf (x .answer) ≤ depths (x .session)
+      → rowsRead s + readsOf (x .answer) ≤ rowsRead (x .session)
   unfolding movedOut
-  line-reads x a (kept e o r) = omega (arith, r, ap depths e)
+  line-reads x a (kept e o r) = omega (arith, r, ap rowsRead e)
   line-reads {s = s} x a (deeper d e) =
-      subst (λ y. depths s + readsOf (y .answer) ≤ depths (y .session)) (sym e) (omega (arith, read-deepens a size d))
+      subst (λ y. rowsRead s + readsOf (y .answer) ≤ rowsRead (y .session)) (sym e)
+      (omega (arith, read-deepens a size d))
   line-reads {s = s} x a (fewer d e) =
-      subst (λ y. depths s + readsOf (y .answer) ≤ depths (y .session)) (sym e) (omega arith)
+      subst (λ y. rowsRead s + readsOf (y .answer) ≤ rowsRead (y .session)) (sym e) (omega arith)
 
   lines-reads : (lines : List Line) {out : List Pair} {s : Session} → Reached q f t out s → Follows f t s lines
-      → depths s + total (λ l. readsOf (l .gave .answer)) lines ≤ depths (lastRecord s lines)
+      → rowsRead s + total (λ l. readsOf (l .gave .answer)) lines ≤ rowsRead (lastRecord s lines)
   unfolding total
   lines-reads [] a w = omega arith
   lines-reads (l ∷ lines) a w =

@@ -42,8 +42,8 @@ pub record Lending : Type 0 where
   pub trim : List ℤ
 
 -- the line that the rules give of a call on record s
-abbrev pub lineOf : Session → Lending → Line
-lineOf s c =
+abbrev pub ruledLine : Session → Lending → Line
+ruledLine s c =
     record {
       call = c .call;
       field = c .field;
@@ -53,7 +53,7 @@ lineOf s c =
 
 abbrev pub transcript : Session → List Lending → List Line
 transcript s [] = []
-transcript s (c ∷ calls) = lineOf s c ∷ transcript (lineOf s c .gave .session) calls
+transcript s (c ∷ calls) = ruledLine s c ∷ transcript (ruledLine s c .gave .session) calls
 
 -- what a line asked
 abbrev pub lending : Line → Lending
@@ -89,7 +89,7 @@ module _ (f t : Table) where
   straysRefused s [] = true
   straysRefused s (own c ∷ calls) = straysRefused (promised c (f .numbers) (t .numbers) s .session) calls
   straysRefused s (astray c f₁ t₁ ∷ calls) =
-      not (isAccepted (lineOf s (lent (astray c f₁ t₁)))) && straysRefused (promised c f₁ t₁ s .session) calls
+      not (isAccepted (ruledLine s (lent (astray c f₁ t₁)))) && straysRefused (promised c f₁ t₁ s .session) calls
 
   pub follows : (s : Session) (calls : List Asked) → straysRefused s calls ≡ true
       → Follows f t s (transcript s (map lent calls))
@@ -97,7 +97,7 @@ module _ (f t : Table) where
   follows s (own c ∷ calls) h =
       (refl, λ e. (refl, refl), follows (promised c (f .numbers) (t .numbers) s .session) calls h)
   follows s (astray c f₁ t₁ ∷ calls) h =
-      let accepted = isAccepted (lineOf s (lent (astray c f₁ t₁))) in
+      let accepted = isAccepted (ruledLine s (lent (astray c f₁ t₁))) in
       let rest = promised c f₁ t₁ s .session in
       let k = and-out (not accepted) (straysRefused rest calls) h in
       (refl, λ e. clash e (not-true accepted (k .0)), follows rest calls (k .1))

@@ -27,32 +27,32 @@ use Rattle.demand.specs.Demand.{reading, taking, Line, Sequence, Qualify
 use Rattle.demand.specs.Demand.{byRules, over, answersOver, Alike, Brought, Demand3}
 use Rattle.demand.specs.Proved.{demand3}
 use Rattle.demand.specs.Uses.{finished-highest}
-use Rattle.demand.specs.Transcript.{fieldRows, trimRows, Asked, own, astray, lineOf, transcript, lending}
+use Rattle.demand.specs.Transcript.{fieldRows, trimRows, Asked, own, astray, ruledLine, transcript, lending}
 use Rattle.demand.specs.Transcript.{lent, follows}
 
-abbrev pub numbers : ℤ → ℤ → ℤ → ℤ → List ℤ → List ℤ
-numbers n s a b rest = n ∷ s ∷ a ∷ b ∷ rest
+abbrev pub fourNumbers : ℤ → ℤ → ℤ → ℤ → List ℤ → List ℤ
+fourNumbers n s a b rest = n ∷ s ∷ a ∷ b ∷ rest
 
 -- the rules' two tables, but for the fifth rows
 abbrev fieldsTo : List ℤ → Table
 fieldsTo rest =
     oldTable
-    (numbers (pos 101) (pos 90) (pos 0) (pos 0)
-    (numbers (pos 102) (pos 80) (pos 100) (pos 0)
-    (numbers (pos 103) (pos 60) (pos 0) (pos 300) (numbers (pos 104) (pos 40) (pos 500) (pos 500) rest))))
+    (fourNumbers (pos 101) (pos 90) (pos 0) (pos 0)
+    (fourNumbers (pos 102) (pos 80) (pos 100) (pos 0)
+    (fourNumbers (pos 103) (pos 60) (pos 0) (pos 300) (fourNumbers (pos 104) (pos 40) (pos 500) (pos 500) rest))))
 
 abbrev trimsTo : List ℤ → Table
 trimsTo rest =
     oldTable
-    (numbers (pos 201) (pos 70) (pos 400) (pos 0)
-    (numbers (pos 202) (pos 50) (pos 3) (pos 4)
-    (numbers (pos 203) (pos 30) (pos 100) (pos 5) (numbers (pos 204) (pos 20) (pos 0) (pos 300) rest))))
+    (fourNumbers (pos 201) (pos 70) (pos 400) (pos 0)
+    (fourNumbers (pos 202) (pos 50) (pos 3) (pos 4)
+    (fourNumbers (pos 203) (pos 30) (pos 100) (pos 5) (fourNumbers (pos 204) (pos 20) (pos 0) (pos 300) rest))))
 
 abbrev pub fields : Table
-fields = fieldsTo (numbers (pos 105) (pos 10) (pos 0) (pos 0) [])
+fields = fieldsTo (fourNumbers (pos 105) (pos 10) (pos 0) (pos 0) [])
 
 abbrev pub trims : Table
-trims = trimsTo (numbers (pos 205) (pos 15) (pos 500) (pos 500) [])
+trims = trimsTo (fourNumbers (pos 205) (pos 15) (pos 500) (pos 500) [])
 
 -- they are the files' tables
 pub same-tables : (fields ≡ Example.fields) × (trims ≡ Example.trims)
@@ -112,30 +112,30 @@ pub out : outs lines ≡ first ∷ second ∷ []
 unfolding run
 out = refl
 
-pub depths : (lastRecord begun lines .depth .field .0 ≡ 4) × (lastRecord begun lines .depth .trim .0 ≡ 4)
+pub last-depths : (lastRecord begun lines .depth .field .0 ≡ 4) × (lastRecord begun lines .depth .trim .0 ≡ 4)
 unfolding run
-depths = (refl, refl)
+last-depths = (refl, refl)
 
 -- ---- The theorem at this sequence, and what each of its parts says here
 
-pub worked : Demand3 query fields trims (openCall query fields trims) lines
-worked = demand3 query fields trims (openCall query fields trims) lines sequence
+pub worked-demand : Demand3 query fields trims (openCall query fields trims) lines
+worked-demand = demand3 query fields trims (openCall query fields trims) lines sequence
 
 -- the first n lines, and line n + 1
 abbrev firstLines : ℕ → List Line
 firstLines n = take n lines
 
 abbrev lineAt : ℕ → Line
-lineAt n = getD lines n (lineOf begun (lent fields trims reads))
+lineAt n = getD lines n (ruledLine begun (lent fields trims reads))
 
 -- the sixth call brings out the first pair, nothing being out; the eleventh the second, the first being out
 first-brought : Brought query fields trims (firstLines 5) first
 unfolding run
-first-brought = worked .brought (firstLines 5) (drop 6 lines) (lineAt 5) first refl refl
+first-brought = worked-demand .brought (firstLines 5) (drop 6 lines) (lineAt 5) first refl refl
 
 second-brought : Brought query fields trims (firstLines 10) second
 unfolding run
-second-brought = worked .brought (firstLines 10) (drop 11 lines) (lineAt 10) second refl refl
+second-brought = worked-demand .brought (firstLines 10) (drop 11 lines) (lineAt 10) second refl refl
 
 abbrev patternAt : ℕ → ℕ → ℤ → ℤ → Row
 patternAt number score a b = record { pattern = number; score = score; shade = a ∷ b ∷ [] }
@@ -177,12 +177,12 @@ pub wanted-out : length (outs (firstLines 11)) ≡ 2
 unfolding run
 wanted-out =
     ⊎-elim (λ e. e) (λ all. absurd (third-left (all 3 4 third)))
-    (worked .finished (firstLines 11) [] (lineAt 11) refl refl)
+    (worked-demand .finished (firstLines 11) [] (lineAt 11) refl refl)
 
 -- so their sums are the two highest
 pub highest-two : 140 ∷ 110 ∷ [] ≡ best 2 (qualifyingSums query fields trims)
 unfolding run
-highest-two = finished-highest worked refl refl (firstLines 11) [] (lineAt 11) refl refl
+highest-two = finished-highest worked-demand refl refl (firstLines 11) [] (lineAt 11) refl refl
 
 -- "After the sequence no more than max(p, q) + block - 1 rows of either table have been read": four of each are sure
 sure : Sure query fields trims (fieldRows 4) (trimRows 4)
@@ -190,12 +190,12 @@ unfolding run isSure readOutBy emptyBy ceilingAt qualifyingSums atLeast
 sure = sure-is-test query refl fields trims refl refl (fieldRows 4) (trimRows 4) refl .1 refl
 
 pub at-most-four : (lastRecord begun lines .depth .field .0 ≤ 4) × (lastRecord begun lines .depth .trim .0 ≤ 4)
-at-most-four = worked .row-limit (fieldRows 4) (trimRows 4) sure
+at-most-four = worked-demand .row-limit (fieldRows 4) (trimRows 4) sure
 
 -- "Each answer and record, the opening's included, is the one that document 01 gives."
 pub rules-answers : map (λ g. g .answer) (byRules begun lines) ≡ twelve
 unfolding run
-rules-answers = ap (map (λ g. g .answer)) (sym (worked .by-rules .1))
+rules-answers = ap (map (λ g. g .answer)) (sym (worked-demand .by-rules .1))
 
 -- rows read of each table and pairs out
 abbrev counts : Step → ℕ × ℕ × ℕ
@@ -205,15 +205,15 @@ pub rules-records : map counts (byRules begun lines) ≡
     (1, 0, 0) ∷ (1, 1, 0) ∷ (2, 1, 0) ∷ (2, 2, 0) ∷ (3, 2, 0) ∷ (3, 2, 1) ∷ (3, 2, 1)
     ∷ (3, 3, 1) ∷ (4, 3, 1) ∷ (4, 4, 1) ∷ (4, 4, 2) ∷ (4, 4, 2) ∷ []
 unfolding run
-rules-records = ap (map counts) (sym (worked .by-rules .1))
+rules-records = ap (map counts) (sym (worked-demand .by-rules .1))
 
 -- ---- Two other tables, unlike in the fifth rows, which were not read; both of these would qualify with a row above
 
 abbrev otherFields : Table
-otherFields = fieldsTo (numbers (pos 106) (pos 40) (pos 100) (pos 0) [])
+otherFields = fieldsTo (fourNumbers (pos 106) (pos 40) (pos 100) (pos 0) [])
 
 abbrev otherTrims : Table
-otherTrims = trimsTo (numbers (pos 206) (pos 20) (pos 100) (pos 0) [])
+otherTrims = trimsTo (fourNumbers (pos 206) (pos 20) (pos 100) (pos 0) [])
 
 fields-alike : Alike fields otherFields (lastRecord begun lines .depth .field .0)
 unfolding run
@@ -231,10 +231,10 @@ calls-there = refl
 -- "Legal tables alike in their row counts and in the rows read get the same answers."
 pub opened-there : openCall query otherFields otherTrims .answer ≡ Opened
 unfolding run
-opened-there = worked .same-answers otherFields otherTrims fields-alike trims-alike .0
+opened-there = worked-demand .same-answers otherFields otherTrims fields-alike trims-alike .0
 
 pub answers-there : answersOver query otherFields otherTrims lines ≡ twelve
-answers-there = worked .same-answers otherFields otherTrims fields-alike trims-alike .1 ∙ answers
+answers-there = worked-demand .same-answers otherFields otherTrims fields-alike trims-alike .1 ∙ answers
 
 -- they are other tables
 pub unlike : (otherFields ≡ fields → ⊥) × (otherTrims ≡ trims → ⊥)

@@ -12,7 +12,7 @@ use mir.Val.{Fits, SFits, toZ, ofZ}
 use mir.Facts.{toZ-ofZ}
 use borrow.Author.Tests.{leb-true, leb-false, le-leb, le-ltb}
 use Rattle.lists.specs.Bools.{of-true}
-use Rattle.lists.specs.Wide.{wide, wide-is}
+use Rattle.lists.specs.Bits.{as32, as32-is, as64, as64-is}
 use Rattle.rules.specs.Tables.{gap}
 use Rattle.rules.specs.Whole.{abs-sub}
 
@@ -45,11 +45,11 @@ sub-le (negsuc a) (pos b) h = absurd (of-true h)
 sub-le (negsuc a) (negsuc b) h = let k : a ≤ b =
     leb-true a b h in sub-no (suc b) (suc a) (omega arith) ∙ ap pos (omega arith)
 
-pub total : (x y : ℤ) → leZ y x ≡ false → leZ x y ≡ true
-total (pos a) (pos b) h = le-leb a b (let k : a < b = leb-false b a h in omega arith)
-total (pos a) (negsuc b) h = absurd (of-true (sym h))
-total (negsuc a) (pos b) h = refl
-total (negsuc a) (negsuc b) h = le-leb b a (let k : b < a = leb-false a b h in omega arith)
+pub le-total : (x y : ℤ) → leZ y x ≡ false → leZ x y ≡ true
+le-total (pos a) (pos b) h = le-leb a b (let k : a < b = leb-false b a h in omega arith)
+le-total (pos a) (negsuc b) h = absurd (of-true (sym h))
+le-total (negsuc a) (pos b) h = refl
+le-total (negsuc a) (negsuc b) h = le-leb b a (let k : b < a = leb-false a b h in omega arith)
 
 dist-below : (x y : ℤ) → mag x < 2 ^ 31 → mag y < 2 ^ 31 → dist x y < 2 ^ 32
 unfolding dist
@@ -71,26 +71,26 @@ dist-mag (negsuc a) (negsuc b) = omega arith
 pub gap-mag : (x y : ℤ) → gap x y ≤ mag x + mag y + 1
 gap-mag x y = rw (gap-is x y) (dist-mag x y)
 
--- x - y where y <= x, both widened: it fits, it may be cast, and the cast is the gap
-module _ (x y : ℤ) (f : SFits w32 x) (g : SFits w32 y) (h : leZ (wide y) (wide x) ≡ true) where
-  difference : wide x -ℤ wide y ≡ pos (gap x y)
+-- x - y where y <= x, both as64: it fits, it may be cast, and the cast is the gap
+module _ (x y : ℤ) (f : SFits w32 x) (g : SFits w32 y) (h : leZ (as64 y) (as64 x) ≡ true) where
+  difference : as64 x -ℤ as64 y ≡ pos (gap x y)
   difference =
-      simp (wide-is x f, wide-is y g) (sub-le x y (simp (wide-is x f, wide-is y g) at h) ∙ ap pos (sym (gap-is x y)))
+      simp (as64-is x f, as64-is y g) (sub-le x y (simp (as64-is x f, as64-is y g) at h) ∙ ap pos (sym (gap-is x y)))
 
   small : SFits w64 (pos (gap x y))
   small = record { sfits = omega (arith, gap-below x y f g) }
 
-  pub sub-fits : SFits w64 (wide x -ℤ wide y)
+  pub sub-fits : SFits w64 (as64 x -ℤ as64 y)
   sub-fits = rw difference small
 
-  back : toZ w64 (ofZ w64 (wide x -ℤ wide y)) ≡ pos (gap x y)
+  back : toZ w64 (ofZ w64 (as64 x -ℤ as64 y)) ≡ pos (gap x y)
   back = rw (difference, toZ-ofZ small)
 
-  pub cast-fits : T (nonNeg (toZ w64 (ofZ w64 (wide x -ℤ wide y)))) × Fits w64
-      (natAbs (toZ w64 (ofZ w64 (wide x -ℤ wide y))))
+  pub cast-fits : T (nonNeg (toZ w64 (ofZ w64 (as64 x -ℤ as64 y)))) × Fits w64
+      (natAbs (toZ w64 (ofZ w64 (as64 x -ℤ as64 y))))
   cast-fits = rw back (tt, record { fits = omega (arith, gap-below x y f g) })
 
-  pub cast-is : natAbs (toZ w64 (ofZ w64 (wide x -ℤ wide y))) ≡ gap x y
+  pub cast-is : natAbs (toZ w64 (ofZ w64 (as64 x -ℤ as64 y))) ≡ gap x y
   cast-is = ap natAbs back
 
 -- what is learnt of the gap of two 32-bit numbers that were passed on
@@ -99,36 +99,33 @@ pub gap-of-passed : (n : ℕ) (x y : ℤ) → mag x < 2 ^ 31 → mag y < 2 ^ 31 
 gap-of-passed n x y f g e =
     simp (toZ-ofZ {w = w32} {z = x} (record { sfits = f }), toZ-ofZ {w = w32} {z = y} (record { sfits = g })) at e
 
--- a 32-bit number, as the code has it
-abbrev pub held : ℤ → ℤ
-held z = toZ w32 (ofZ w32 z)
+pub small-is : (z : ℤ) → mag z < 16384 → as32 z ≡ z
+small-is z h = as32-is z (omega arith)
 
-pub held-is : (z : ℤ) → mag z < 16384 → held z ≡ z
-held-is z h = toZ-ofZ {w = w32} {z = z} (record { sfits = omega arith })
-
-pub held-small : (z : ℤ) → mag z < 16384 → mag (held z) < 16384
-held-small z h = rw (held-is z h) h
+pub small-stays : (z : ℤ) → mag z < 16384 → mag (as32 z) < 16384
+small-stays z h = rw (small-is z h) h
 
 pub gap-small : (x y : ℤ) → mag x < 16384 → mag y < 16384 → gap x y < 32768
 gap-small x y f g = omega (arith, gap-mag x y)
 
 -- x - y where y <= x, both small, at 32 bits: it fits, it may be cast, and the cast is the gap
-module _ (x y : ℤ) (f : mag x < 16384) (g : mag y < 16384) (h : leZ (held y) (held x) ≡ true) where
-  difference-small : held x -ℤ held y ≡ pos (gap x y)
+module _ (x y : ℤ) (f : mag x < 16384) (g : mag y < 16384) (h : leZ (as32 y) (as32 x) ≡ true) where
+  difference-small : as32 x -ℤ as32 y ≡ pos (gap x y)
   difference-small =
-      simp (held-is x f, held-is y g) (sub-le x y (simp (held-is x f, held-is y g) at h) ∙ ap pos (sym (gap-is x y)))
+      simp (small-is x f, small-is y g)
+      (sub-le x y (simp (small-is x f, small-is y g) at h) ∙ ap pos (sym (gap-is x y)))
 
   fits-small : SFits w32 (pos (gap x y))
   fits-small = record { sfits = omega (arith, gap-small x y f g) }
 
-  pub sub-fits-small : SFits w32 (held x -ℤ held y)
+  pub sub-fits-small : SFits w32 (as32 x -ℤ as32 y)
   sub-fits-small = rw difference-small fits-small
 
-  back-small : held (held x -ℤ held y) ≡ pos (gap x y)
+  back-small : as32 (as32 x -ℤ as32 y) ≡ pos (gap x y)
   back-small = rw (difference-small, toZ-ofZ fits-small)
 
-  pub cast-fits-small : T (nonNeg (held (held x -ℤ held y))) × Fits w32 (natAbs (held (held x -ℤ held y)))
+  pub cast-fits-small : T (nonNeg (as32 (as32 x -ℤ as32 y))) × Fits w32 (natAbs (as32 (as32 x -ℤ as32 y)))
   cast-fits-small = rw back-small (tt, record { fits = omega (arith, gap-small x y f g) })
 
-  pub cast-is-small : natAbs (held (held x -ℤ held y)) ≡ gap x y
+  pub cast-is-small : natAbs (as32 (as32 x -ℤ as32 y)) ≡ gap x y
   cast-is-small = ap natAbs back-small

@@ -12,7 +12,8 @@ use mir.Val.{SFits, toZ}
 use mir.Facts.{toZ-ofZ, toZ-pos}
 use borrow.Author.Tests.{le-leb, lt-leb}
 use Rattle.rules.specs.Tables.{gap}
-use Rattle.distance.proofs.Gap.{held, held-is}
+use Rattle.lists.specs.Bits.{as32}
+use Rattle.distance.proofs.Gap.{small-is}
 use Rattle.rules.specs.Whole.{plus, minus, apart, apart-le, le-is, not-le-is, moved-up, moved-down}
 
 beside-is : (x y : ℤ) (r : ℕ) → (leZ (x -ℤ pos r) y && leZ y (x +ℤ pos r)) ≡ leb (gap x y) r
@@ -56,12 +57,12 @@ module _ (x y : ℤ) (r : ℕ) (f : mag x < 16384) (g : mag y < 16384) (few : r 
   number-is : toZ w32 r ≡ pos r
   number-is = toZ-pos w32 {n = r} (omega arith)
 
-  pub sub-fits : SFits w32 (held x -ℤ toZ w32 r)
-  sub-fits = rw (held-is x f, number-is) lower-fits
+  pub sub-fits : SFits w32 (as32 x -ℤ toZ w32 r)
+  sub-fits = rw (small-is x f, number-is) lower-fits
 
-  pub add-fits : SFits w32 (held x +ℤ toZ w32 r)
-  add-fits = rw (held-is x f, number-is) upper-fits
+  pub add-fits : SFits w32 (as32 x +ℤ toZ w32 r)
+  add-fits = rw (small-is x f, number-is) upper-fits
 
-  pub test-is : (leZ (held (held x -ℤ toZ w32 r)) (held y) && leZ (held y) (held (held x +ℤ toZ w32 r)))
+  pub test-is : (leZ (as32 (as32 x -ℤ toZ w32 r)) (as32 y) && leZ (as32 y) (as32 (as32 x +ℤ toZ w32 r)))
       ≡ leb (gap x y) r
-  test-is = rw (held-is x f, held-is y g, number-is, toZ-ofZ lower-fits, toZ-ofZ upper-fits) (beside-is x y r)
+  test-is = rw (small-is x f, small-is y g, number-is, toZ-ofZ lower-fits, toZ-ofZ upper-fits) (beside-is x y r)

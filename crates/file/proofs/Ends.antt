@@ -1,29 +1,20 @@
 -- The end of reading into a slice: what 11 does to an answer, and what stands in the slice after it. Assumes nothing.
 use mathlib.Core.Path.{_≡_, refl, sym, ap}
 use mathlib.Core.Bool.{Bool, true, false, cond}
-use mathlib.Core.List.{List, [], _∷_, _++_}
+use mathlib.Core.List.{List, _++_}
 use Prim.Native.Nat.{ℕ, _*_}
 use native.Mathlib.Omega.{arith}
-use denote.Enum.Declared.{tagOf}
-use types.Run.{OneOf}
 use lib.Dec.{ltb}
 use lib.IntN.{ℤ}
 use lib.ListN.{length}
 use borrow.Author.Tests.{ltb-false}
-use Rattle.rules.proofs.Loaded.{the-type}
+use Rattle.rules.proofs.Unfit.{IsUnfit, not-rows}
 use Rattle.rules.specs.declared.Loaded.{Loaded}
 use Rattle.rules.specs.declared.Loaded.the-variants.{Rows, Unfit}
 use Rattle.rules.specs.Numbers.{shortSlice}
 use Rattle.rules.specs.File.{fileTable, wanted, checkFile, andSlice, loadedInto, loadAnswer, loadNumbers}
 use Rattle.rules.specs.Tables.{table, width, HasRows, afterRows}
 use Rattle.file_laws.specs.Accepted.{unfit-rows}
-
--- an answer that is no row count
-abbrev pub IsUnfit : Loaded → Type 0
-IsUnfit x = OneOf (1 ∷ []) (tagOf the-type x)
-
-not-rows : {X : Type 0} (n : ℕ) → IsUnfit (Rows n) → X
-not-rows n h = let z : _≡_ {A = ℕ} 0 1 = h in absurd (omega arith)
 
 pub unfit-stays : (n room : ℕ) (x : Loaded) → IsUnfit x → x ≡ andSlice n room x
 unfolding andSlice

@@ -5,7 +5,7 @@ ghost use Prim.Native.Nat.{_+_, _≤_};
 ghost use lib.ListN.{length};
 ghost use Rattle.rules.specs.Tables.{table, width, HasRows, afterRows, mostRows};
 ghost use Rattle.rules.specs.File.{rowBytes, rowStart, fileTable, andSlice, loadAnswer, loadNumbers};
-ghost use Rattle.file_laws.specs.Parts.{RowFits};
+ghost use Rattle.file_laws.specs.Parts.{RowBytesFit};
 ghost use Rattle.file.specs.Put.{rowPut, RowsFit};
 use file_check::check;
 use row_columns::column_bytes;
@@ -29,7 +29,7 @@ fn and_room(n: u32, checked: Loaded, room: usize) -> Loaded
 
 fn put_row_at(n: u32, bytes: &[u8], o: usize, out: &mut [i32], p: usize)
     requires { ⌜ (o + rowBytes n ≤ length (now bytes)) × (p + width n ≤ length (now out)) ⌝ }
-    requires { ⌜ RowFits n (now bytes) o ⌝ }
+    requires { ⌜ RowBytesFit n (now bytes) o ⌝ }
     ensures { λ _. ⌜ now (out .exit) ≡ rowPut n (now (bytes .entry)) o p (now (out .entry)) ⌝ }
 {
     let width = tables::width(n);
@@ -46,7 +46,7 @@ fn put_row_at(n: u32, bytes: &[u8], o: usize, out: &mut [i32], p: usize)
 // code is chosen by n, so that the compiler knows the columns.
 fn put_row(n: u32, bytes: &[u8], o: usize, out: &mut [i32], p: usize)
     requires { ⌜ (o + rowBytes n ≤ length (now bytes)) × (p + width n ≤ length (now out)) ⌝ }
-    requires { ⌜ RowFits n (now bytes) o ⌝ }
+    requires { ⌜ RowBytesFit n (now bytes) o ⌝ }
     ensures { λ _. ⌜ now (out .exit) ≡ rowPut n (now (bytes .entry)) o p (now (out .entry)) ⌝ }
 {
     if n == 2 {

@@ -117,21 +117,21 @@ module _ (bytes : List ℕ) (t : Table) where
 -- ---- The file
 
 -- a file that is accepted, with n rows
-pub record Accepted (bytes : List ℕ) (kind : ℤ) (n : ℕ) : Type 0 where
+pub record FileAccepted (bytes : List ℕ) (kind : ℤ) (n : ℕ) : Type 0 where
   pub head : HeadPassed bytes kind
   pub count : fileCount bytes ≡ n
   pub few : n ≤ mostRows
   pub size : length bytes ≡ rowStart (wanted kind) n
   pub rows : (i : ℕ) → i < n → RowPassed bytes (fileTable (wanted kind) bytes n) i
 
-pub accepted : (bytes : List ℕ) (kind : ℤ) (n : ℕ) → checkFile bytes kind ≡ Rows n → Accepted bytes kind n
+pub accepted : (bytes : List ℕ) (kind : ℤ) (n : ℕ) → checkFile bytes kind ≡ Rows n → FileAccepted bytes kind n
 unfolding checkFile
 accepted bytes kind n h = go (eqb (headCode bytes kind) 0) refl h
   where
     go : (b : Bool) → eqb (headCode bytes kind) 0 ≡ b →
         cond b (rowsLoaded bytes (fileTable (wanted kind) bytes (fileCount bytes)) (fileCount bytes))
         (Unfit (headCode bytes kind) 0) ≡ Rows n →
-        Accepted bytes kind n
+        FileAccepted bytes kind n
     go false e g = unfit-rows (headCode bytes kind) 0 n g
     go true e g =
         let m = fileCount bytes in

@@ -26,11 +26,11 @@ header-parts bytes f =
     record { count = and-left c (k && e) f; kind = and-left k e rest; end = and-right k e rest }
 
 -- of a row that begins at o
-pub record RowFits (n : ℕ) (bytes : List ℕ) (o : ℕ) : Type 0 where
+pub record RowBytesFit (n : ℕ) (bytes : List ℕ) (o : ℕ) : Type 0 where
   pub column : (j : ℕ) → j < width n → columnFitsAt bytes o j ≡ true
   pub end : endsLine bytes (o + columnStart (width n)) ≡ true
 
-pub row-parts : (n : ℕ) (bytes : List ℕ) (i : ℕ) → rowColumnsFit n bytes i ≡ true → RowFits n bytes (rowStart n i)
+pub row-parts : (n : ℕ) (bytes : List ℕ) (i : ℕ) → rowColumnsFit n bytes i ≡ true → RowBytesFit n bytes (rowStart n i)
 unfolding rowColumnsFit
 row-parts n bytes i f =
     let o = rowStart n i in

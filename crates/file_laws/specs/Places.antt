@@ -18,33 +18,34 @@ abbrev pub placeValues : List ℕ
 placeValues = 1 ∷ 10 ∷ 100 ∷ 1000 ∷ 10000 ∷ 100000 ∷ 1000000 ∷ []
 
 -- entry i, of a digit with i digits behind it
-abbrev pub placeAt : ℕ → ℕ
-placeAt i = getD placeValues i 0
+abbrev pub placeValueAt : ℕ → ℕ
+placeValueAt i = getD placeValues i 0
 
 -- the digits times their entries, added up
 unfoldable pub byPlaces : List ℕ → ℕ
 byPlaces [] = 0
-byPlaces (b ∷ l) = placeAt (length l) * (b - 48) + byPlaces l
+byPlaces (b ∷ l) = placeValueAt (length l) * (b - 48) + byPlaces l
 
 -- ---- The table's rule: one test over all of it, and one law that reads it off at every entry
 
-tenfold : every (λ i. eqb (placeAt (suc i)) (10 * placeAt i)) (range 0 6) ≡ true
+tenfold : every (λ i. eqb (placeValueAt (suc i)) (10 * placeValueAt i)) (range 0 6) ≡ true
 unfolding every range
 tenfold = refl
 
-pub place-tenfold : (i : ℕ) → i < 6 → placeAt (suc i) ≡ 10 * placeAt i
+pub place-tenfold : (i : ℕ) → i < 6 → placeValueAt (suc i) ≡ 10 * placeValueAt i
 place-tenfold i h =
-    eqb-true (placeAt (suc i)) (10 * placeAt i)
-    (every-at (λ i. eqb (placeAt (suc i)) (10 * placeAt i)) i tenfold (mem-range i 0 6 .1 (omega arith, omega arith)))
+    eqb-true (placeValueAt (suc i)) (10 * placeValueAt i)
+    (every-at (λ i. eqb (placeValueAt (suc i)) (10 * placeValueAt i)) i tenfold
+    (mem-range i 0 6 .1 (omega arith, omega arith)))
 
-pub place-power : (i : ℕ) → i < 7 → placeAt i ≡ 10 ^ i
+pub place-power : (i : ℕ) → i < 7 → placeValueAt i ≡ 10 ^ i
 place-power zero h = refl
 place-power (suc i) h = rw (place-tenfold i (omega arith), place-power i (omega arith), pow-suc) (omega arith)
 
 -- ---- A column's number
 
 -- digits behind others that are worth n
-digits-behind : (n : ℕ) (l : List ℕ) → length l ≤ 6 → digitsFrom n l ≡ placeAt (length l) * n + byPlaces l
+digits-behind : (n : ℕ) (l : List ℕ) → length l ≤ 6 → digitsFrom n l ≡ placeValueAt (length l) * n + byPlaces l
 unfolding digitsFrom byPlaces
 digits-behind n [] h = omega arith
 digits-behind n (b ∷ l) h =

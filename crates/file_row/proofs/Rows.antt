@@ -13,23 +13,23 @@ use Rattle.rules.specs.File.{columns, columnStart, columnFitsAt, rowBytes}
 use Rattle.file_laws.specs.Columns.{start-next, signed-back, size-back, column-ends}
 use Rattle.column.specs.declared.Column.{Column}
 use Rattle.column.specs.Column.{columnHeld}
-use Rattle.file_row.specs.Held.{heldAt, columnsHeld, coordinateHeld, numbersHeld, frontHeld}
+use Rattle.file_row.specs.Held.{heldColumn, columnsHeld, coordinateHeld, numbersHeld, frontHeld}
 
 -- one column more
 module _ (bytes : List ℕ) (o : ℕ) where
   pub columns-more : (k : ℕ) →
-      columnsHeld (k + 1 + 2) bytes o ≡ columnsHeld (k + 2) bytes o && heldAt bytes o (k + 2) .fits
+      columnsHeld (k + 1 + 2) bytes o ≡ columnsHeld (k + 2) bytes o && heldColumn bytes o (k + 2) .fits
   unfolding columnsHeld columnHeld columnFitsAt
   columns-more k =
       let e : k + 1 + 2 ≡ suc (k + 2) = omega arith in
       ap (λ (m : ℕ). columnsHeld m bytes o) e ∙ every-more (columnFitsAt bytes o) (k + 2)
 
   pub numbers-more : (k : ℕ) →
-      numbersHeld (k + 1) bytes o ≡ numbersHeld k bytes o && coordinateFits k (heldAt bytes o (k + 2) .number)
+      numbersHeld (k + 1) bytes o ≡ numbersHeld k bytes o && coordinateFits k (heldColumn bytes o (k + 2) .number)
   unfolding numbersHeld coordinateHeld
   numbers-more k =
-      let pattern = within (pos 1) (pos 999999) (heldAt bytes o 0 .number) in
-      let score = within (pos 0) (pos 9999) (heldAt bytes o 1 .number) in
+      let pattern = within (pos 1) (pos 999999) (heldColumn bytes o 0 .number) in
+      let score = within (pos 0) (pos 9999) (heldColumn bytes o 1 .number) in
       let seen = every (coordinateHeld bytes o) (range 0 k) in
       ap (λ (m : ℕ). numbersHeld m bytes o) (add-one k)
       ∙ ap (λ (b : Bool). (pattern && score) && b) (every-more (coordinateHeld bytes o) k)
@@ -50,7 +50,7 @@ module _ (bytes : List ℕ) (o : ℕ) where
   unfolding frontHeld columnsHeld numbersHeld coordinateHeld columnHeld columnFitsAt columnStart every range
   front-is p s a b ep es ea eb =
       let z : o ≡ o + 0 = omega arith in
-      let ep₀ : p ≡ heldAt bytes o 0 = ep ∙ ap (λ (x : ℕ). columnHeld false (columns bytes x 6)) z in
+      let ep₀ : p ≡ heldColumn bytes o 0 = ep ∙ ap (λ (x : ℕ). columnHeld false (columns bytes x 6)) z in
       let last : (t : Bool) → t ≡ t && true = λ t. sym (and-true t) in
       λ i.
       record {
@@ -62,7 +62,7 @@ module _ (bytes : List ℕ) (o : ℕ) where
 
   -- the columns behind b
   module _ (k : ℕ) (h : 2 ≤ k) (at : ℕ) (e : at ≡ o + columnStart (k + 2)) where
-    pub back-held : columnHeld false (columns bytes at 6) ≡ heldAt bytes o (k + 2)
+    pub back-held : columnHeld false (columns bytes at 6) ≡ heldColumn bytes o (k + 2)
     back-held = simp (e, signed-back (k + 2) (omega arith))
 
     pub back-next : at + 6 ≡ o + columnStart (k + 1 + 2)

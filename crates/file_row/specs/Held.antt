@@ -14,8 +14,8 @@ use Rattle.column.specs.Column.{columnHeld}
 use Rattle.file_row.specs.declared.Row.{Row}
 
 -- what is read of number j of the row that begins at o
-abbrev pub heldAt : List ℕ → ℕ → ℕ → Column
-heldAt bytes o j = columnHeld (isSigned j) (columnAt bytes o j)
+abbrev pub heldColumn : List ℕ → ℕ → ℕ → Column
+heldColumn bytes o j = columnHeld (isSigned j) (columnAt bytes o j)
 
 -- whether the first k columns of it are formed as they must be
 unfoldable pub columnsHeld : ℕ → List ℕ → ℕ → Bool
@@ -23,11 +23,12 @@ columnsHeld k bytes o = every (columnFitsAt bytes o) (range 0 k)
 
 -- whether its pattern number and score, and its first k coordinates, keep their ranges as they are read
 unfoldable pub coordinateHeld : List ℕ → ℕ → ℕ → Bool
-coordinateHeld bytes o k = coordinateFits k (heldAt bytes o (k + 2) .number)
+coordinateHeld bytes o k = coordinateFits k (heldColumn bytes o (k + 2) .number)
 
 unfoldable pub numbersHeld : ℕ → List ℕ → ℕ → Bool
 numbersHeld k bytes o =
-    (within (pos 1) (pos 999999) (heldAt bytes o 0 .number) && within (pos 0) (pos 9999) (heldAt bytes o 1 .number))
+    (within (pos 1) (pos 999999) (heldColumn bytes o 0 .number)
+    && within (pos 0) (pos 9999) (heldColumn bytes o 1 .number))
     && every (coordinateHeld bytes o) (range 0 k)
 
 -- the columns that rows of every card have
@@ -36,7 +37,7 @@ frontHeld bytes o =
     record {
       fits = columnsHeld (width 2) bytes o;
       inside = numbersHeld 2 bytes o;
-      score = heldAt bytes o 1 .number;
+      score = heldColumn bytes o 1 .number;
     }
 
 -- "Each row, 27 bytes", or 33: of n coordinates
@@ -45,7 +46,7 @@ rowHeld n bytes o =
     record {
       fits = columnsHeld (width n) bytes o && endsLine bytes (o + columnStart (width n));
       inside = numbersHeld n bytes o;
-      score = heldAt bytes o 1 .number;
+      score = heldColumn bytes o 1 .number;
     }
 
 -- "each row by 9, 6, 7"

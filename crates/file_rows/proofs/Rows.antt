@@ -23,14 +23,14 @@ use Rattle.file_laws.specs.Parts.{row-parts}
 use Rattle.file_laws.specs.Table.{table-length, table-num}
 use Rattle.row_ranges.specs.Ranges.{in-range-parts}
 use Rattle.column.specs.Column.{number-held}
-use Rattle.file_row.specs.Held.{heldAt, columnsHeld, coordinateHeld, numbersHeld, rowHeld, heldRowCode}
+use Rattle.file_row.specs.Held.{heldColumn, columnsHeld, coordinateHeld, numbersHeld, rowHeld, heldRowCode}
 
 -- what is read of a row that fits are the file's numbers
 module _ (n : ℕ) (bytes : List ℕ) (i : ℕ) (fit : rowColumnsFit n bytes i ≡ true) (m : ℕ) (h : i < m) where
   abbrev t : Table
   t = fileTable n bytes m
 
-  pub held-num : (j : ℕ) → j < width n → heldAt bytes (rowStart n i) j .number ≡ num t i j
+  pub held-num : (j : ℕ) → j < width n → heldColumn bytes (rowStart n i) j .number ≡ num t i j
   unfolding columnFitsAt numberAt
   held-num j k =
       number-held (isSigned j) (columnAt bytes (rowStart n i) j) (row-parts n bytes i fit .column j k)

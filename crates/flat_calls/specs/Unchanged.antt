@@ -63,8 +63,8 @@ nothing-written l NotYet e = refl
 nothing-written l Finished e = refl
 
 -- what show's three numbers name: rows first to first + count - 1 of the table
-unfoldable pub named : Table → Table → List ℕ → List ℤ
-named f t three =
+unfoldable pub namedRows : Table → Table → List ℕ → List ℤ
+namedRows f t three =
     let table = getD three 0 0 in
     let first = getD three 1 0 - 1 in
     let count = getD three 2 0 in
@@ -73,8 +73,8 @@ named f t three =
 less-one : (n : ℕ) → n + 1 - 1 ≡ n
 less-one n = omega arith
 
-pub shown-named : (f t : Table) (s : Session) → named f t (shownNumbers f t s) ≡ showCall f t s
-unfolding named shownNumbers showCall shownRows
+pub shown-named : (f t : Table) (s : Session) → namedRows f t (shownNumbers f t s) ≡ showCall f t s
+unfolding namedRows shownNumbers showCall shownRows
 shown-named f t s = go (eqb (lentCode f t s) 0) (eqb (s .last) 1) (eqb (s .last) 2)
   where
     d : ℕ
@@ -90,7 +90,7 @@ shown-named f t s = go (eqb (lentCode f t s) 0) (eqb (s .last) 1) (eqb (s .last)
     none = 0 ∷ 0 ∷ 0 ∷ []
 
     go : (x y z : Bool)
-        → named f t (cond x (cond y (blockNumbers 1 b d) (cond z (blockNumbers 2 b e) none)) none)
+        → namedRows f t (cond x (cond y (blockNumbers 1 b d) (cond z (blockNumbers 2 b e) none)) none)
         ≡ cond x
         (cond y (part f (lastBlock b d) (d - lastBlock b d) .numbers)
         (cond z (part t (lastBlock b e) (e - lastBlock b e) .numbers) []))

@@ -12,7 +12,7 @@ use lib.ListN.{length}
 use lib.Seq.{getD-take}
 use borrow.Author.Tests.{leb-true, leb-false}
 use Rattle.lists.specs.Bools.{clash, fails}
-use Rattle.join.specs.Join.{Side, SideLaws, Laws, Begins, rowAt, weightAt, first, last, ceiling, flip}
+use Rattle.join.specs.Join.{Side, SideLaws, Laws, Begins, rowAt, weightAt, firstWeight, last, ceiling, flip}
 
 -- the same laws, the tables in the other order
 pub swap-laws : {A B : Type 0} {S : Side A} {U : Side B} {qual : A → B → Bool} → Laws S U qual → Laws U S (flip qual)
@@ -61,16 +61,16 @@ module _ {A B : Type 0} (S : Side A) (U : Side B) (qual : A → B → Bool) (law
 module _ {A B : Type 0} (S : Side A) (U : Side B) where
   -- LF + HT
   abbrev pub fieldHalf : List A → ℕ → List B → ℕ
-  fieldHalf F p T = last S F p + first U T
+  fieldHalf F p T = last S F p + firstWeight U T
 
   -- HF + LT
   abbrev pub trimHalf : List A → List B → ℕ → ℕ
-  trimHalf F T q = first S F + last U T q
+  trimHalf F T q = firstWeight S F + last U T q
 
 module _ {A B : Type 0} (S : Side A) (U : Side B) (F : List A) (p : ℕ) (T : List B) (q : ℕ) where
   pub ceiling-swap : ceiling U S T q F p ≡ ceiling S U F p T q
   unfolding ceiling
-  ceiling-swap = go (S .ended F p) (U .ended T q) (last S F p) (first U T) (first S F) (last U T q)
+  ceiling-swap = go (S .ended F p) (U .ended T q) (last S F p) (firstWeight U T) (firstWeight S F) (last U T q)
     where
       go : (s t : Bool) (a b c d : ℕ)
           → max (cond s 0 (b + a)) (cond t 0 (d + c)) ≡ max (cond t 0 (c + d)) (cond s 0 (a + b))
@@ -131,7 +131,7 @@ module _ {A B : Type 0} (S : Side A) (U : Side B) (qual : A → B → Bool) (law
         go false f =
             let x : weightAt S F′ i ≤ last S F′ p =
             weight-falls S U qual (laws .fields) F′ (p - 1) i (b .legal) (omega arith) hi in
-            let y : weightAt U T′ j ≤ first U T′ =
+            let y : weightAt U T′ j ≤ firstWeight U T′ =
             weight-falls U S (flip qual) (laws .trims) T′ 0 j (c .legal) (omega arith) hj in
             (f, omega (arith, begins-weight S p (p - 1) F F′ b (omega arith), begins-weight U q 0 T T′ c (omega arith)))
 

@@ -29,8 +29,8 @@ unfoldable pub weightAt : {A : Type 0} → Side A → List A → ℕ → ℕ
 weightAt S l i = S .weight (rowAt S l i)
 
 -- the rules' HF and HT: the weight of the first row
-abbrev pub first : {A : Type 0} → Side A → List A → ℕ
-first S l = weightAt S l 0
+abbrev pub firstWeight : {A : Type 0} → Side A → List A → ℕ
+firstWeight S l = weightAt S l 0
 
 -- the rules' LF and LT: the weight of the last of n rows read
 abbrev pub last : {A : Type 0} → Side A → List A → ℕ → ℕ
@@ -38,7 +38,7 @@ last S l n = weightAt S l (n - 1)
 
 -- the rules' drop: HF - LF, or HT - LT
 abbrev pub dropAt : {A : Type 0} → Side A → List A → ℕ → ℕ
-dropAt S l n = first S l - last S l n
+dropAt S l n = firstWeight S l - last S l n
 
 -- l′ is a legal table that begins with the first n rows of l; where the last row of l is within these, l′ is known to
 -- end there
@@ -51,7 +51,7 @@ module _ {A B : Type 0} (S : Side A) (U : Side B) where
   -- the rules' ceiling at depths p and q: the higher of HF + LT, if trim is not ended, and LF + HT, if field is not
   unfoldable pub ceiling : List A → ℕ → List B → ℕ → ℕ
   ceiling F p T q =
-      max (cond (U .ended T q) 0 (first S F + last U T q)) (cond (S .ended F p) 0 (last S F p + first U T))
+      max (cond (U .ended T q) 0 (firstWeight S F + last U T q)) (cond (S .ended F p) 0 (last S F p + firstWeight U T))
 
   -- of two tables that were read, the field table not to its end, it goes first: the other is ended, or its own drop is
   -- smaller, or the drops are equal and it has not more rows read

@@ -14,7 +14,7 @@ use Rattle.lists.specs.Lists.{atLeast}
 use Rattle.lists.specs.Counts.{count-falls}
 use Rattle.lists.specs.Bools.{clash}
 use Rattle.join.specs.Join.{Side, Laws, Preferred, Chosen, ceiling, sumsOf, region, Sure, flip}
-use Rattle.join.specs.Regions.{Below, region-grows, count-cut, count-swap}
+use Rattle.join.specs.Regions.{LowPair, region-grows, count-cut, count-swap}
 use Rattle.join.specs.Ceiling.{swap-laws, fieldHalf, trimHalf, ceiling-half, ceiling-le, ceiling-swap}
 use Rattle.join.specs.Ceiling.{ceiling-falls, half-falls, beyond-low}
 use Rattle.join.specs.Sure.{begins-take, Covered, sure-cases, sure-is, sure-swap}
@@ -41,7 +41,7 @@ module _ {A B : Type 0} (S : Side A) (U : Side B) (qual : A → B → Bool) (law
       c : ℕ
       c = ceiling S U F d T e
 
-      under : (j i : ℕ) → e ≤ j → Below U S (flip qual) c (take q T) (take d F) j i
+      under : (j i : ℕ) → e ≤ j → LowPair U S (flip qual) c (take q T) (take d F) j i
       under j i a hj hi y =
           let trim-begins = begins-take U S (flip qual) (laws .trims) e q T t h in
           let field-begins = begins-take S U qual (laws .fields) d d F f (omega arith) in

@@ -14,12 +14,12 @@ use Rattle.lists.specs.Lists.{keep, atLeast}
 use Rattle.lists.specs.Words.{one, total}
 use Rattle.lists.specs.Counts.{count-each, count-map-keep}
 use Rattle.lists.specs.Totals.{total-append, total-le, total-take, total-grows, total-part, total-swap}
-use Rattle.join.specs.Join.{Side, sumsOf, rowAt, weightAt, first, region, flip}
+use Rattle.join.specs.Join.{Side, sumsOf, rowAt, weightAt, firstWeight, region, flip}
 
 module _ {A B : Type 0} (S : Side A) (U : Side B) (qual : A → B → Bool) where
   -- if rows i and j qualify their sum is below c
-  abbrev pub Below : ℕ → List A → List B → ℕ → ℕ → Type 0
-  Below c F T i j =
+  abbrev pub LowPair : ℕ → List A → List B → ℕ → ℕ → Type 0
+  LowPair c F T i j =
       i < length F → j < length T → qual (rowAt S F i) (rowAt U T j) ≡ true → weightAt S F i + weightAt U T j < c
 
   module _ (c : ℕ) where
@@ -66,7 +66,7 @@ module _ {A B : Type 0} (S : Side A) (U : Side B) (qual : A → B → Bool) wher
         go false e = refl
 
     -- where no pair with a field row from p on is at or above c, the first p rows have all that are
-    pub count-cut : (p : ℕ) (F : List A) (T : List B) → ((i j : ℕ) → p ≤ i → Below c F T i j)
+    pub count-cut : (p : ℕ) (F : List A) (T : List B) → ((i j : ℕ) → p ≤ i → LowPair c F T i j)
         → atLeast c (sumsOf S U qual F T) ≡ atLeast c (sumsOf S U qual (take p F) T)
     unfolding weightAt total
     count-cut p F T h =
@@ -80,7 +80,7 @@ module _ {A B : Type 0} (S : Side A) (U : Side B) (qual : A → B → Bool) wher
     unfolding hit
     hit-high x y e h = rw (e, le-leb c (S .weight x + U .weight y) h)
 
-    hit-first : (T : List B) (x : A) → 1 ≤ length T → qual x (rowAt U T 0) ≡ true → c ≤ S .weight x + first U T
+    hit-first : (T : List B) (x : A) → 1 ≤ length T → qual x (rowAt U T 0) ≡ true → c ≤ S .weight x + firstWeight U T
         → 1 ≤ total (hit x) T
     unfolding weightAt total
     hit-first [] x k e h = absurd (omega arith)
@@ -88,7 +88,7 @@ module _ {A B : Type 0} (S : Side A) (U : Side B) (qual : A → B → Bool) wher
 
     -- a row that qualifies with the first row of the other table, at or above c, is one pair more
     pub count-more : (F : List A) (T : List B) (x : A) → 1 ≤ length T → qual x (rowAt U T 0) ≡ true
-        → c ≤ S .weight x + first U T
+        → c ≤ S .weight x + firstWeight U T
         → atLeast c (sumsOf S U qual F T) < atLeast c (sumsOf S U qual (F ++ x ∷ []) T)
     count-more F T x k e h =
         let a : hits (F ++ x ∷ []) T ≡ hits F T + (total (hit x) T + 0) =
@@ -110,7 +110,7 @@ module _ {A B : Type 0} (S : Side A) (U : Side B) (qual : A → B → Bool) (c :
 
   -- where no pair with a field row from p on or a trim row from q on is at or above c, the region has all that are
   pub count-region : (p q : ℕ) (F : List A) (T : List B)
-      → ((i j : ℕ) → (p ≤ i) ⊎ (q ≤ j) → Below S U qual c F T i j)
+      → ((i j : ℕ) → (p ≤ i) ⊎ (q ≤ j) → LowPair S U qual c F T i j)
       → atLeast c (sumsOf S U qual F T) ≡ region S U qual c F p T q
   unfolding weightAt
   count-region p q F T h =
@@ -119,7 +119,7 @@ module _ {A B : Type 0} (S : Side A) (U : Side B) (qual : A → B → Bool) (c :
       ∙ count-cut U S (flip qual) c q T (take p F) columns
       ∙ count-swap (take p F) (take q T)
     where
-      columns : (j i : ℕ) → q ≤ j → Below U S (flip qual) c T (take p F) j i
+      columns : (j i : ℕ) → q ≤ j → LowPair U S (flip qual) c T (take p F) j i
       columns j i a b k e =
           let m : i < min p (length F) = rw length-take at k in
           let r : rowAt S (take p F) i ≡ rowAt S F i = getD-take p F i (S .blank) (omega arith) in

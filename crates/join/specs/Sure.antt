@@ -12,9 +12,9 @@ use borrow.Author.Tests.{leb-true, leb-false, ltb-true, ltb-false, le-leb}
 use Rattle.lists.specs.Lists.{each, atLeast, best}
 use Rattle.lists.specs.Counts.{count-none, count-falls, count-best, best-ext}
 use Rattle.lists.specs.Bools.{clash, fails, and-out, or-out}
-use Rattle.join.specs.Join.{Side, SideLaws, Laws, Partner, Begins, rowAt, weightAt, first, last, ceiling}
+use Rattle.join.specs.Join.{Side, SideLaws, Laws, Partner, Begins, rowAt, weightAt, firstWeight, last, ceiling}
 use Rattle.join.specs.Join.{sumsOf, region, Sure, sureTest, flip}
-use Rattle.join.specs.Regions.{Below, region-part, count-cut, count-more, count-swap, count-region}
+use Rattle.join.specs.Regions.{LowPair, region-part, count-cut, count-more, count-swap, count-region}
 use Rattle.join.specs.Ceiling.{swap-laws, ended-not, fieldHalf, trimHalf, ceiling-cases, outside-low}
 
 -- The test
@@ -76,7 +76,7 @@ module _ {A B : Type 0} (S : Side A) (U : Side B) (qual : A → B → Bool) (k :
 
   -- where pairs outside the reading are below c, tables that begin so count as the region read
   begins-count : (c : ℕ) (F′ : List A) (T′ : List B) → Begins S p F F′ → Begins U q T T′
-      → ((i j : ℕ) → (p ≤ i) ⊎ (q ≤ j) → Below S U qual c F′ T′ i j)
+      → ((i j : ℕ) → (p ≤ i) ⊎ (q ≤ j) → LowPair S U qual c F′ T′ i j)
       → atLeast c (sumsOf S U qual F′ T′) ≡ region S U qual c F p T q
   begins-count c F′ T′ b d low = count-region S U qual c p q F′ T′ low ∙ region-begins c F′ T′ b d
 
@@ -87,7 +87,7 @@ module _ {A B : Type 0} (S : Side A) (U : Side B) (qual : A → B → Bool) (k :
         sure-known (λ c. min k (atLeast c []))
         (λ c F′ T′ b d. ap (min k) (count-cut S U qual c 0 F′ T′ (none c F′ T′ b)))
       where
-        none : (c : ℕ) (F′ : List A) (T′ : List B) → Begins S p F F′ → (i j : ℕ) → 0 ≤ i → Below S U qual c F′ T′ i j
+        none : (c : ℕ) (F′ : List A) (T′ : List B) → Begins S p F F′ → (i j : ℕ) → 0 ≤ i → LowPair S U qual c F′ T′ i j
         none c F′ T′ b i j z hi hj g = clash g (laws .fields .empty-dead F F′ p f b e i hi (rowAt U T′ j))
 
     module _ (t : U .Legal T) where
@@ -97,7 +97,7 @@ module _ {A B : Type 0} (S : Side A) (U : Side B) (qual : A → B → Bool) (k :
           (λ c F′ T′ b d. ap (min k) (begins-count c F′ T′ b d (none c F′ T′ b d)))
         where
           none : (c : ℕ) (F′ : List A) (T′ : List B) → Begins S p F F′ → Begins U q T T′ → (i j : ℕ)
-              → (p ≤ i) ⊎ (q ≤ j) → Below S U qual c F′ T′ i j
+              → (p ≤ i) ⊎ (q ≤ j) → LowPair S U qual c F′ T′ i j
           none c F′ T′ b d i j (inl h) hi hj y = clash y (laws .fields .ended-dead F F′ p f b e i h hi (rowAt U T′ j))
           none c F′ T′ b d i j (inr h) hi hj y = clash y (laws .trims .ended-dead T T′ q t d g j h hj (rowAt S F′ i))
 
@@ -109,7 +109,7 @@ module _ {A B : Type 0} (S : Side A) (U : Side B) (qual : A → B → Bool) (k :
           top = ceiling S U F p T q
 
           low : (c : ℕ) (F′ : List A) (T′ : List B) → Begins S p F F′ → Begins U q T T′ → top < c → (i j : ℕ)
-              → (p ≤ i) ⊎ (q ≤ j) → Below S U qual c F′ T′ i j
+              → (p ≤ i) ⊎ (q ≤ j) → LowPair S U qual c F′ T′ i j
           low c F′ T′ b d h i j o hi hj y =
               omega (arith, outside-low S U qual laws F F′ T T′ p q i j f t (n .0) (n .1) b d o hi hj y)
 
@@ -164,7 +164,7 @@ module _ {A B : Type 0} (S : Side A) (U : Side B) (qual : A → B → Bool) (law
   -- fewer than k are there
   row-tells : (k c : ℕ) (F : List A) (p : ℕ) (T T′ : List B) (q : ℕ) (x : A) → S .Legal F → Begins U q T T′
       → S .ended F p ≡ false → S .Legal (take p F ++ x ∷ []) → 1 ≤ length T′ → qual x (rowAt U T′ 0) ≡ true
-      → c ≤ S .weight x + first U T′ → atLeast c (sumsOf S U qual (take p F) T′) < k → Sure S U qual k F p T q → ⊥
+      → c ≤ S .weight x + firstWeight U T′ → atLeast c (sumsOf S U qual (take p F) T′) < k → Sure S U qual k F p T q → ⊥
   row-tells k c F p T T′ q x f d e g r y h n s =
       let alone = begins-take p p F f (omega arith) in
       let more = begins-more p F x e g in
@@ -191,13 +191,13 @@ module _ {A B : Type 0} (S : Side A) (U : Side B) (qual : A → B → Bool) (law
   -- the partner of the other table's first row is such a row
   module _ (q : ℕ) (t : U .Legal T) (hq : 1 ≤ q) (g : U .empty T q ≡ false) where
     partner-tells : (c p : ℕ) → S .ended F p ≡ false
-        → ((x : A) → (1 ≤ p → S .weight x ≡ last S F p) → c ≤ S .weight x + first U T)
+        → ((x : A) → (1 ≤ p → S .weight x ≡ last S F p) → c ≤ S .weight x + firstWeight U T)
         → region S U qual c F p T q < k → Sure S U qual k F p T q → ⊥
     unfolding weightAt
     partner-tells c p e h n s =
         let x : Partner S U qual F p T = laws .fields .partner F p T q f t e hq g in
         let r : rowAt U (take q T) 0 ≡ rowAt U T 0 = getD-take q T 0 (U .blank) hq in
-        let w : first U (take q T) ≡ first U T = ap (U .weight) r in
+        let w : firstWeight U (take q T) ≡ firstWeight U T = ap (U .weight) r in
         let m : 1 ≤ length (take q T) = rw length-take (omega (arith, has-rows U S (flip qual) (laws .trims) T q g)) in
         let begun = begins-take U S (flip qual) (laws .trims) q q T t (omega arith) in
         row-tells S U qual (laws .fields) k c F p T (take q T) q (x .row) f begun e (x .stands) m (rw r (x .fits))

@@ -10,7 +10,7 @@ use lib.Dec.{ltb}
 use lib.ListN.{length, getD, take, drop, set, drop-of-length-le}
 use lib.Seq.{take-suc-set, take-set-lt, drop-set-lt, drop-cons, getD-take, length-take-le, take-all}
 use Rattle.lists.specs.Lists.{ins}
-use Rattle.keys.specs.Held.{placeOf, putAt}
+use Rattle.keys.specs.Held.{placeOf, insertAt}
 
 -- ---- Moving up by one
 
@@ -67,18 +67,18 @@ place-le p (q ∷ l) = go (ltb q p) (place-le p l)
 -- ---- Insertion
 
 -- insertion is a put at the place
-ins-is : (p : ℕ) (l : List ℕ) → putAt (placeOf p l) p l ≡ ins ltb p l
-unfolding putAt placeOf ins
+ins-is : (p : ℕ) (l : List ℕ) → insertAt (placeOf p l) p l ≡ ins ltb p l
+unfolding insertAt placeOf ins
 ins-is p [] = refl
 ins-is p (q ∷ l) = go (ltb q p) (ins-is p l)
   where
-    go : (t : Bool) → putAt (placeOf p l) p l ≡ ins ltb p l
-        → putAt (cond t (suc (placeOf p l)) 0) p (q ∷ l) ≡ cond t (q ∷ ins ltb p l) (p ∷ q ∷ l)
+    go : (t : Bool) → insertAt (placeOf p l) p l ≡ ins ltb p l
+        → insertAt (cond t (suc (placeOf p l)) 0) p (q ∷ l) ≡ cond t (q ∷ ins ltb p l) (p ∷ q ∷ l)
     go true h = ap (λ (r : List ℕ). q ∷ r) h
     go false h = refl
 
-length-put : (i p : ℕ) (l : List ℕ) → i ≤ length l → length (putAt i p l) ≡ suc (length l)
-unfolding putAt
+length-put : (i p : ℕ) (l : List ℕ) → i ≤ length l → length (insertAt i p l) ≡ suc (length l)
+unfolding insertAt
 length-put zero p l h = refl
 length-put (suc i) p [] h = absurd (not-suc-le-zero h)
 length-put (suc i) p (q ∷ l) h = ap suc (length-put i p l (le-of-suc-le-suc h))
@@ -97,13 +97,13 @@ falls-off (suc room) p (q ∷ l) h k = go (ltb q p) (falls-off room p l (le-of-s
     go false ih m = absurd (not-suc-le-zero m)
 
 -- where there is room, nothing falls off
-pub all-kept : (room p : ℕ) (l : List ℕ) → length l < room → take room (ins ltb p l) ≡ putAt (placeOf p l) p l
+pub all-kept : (room p : ℕ) (l : List ℕ) → length l < room → take room (ins ltb p l) ≡ insertAt (placeOf p l) p l
 all-kept room p l h =
     ap (take room) (sym (ins-is p l))
-    ∙ take-all room (putAt (placeOf p l) p l) (let e = length-put (placeOf p l) p l (place-le p l) in omega arith)
+    ∙ take-all room (insertAt (placeOf p l) p l) (let e = length-put (placeOf p l) p l (place-le p l) in omega arith)
 
-cut : (i m p : ℕ) (l : List ℕ) → i ≤ m → m < length l → take (suc m) (putAt i p l) ≡ putAt i p (take m l)
-unfolding putAt
+cut : (i m p : ℕ) (l : List ℕ) → i ≤ m → m < length l → take (suc m) (insertAt i p l) ≡ insertAt i p (take m l)
+unfolding insertAt
 cut zero m p l h k = refl
 cut (suc i) zero p l h k = absurd (not-suc-le-zero h)
 cut (suc i) (suc m) p [] h k = absurd (not-suc-le-zero k)
@@ -111,5 +111,5 @@ cut (suc i) (suc m) p (q ∷ l) h k = ap (λ (r : List ℕ). q ∷ r) (cut i m p
 
 -- where the list is full, its last number falls off
 pub last-falls-off : (m p : ℕ) (l : List ℕ) → placeOf p l ≤ m → length l ≡ suc m
-    → take (suc m) (ins ltb p l) ≡ putAt (placeOf p l) p (take m l)
+    → take (suc m) (ins ltb p l) ≡ insertAt (placeOf p l) p (take m l)
 last-falls-off m p l h e = ap (take (suc m)) (sym (ins-is p l)) ∙ cut (placeOf p l) m p l h (omega arith)

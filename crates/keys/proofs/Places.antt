@@ -9,7 +9,7 @@ use lib.Seq.{take-take, length-take-le}
 use Rattle.lists.specs.Lists.{ins}
 use Rattle.rules.specs.declared.Pair.{Pair}
 use Rattle.rules.specs.Tables.{ahead}
-use Rattle.keys.specs.Held.{keyOf, placeOf, putAt, Narrow, Keyed, Put}
+use Rattle.keys.specs.Held.{keyOf, placeOf, insertAt, Narrow, Keyed, Put}
 use Rattle.keys.specs.Keys.{keyed-take, keyed-ins}
 use Rattle.keys.proofs.Lists.{falls-off, all-kept, last-falls-off}
 
@@ -38,12 +38,13 @@ module _ (n room : ℕ) (p : Pair) (a : List ℕ) (asked : Narrow p × (n ≤ ro
       by-keys n a (asked .1) long
       (sym (falls-off room k (take n a) (omega (arith, held-long, asked .1)) (omega (arith, found))))
 
-  pub grown : (b : List ℕ) → length b ≡ 64 → n < room → take (n + 1) b ≡ putAt i k (take n a) → Put n room p a (n + 1) b
+  pub grown : (b : List ℕ) → length b ≡ 64 → n < room → take (n + 1) b ≡ insertAt i k (take n a)
+      → Put n room p a (n + 1) b
   grown b g h e =
       by-keys (n + 1) b (omega arith) g
-      (e ∙ ap (λ (j : ℕ). putAt j k (take n a)) found ∙ sym (all-kept room k (take n a) (omega (arith, held-long))))
+      (e ∙ ap (λ (j : ℕ). insertAt j k (take n a)) found ∙ sym (all-kept room k (take n a) (omega (arith, held-long))))
 
-  pub replaced : (b : List ℕ) → length b ≡ 64 → room ≤ n → i < room → take (n - 1 + 1) b ≡ putAt i k (take (n - 1) a)
+  pub replaced : (b : List ℕ) → length b ≡ 64 → room ≤ n → i < room → take (n - 1 + 1) b ≡ insertAt i k (take (n - 1) a)
       → Put n room p a n b
   replaced b g h j e =
       let m = n - 1 in
@@ -54,7 +55,7 @@ module _ (n room : ℕ) (p : Pair) (a : List ℕ) (asked : Narrow p × (n ≤ ro
       by-keys n b few g
       (ap (λ (r : ℕ). take r b) whole
       ∙ e
-      ∙ ap (putAt i k) inner
-      ∙ ap (λ (j : ℕ). putAt j k (take m (take n a))) found
+      ∙ ap (insertAt i k) inner
+      ∙ ap (λ (j : ℕ). insertAt j k (take m (take n a))) found
       ∙ sym (last-falls-off m k (take n a) (omega (arith, found)) (held-long ∙ omega arith))
       ∙ ap (λ (r : ℕ). take r (ins ltb k (take n a))) full)

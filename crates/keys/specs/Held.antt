@@ -40,8 +40,8 @@ placeOf p [] = 0
 placeOf p (q ∷ l) = cond (ltb q p) (suc (placeOf p l)) 0
 
 -- p before the element i of l
-unfoldable pub putAt : ℕ → ℕ → List ℕ → List ℕ
-putAt i p l = take i l ++ p ∷ drop i l
+unfoldable pub insertAt : ℕ → ℕ → List ℕ → List ℕ
+insertAt i p l = take i l ++ p ∷ drop i l
 
 -- p among the n pairs that a holds, of which at most `room` are kept: r of them, which a′ holds
 pub record Put (n room : ℕ) (p : Pair) (a : List ℕ) (r : ℕ) (a′ : List ℕ) : Type 0 where

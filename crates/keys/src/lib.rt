@@ -4,7 +4,7 @@ use rules::Pair;
 ghost use mathlib.Core.Path.{_≡_};
 ghost use Prim.Native.Nat.{_+_, _<_, _≤_};
 ghost use lib.ListN.{length, take};
-ghost use Rattle.keys.specs.Held.{Narrow, Put, keyOf, pairOf, placeAt, placeOf, putAt};
+ghost use Rattle.keys.specs.Held.{Narrow, Put, keyOf, pairOf, placeAt, placeOf, insertAt};
 
 fn wide(n: u32) -> u64
     ensures { λ r. ⌜ r ≡ n ⌝ }
@@ -61,7 +61,7 @@ fn find(a: &[u64], n: usize, p: u64) -> usize
 // The keys from i on move up by one, and p stands at i.
 fn shift(a: &mut [u64], n: usize, i: usize, p: u64)
     requires { ⌜ (i ≤ n) × (n < length (now a)) ⌝ }
-    ensures { λ _. ⌜ take (n + 1) (now (a .exit)) ≡ putAt i p (take n (now (a .entry))) ⌝ }
+    ensures { λ _. ⌜ take (n + 1) (now (a .exit)) ≡ insertAt i p (take n (now (a .entry))) ⌝ }
 {
     let mut c = p;
     let mut j = i;

@@ -13,7 +13,7 @@ use Rattle.other_lines.specs.Lines.{lastLength, query-length, last-length}
 use Rattle.outcomes.specs.declared.Outcome.{Outcome}
 use Rattle.outcomes.specs.Outcomes.{queryOutcome, OutcomeOf}
 use Rattle.listing.specs.Shown.{lineOf, line-bytes, listLines}
-use Rattle.listing.specs.ListShown.{counted}
+use Rattle.listing.specs.ListShown.{count-is}
 use Rattle.rules.specs.Tables.{Table}
 
 -- the line of pair n + 1
@@ -45,7 +45,7 @@ listing-put f t r out a b c e ea eb ec =
     let lines = listLines q f t in
     let last = lastLine (settledSession q f t) in
     let many : lineLength * r .count ≡ length lines =
-    ap (λ (k : ℕ). lineLength * k) (counted f t r e) ∙ sym (lines-length f t (list q f t)) in
+    ap (λ (k : ℕ). lineLength * k) (count-is f t r e) ∙ sym (lines-length f t (list q f t)) in
     let front = query-length q in
     let tail = last-length (settledSession q f t) in
     let lb : b ≡ putAt inputLength lines (putAt 0 first out) = eb ∙ ap (putAt inputLength lines) ea in

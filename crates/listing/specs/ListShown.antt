@@ -183,12 +183,12 @@ list-shown q f t = go (eqb (openCode q f t) 0) refl
 
 -- ---- The pairs of an outcome
 
-pub counted : (f t : Table) (r : Outcome) → OutcomeOf f t r → r .count ≡ length (list (r .query) f t)
+pub count-is : (f t : Table) (r : Outcome) → OutcomeOf f t r → r .count ≡ length (list (r .query) f t)
 unfolding queryOutcome
-counted f t r e = ap (λ (x : Outcome). x .count) e
+count-is f t r e = ap (λ (x : Outcome). x .count) e
 
 pub count-few : (f t : Table) (r : Outcome) → OutcomeOf f t r → r .count ≤ placeCount
-count-few f t r e = omega (arith, counted f t r e, list-few (r .query) f t)
+count-few f t r e = omega (arith, count-is f t r e, list-few (r .query) f t)
 
 -- pair i + 1
 pub record PairAt (f t : Table) (r : Outcome) (i : ℕ) : Type 0 where
@@ -200,7 +200,7 @@ pub pair-at : (f t : Table) (r : Outcome) → OutcomeOf f t r → (i : ℕ) → 
 unfolding queryOutcome places
 pair-at f t r e i h =
     let l = list (r .query) f t in
-    let within : i < length l = omega (arith, counted f t r e) in
+    let within : i < length l = omega (arith, count-is f t r e) in
     let same : getD (r .pairs) i noPair ≡ getD l i noPair =
     ap (λ (x : Outcome). getD (x .pairs) i noPair) e ∙ List·getD-append l _ noPair i within in
     record {

@@ -31,8 +31,8 @@ refusedBy f t s = refusal (said (readCall f t s .answer))
 abbrev pub readCode : Query → Table → Table → ℕ
 readCode q f t = refusedBy f t (settledSession q f t)
 
-unfoldable pub readOut : Table → Table → Session → ReadOut
-readOut f t s = record { code = refusedBy f t (readOn f t s); session = readOn f t s }
+unfoldable pub readEnd : Table → Table → Session → ReadOut
+readEnd f t s = record { code = refusedBy f t (readOn f t s); session = readOn f t s }
 
 unfoldable pub takenOut : Table → Table → Session → TakenOut
 takenOut f t s =
@@ -90,21 +90,21 @@ module _ (q : Query) (f t : Table) where
   zeros-none : (x y : Table) → takeUntilFinished placeCount x y zeros ≡ []
   zeros-none x y = take-ends placeCount x y zeros (ap (λ (s : Step). wasGiven (s .answer)) (zeros-take x y))
 
-  pub read-begun : readOut own other begun ≡ readOut f t begun
-  unfolding readOut
+  pub read-begun : readEnd own other begun ≡ readEnd f t begun
+  unfolding readEnd
   read-begun = go (eqb (openCode q f t) 0) refl
     where
-      go : (b : Bool) → eqb (openCode q f t) 0 ≡ b → readOut own other begun ≡ readOut f t begun
+      go : (b : Bool) → eqb (openCode q f t) 0 ≡ b → readEnd own other begun ≡ readEnd f t begun
       go true e =
           let same = lent-again q f t (eqb-true (openCode q f t) 0 e) begun refl in
-          ap₂ (λ x y. readOut x y begun) (same .0) (same .1)
+          ap₂ (λ x y. readEnd x y begun) (same .0) (same .1)
       go false e =
           let z = refused-zeros q f t e in
-          let ends : (x y : Table) → readOut x y zeros ≡ record { code = badRecord; session = zeros } =
+          let ends : (x y : Table) → readEnd x y zeros ≡ record { code = badRecord; session = zeros } =
           λ x y.
           ap (λ (s : Session). record { code = refusedBy x y s; session = s }) (zeros-on x y)
           ∙ ap (λ (s : Step). record { code = refusal (said (s .answer)); session = zeros }) (zeros-read x y) in
-          ap (readOut own other) z ∙ ends own other ∙ sym (ends f t) ∙ ap (readOut f t) (sym z)
+          ap (readEnd own other) z ∙ ends own other ∙ sym (ends f t) ∙ ap (readEnd f t) (sym z)
 
   -- and of the record when it is settled
   abbrev done : Session

@@ -20,7 +20,7 @@ use Rattle.rules.specs.Query.{takeUntilFinished}
 use Rattle.rules.specs.Query.{settledSession, list}
 use Rattle.session_laws.specs.Calls.{was-given-out}
 use Rattle.session_laws.specs.Read.{unreadRows}
-use Rattle.session_laws.specs.Until.{fewer-unread, reads-end, wanted, fewer-wanted, takes-end, list-bound}
+use Rattle.session_laws.specs.Until.{fewer-unread, reads-end, stillWanted, fewer-wanted, takes-end, list-bound}
 use Rattle.rules.specs.Tables.{Table}
 
 -- a choice by a test that is known
@@ -81,7 +81,7 @@ take-ends (suc n) f t s h =
     other (given a ++ takeUntilFinished n f t (takeCall f t s .session)) [] (wasGiven a) h
 
 -- as many takes as pairs are wanted
-just-wanted : (n : ℕ) (f t : Table) (s : Session) → wanted s ≤ n →
+just-wanted : (n : ℕ) (f t : Table) (s : Session) → stillWanted s ≤ n →
     takeUntilFinished n f t s ≡ takeUntilFinished (suc n) f t s
 just-wanted zero f t s h = go (wasGiven (takeCall f t s .answer)) refl
   where
@@ -94,7 +94,7 @@ just-wanted (suc n) f t s h = go (wasGiven (takeCall f t s .answer)) refl (just-
     next = takeCall f t s .session
 
     go : (b : Bool) → wasGiven (takeCall f t s .answer) ≡ b →
-        (wanted next ≤ n → takeUntilFinished n f t next ≡ takeUntilFinished (suc n) f t next) →
+        (stillWanted next ≤ n → takeUntilFinished n f t next ≡ takeUntilFinished (suc n) f t next) →
         takeUntilFinished (suc n) f t s ≡ takeUntilFinished (suc (suc n)) f t s
     go true e ih =
         let l = fewer-wanted f t s e .1 in

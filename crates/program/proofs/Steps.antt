@@ -5,15 +5,13 @@ use mathlib.Core.Bool.{cond, _||_}
 use lib.Dec.{eqb}
 use borrow.Author.Tests.{eq-eqb}
 use Rattle.lists.specs.Bools.{or-true}
-use mathlib.Core.List.{List, [], _∷_, _++_}
+use mathlib.Core.List.{List, _++_}
 use Prim.Native.Nat.{ℕ, _*_, _≤_}
 use native.Mathlib.Omega.{arith}
-use denote.Enum.Declared.{tagOf}
-use types.Run.{OneOf}
 use lib.IntN.{ℤ, pos}
 use lib.ListN.{length, drop}
 use lib.Seq.{take-at}
-use Rattle.rules.proofs.Loaded as Loads
+use Rattle.rules.proofs.Unfit.{IsUnfit, not-rows}
 use Rattle.rules.specs.declared.Loaded.{Loaded}
 use Rattle.rules.specs.declared.Loaded.the-variants.{Rows, Unfit}
 use Rattle.rules.specs.Tables.{Table, table, kindCoordinates, mostRows, width, HasRows, firstRows, afterRows}
@@ -94,11 +92,8 @@ passed-as code b e = sym (refusal-none code b e)
 
 -- ---- The whole
 
-abbrev pub IsUnfit : Loaded → Type 0
-IsUnfit x = OneOf (1 ∷ []) (tagOf Loads.the-type x)
-
 has-code : (x : Loaded) → IsUnfit x → Told mostRows x → refusal (saidOf x) ≡ 0 → ⊥
-has-code (Rows n) h k e = let z : _≡_ {A = ℕ} 0 1 = h in absurd (omega arith)
+has-code (Rows n) h k e = not-rows n h
 has-code (Unfit code row) h k e = omega (arith, k .2)
 
 unfit-line : (bytes : List ℕ) (kind : ℕ) (x : Loaded) (b : List ℕ) → x ≡ programFile bytes kind → IsUnfit x →

@@ -16,8 +16,8 @@ use Rattle.next_block.specs.After.{withKeys}
 use Rattle.pair_checks.specs.Placed.{placed}
 
 -- the record whose numbers have changed, and whose pairs have not
-abbrev pub numbered : Session → After → Session
-numbered s a =
+abbrev pub withNumbers : Session → After → Session
+withNumbers s a =
     record {
       query = s .query;
       rows = s .rows;
@@ -70,6 +70,6 @@ module _ (s : Session) (keys : List ℕ) (m : ℕ) where
 
 -- the numbers and the pairs together are the read's
 pub filled-is : (s : Session) (a : After) (keys : List ℕ)
-    → placed (numbered s a) (placesOf keys (a .held)) ≡ withKeys s a keys
+    → placed (withNumbers s a) (placesOf keys (a .held)) ≡ withKeys s a keys
 unfolding withKeys
 filled-is s a keys = refl

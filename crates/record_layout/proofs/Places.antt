@@ -11,7 +11,7 @@ use Rattle.lists.specs.Appends.{each-append}
 use Rattle.lists.specs.Parts.{length-map-range}
 use Rattle.rules.specs.declared.Pair.{Pair}
 use Rattle.rules.specs.Session.{noPair}
-use Rattle.record_layout.specs.Flat.{pairsAt, pairSize, pairAt, laidAt, flatPair, pairIn, pairsIn}
+use Rattle.record_layout.specs.Flat.{pairsAt, pairSize, pairPlace, laidAt, flatPair, pairIn, pairsIn}
 use Rattle.record_layout.specs.RoundTrip.{flat-length, pairs-end}
 
 pub plus-1 : (n : ℕ) → n + 1 ≡ suc n
@@ -60,10 +60,10 @@ module _ (l : List ℕ) where
       ∙ rw (add-one, pairs-end l i)
 
 -- after i pairs: those laid down behind the numbers in front, and what stood behind them
-abbrev pub laid : List ℕ → List Pair → ℕ → List ℕ
-laid l a i = take pairsAt l ++ each flatPair (take i a) ++ drop (pairAt i) l
+abbrev pub laidTo : List ℕ → List Pair → ℕ → List ℕ
+laidTo l a i = take pairsAt l ++ each flatPair (take i a) ++ drop (pairPlace i) l
 
-pub none-laid : (l : List ℕ) (a : List Pair) → l ≡ laid l a 0
+pub none-laid : (l : List ℕ) (a : List Pair) → l ≡ laidTo l a 0
 unfolding each
 none-laid l a =
     sym (ap (λ (r : List ℕ). r ++ drop pairsAt l) (append-nil (take pairsAt l)) ∙ take-append-drop pairsAt l)
@@ -75,21 +75,21 @@ module _ (l : List ℕ) (a : List Pair) (long : pairsAt ≤ length l) where
   flat-end i h =
       ap (each flatPair) (take-suc a i noPair h) ∙ each-append flatPair (take i a) (getD a i noPair ∷ [])
 
-  front : (i : ℕ) → i ≤ length a → length (take pairsAt l ++ each flatPair (take i a)) ≡ pairAt i
+  front : (i : ℕ) → i ≤ length a → length (take pairsAt l ++ each flatPair (take i a)) ≡ pairPlace i
   front i h =
       let both = length-append (take pairsAt l) (each flatPair (take i a)) in
       omega (arith, both, length-take-le pairsAt l long, flat-length (take i a), length-take-le i a h)
 
   pub one-out : (i : ℕ) → i < length a
-      → take (pairAt i) (laid l a i) ++ flatPair (getD a i noPair) ++ drop (pairAt i + pairSize) (laid l a i)
-      ≡ laid l a (i + 1)
+      → take (pairPlace i) (laidTo l a i) ++ flatPair (getD a i noPair) ++ drop (pairPlace i + pairSize) (laidTo l a i)
+      ≡ laidTo l a (i + 1)
   one-out i h =
-      let k : pairAt (suc i) ≡ pairAt i + pairSize = omega arith in
+      let k : pairPlace (suc i) ≡ pairPlace i + pairSize = omega arith in
       let head = take pairsAt l in
       let done = each flatPair (take i a) in
       let p = flatPair (getD a i noPair) in
-      let rest = drop (pairAt i + pairSize) l in
-      onto (head ++ done) p l (pairAt i) pairSize (front i (omega arith))
+      let rest = drop (pairPlace i + pairSize) l in
+      onto (head ++ done) p l (pairPlace i) pairSize (front i (omega arith))
       ∙ ap (λ (r : List ℕ). r ++ rest) (append-assoc head done p ∙ sym (ap (λ (r : List ℕ). head ++ r) (flat-end i h)))
       ∙ sym (ap (λ (m : ℕ). head ++ each flatPair (take (suc i) a) ++ drop m l) k)
-      ∙ sym (ap (laid l a) (plus-1 i))
+      ∙ sym (ap (laidTo l a) (plus-1 i))

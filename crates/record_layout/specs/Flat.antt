@@ -22,8 +22,8 @@ use Rattle.rules.specs.Numbers.{said}
 abbrev pub kAt : ℕ
 kAt = 0
 
-abbrev pub blockAt : ℕ
-blockAt = 1
+abbrev pub blockRowsAt : ℕ
+blockRowsAt = 1
 
 abbrev pub radiusAt : ℕ
 radiusAt = 2
@@ -92,12 +92,12 @@ abbrev pub pairSize : ℕ
 pairSize = 3
 
 -- pair place i + 1
-abbrev pub pairAt : ℕ → ℕ
-pairAt i = pairsAt + pairSize * i
+abbrev pub pairPlace : ℕ → ℕ
+pairPlace i = pairsAt + pairSize * i
 
 -- behind the pair places the query's two weights
 abbrev pub fieldWeightAt : ℕ
-fieldWeightAt = pairAt placeCount
+fieldWeightAt = pairPlace placeCount
 
 abbrev pub trimWeightAt : ℕ
 trimWeightAt = fieldWeightAt + 1
@@ -183,7 +183,7 @@ unfoldable pub queryWith : List ℕ → Weights → Tolerances → Meaning → Q
 queryWith l w t m =
     record {
       k = getD l kAt 0;
-      block = getD l blockAt 0;
+      block = getD l blockRowsAt 0;
       radius = getD l radiusAt 0;
       weights = w;
       tolerances = t;
@@ -204,7 +204,7 @@ kindsIn l =
 
 unfoldable pub pairIn : List ℕ → ℕ → Pair
 pairIn l i =
-    record { sum = getD l (pairAt i) 0; field = getD l (pairAt i + 1) 0; trim = getD l (pairAt i + 2) 0 }
+    record { sum = getD l (pairPlace i) 0; field = getD l (pairPlace i + 1) 0; trim = getD l (pairPlace i + 2) 0 }
 
 -- the first n pair places
 unfoldable pub pairsIn : List ℕ → ℕ → List Pair

@@ -13,7 +13,7 @@ use Rattle.rules.specs.declared.Meaning.the-variants.{Possibly, Surely}
 use Rattle.rules.specs.declared.Pair.{Pair}
 use Rattle.rules.specs.declared.Session.{Session}
 use Rattle.rules.specs.Session.{noPair, placeCount}
-use Rattle.record_layout.specs.Flat.{joinedAt, joinedHighAt, pairsAt, pairSize, pairAt, fieldWeightAt}
+use Rattle.record_layout.specs.Flat.{joinedAt, joinedHighAt, pairsAt, pairSize, pairPlace, fieldWeightAt}
 use Rattle.record_layout.specs.Flat.{trimWeightAt, cardAt, fieldToleranceAt, trimToleranceAt, meaningAt, flatSize}
 use Rattle.record_layout.specs.Flat.{word, flatPair, flatHead, meaningNumber, flatTail, flatten, meaningOf}
 use Rattle.record_layout.specs.Flat.{queryWith, pairIn, pairsIn, withPairs, unflatten}
@@ -75,8 +75,8 @@ module _ (s : Session) (rest : List ℕ) where
   pair-back : (i : ℕ) → i < length (s .pairs) → pairIn (flatHead s ++ behind) i ≡ getD (s .pairs) i noPair
   unfolding pairIn
   pair-back i h =
-      let x : pairAt i + 1 ≡ pairsAt + suc (pairSize * i) = omega arith in
-      let y : pairAt i + 2 ≡ pairsAt + suc (suc (pairSize * i)) = omega arith in
+      let x : pairPlace i + 1 ≡ pairsAt + suc (pairSize * i) = omega arith in
+      let y : pairPlace i + 2 ≡ pairsAt + suc (suc (pairSize * i)) = omega arith in
       let n = pairSize * i in
       simp (x, y, number-at n, number-at (suc n), number-at (suc (suc n))) (three-at (s .pairs) rest i h)
 
@@ -153,9 +153,9 @@ module _ (l : List ℕ) (long : flatSize ≤ length l) where
   pair-forth : (n : ℕ) → n < placeCount → take pairSize (drop (pairSize * n) (drop pairsAt l)) ≡ flatPair (pairIn l n)
   unfolding flatPair pairIn
   pair-forth n h =
-      let j = pairAt n in
-      let x : pairAt n + 1 ≡ suc j = omega arith in
-      let y : pairAt n + 2 ≡ suc (suc j) = omega arith in
+      let j = pairPlace n in
+      let x : pairPlace n + 1 ≡ suc j = omega arith in
+      let y : pairPlace n + 2 ≡ suc (suc j) = omega arith in
       ap (take pairSize) (drop-drop (pairSize * n) pairsAt l)
       ∙ one-from 2 j (omega arith)
       ∙ ap (λ (r : List ℕ). getD l j 0 ∷ r) (one-from 1 (suc j) (omega arith))

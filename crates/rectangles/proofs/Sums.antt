@@ -32,8 +32,8 @@ module _ (less : ℕ) (l : List ℤ) (t : Table) (m : ℕ) where
   abbrev pub seen : ℕ → ℕ
   seen k = squares (loweredGap less) (take k x) (take k y)
 
-  abbrev pub all : ℕ
-  all = squares (loweredGap less) x y
+  abbrev pub allSquares : ℕ
+  allSquares = squares (loweredGap less) x y
 
   pub next : (k g : ℕ) → k < t .coordinates → g ≡ loweredGap less (sideIn l k) (side t k (m - 1))
       → seen (k + 1) ≡ seen k + g * g
@@ -46,15 +46,15 @@ module _ (less : ℕ) (l : List ℤ) (t : Table) (m : ℕ) where
       (omega (arith, first-length t m)))
 
   -- too far by some sides is too far
-  pub too-far : (k radius : ℕ) → radius * radius < seen k → true ≡ ltb (radius * radius) all
-  too-far k radius h = sym (lt-ltb (radius * radius) all (omega (arith, squares-first (loweredGap less) x y k)))
+  pub too-far : (k radius : ℕ) → radius * radius < seen k → true ≡ ltb (radius * radius) allSquares
+  too-far k radius h = sym (lt-ltb (radius * radius) allSquares (omega (arith, squares-first (loweredGap less) x y k)))
 
   pub near-enough : (k radius : ℕ) → t .coordinates ≤ k → seen k ≤ radius * radius
-      → false ≡ ltb (radius * radius) all
+      → false ≡ ltb (radius * radius) allSquares
   near-enough k radius h j =
       let whole = squares-all (loweredGap less) x y k (omega (arith, in-length (t .coordinates) l))
       (omega (arith, first-length t m)) in
-      sym (le-ltb (radius * radius) all (omega arith))
+      sym (le-ltb (radius * radius) allSquares (omega arith))
 
 -- of a table whose rectangle stands in the numbers
 module _ (q : Query) (u : Table) (l : List ℤ) (t : Table) (stands : rectangle u ≡ sidesIn (t .coordinates) l) where
@@ -64,17 +64,17 @@ module _ (q : Query) (u : Table) (l : List ℤ) (t : Table) (stands : rectangle 
   abbrev lowered : Side → Side → ℕ
   lowered = loweredGap (tolerance q)
 
-  pub by-all : ltb r (all (tolerance q) l t (rowCount t)) ≡ farApart q u t
+  pub by-all : ltb r (allSquares (tolerance q) l t (rowCount t)) ≡ farApart q u t
   unfolding farApart
   by-all = ap₂ (λ x y. ltb r (squares lowered x y)) (sym stands) (sym (all-first t))
 
   -- where the first rows are not too far, the block is not
-  pub by-first : (m : ℕ) → 0 < m → m ≤ rowCount t → ltb r (all (tolerance q) l t m) ≡ false
+  pub by-first : (m : ℕ) → 0 < m → m ≤ rowCount t → ltb r (allSquares (tolerance q) l t m) ≡ false
       → false ≡ farApart q u t
   unfolding farApart
   by-first m some h e =
-      let same : apartSquare (tolerance q) u (firstRows m t) ≡ all (tolerance q) l t m =
+      let same : apartSquare (tolerance q) u (firstRows m t) ≡ allSquares (tolerance q) l t m =
       ap₂ (squares lowered) stands (first-rectangle t m some (has-rows t m h)) in
-      let near : all (tolerance q) l t m ≤ r = ltb-false r (all (tolerance q) l t m) e in
+      let near : allSquares (tolerance q) l t m ≤ r = ltb-false r (allSquares (tolerance q) l t m) e in
       let less = far-first (tolerance q) u t m some h in
       sym (le-ltb r (apartSquare (tolerance q) u t) (omega arith))

@@ -13,7 +13,7 @@ pub record Parted (n s r : ℕ) : Type 0 where
   pub small : r ≤ 2 * s
 
 -- what a step asks: r is a rest of s, s is at least half of b, next is two digits of base b, and all fits 64 bits
-pub record Ready (s r next b : ℕ) : Type 0 where
+pub record StepReady (s r next b : ℕ) : Type 0 where
   pub rest : r ≤ 2 * s
   pub half : b ≤ 2 * s
   pub fewer : s < b

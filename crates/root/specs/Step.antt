@@ -4,7 +4,7 @@ use mathlib.Core.Path.{_≡_, ap}
 use Prim.Native.Nat.{ℕ, zero, suc, _+_, _*_, _-_, _/_, _%_, _≤_, _<_}
 use native.Mathlib.Nat.{mul-le-mul, mul-le-mul-right, mul-pos, div-add-mod', mod-lt, div-lt-iff-lt-mul, not-suc-le-zero}
 use native.Mathlib.Omega.{arith}
-use Rattle.root.specs.Parts.{Parted, Ready}
+use Rattle.root.specs.Parts.{Parted, StepReady}
 use Rattle.root.specs.Roots.{side-below}
 
 -- a number between two squares has its root between their sides
@@ -15,7 +15,7 @@ parted-between {n} {s} {r} low high h a b =
 
 -- a number from b * b / 4 to below b * b, with b twice a, is ready
 pub ready : {n s r : ℕ} (next a : ℕ) → Parted n s r → a * a ≤ n → n < 2 * a * (2 * a) → 2 * a ≤ 65536 →
-    next < 2 * a * (2 * a) → Ready s r next (2 * a)
+    next < 2 * a * (2 * a) → StepReady s r next (2 * a)
 ready {n} {s} {r} next a h low high bits digits =
     let between = parted-between a (2 * a) h low high in
     record { rest = h .small; half = omega arith; fewer = between .1; bits = bits; digits = digits }
@@ -35,7 +35,7 @@ square-and-root (suc q) p h k = omega arith
 abbrev dividend : (r next b : ℕ) → ℕ
 dividend r next b = r * b + next / b
 
-module _ (s r next b : ℕ) (h : Ready s r next b) where
+module _ (s r next b : ℕ) (h : StepReady s r next b) where
   -- the new digit, or one more than it
   abbrev digit : ℕ
   digit = dividend r next b / (2 * s)

@@ -3,7 +3,7 @@
 ghost use mathlib.Core.Path.{_≡_};
 ghost use Prim.Native.Nat.{_+_, _*_, _-_, _≤_, _<_, _^_};
 ghost use Rattle.rules.specs.Root.{root, remainder};
-ghost use Rattle.root.specs.Parts.{IsRoot, Parted, Ready};
+ghost use Rattle.root.specs.Parts.{IsRoot, Parted, StepReady};
 
 // The greatest whole number whose square is not above n, and what is left of n without that square.
 pub struct Root {
@@ -37,7 +37,7 @@ fn raised(s: u64, by: u64, m: u64) -> u64
 // which make `next`. The root gets one digit more. The rest, divided by twice the old root, gives that digit, or one
 // more than it: then the digit's square is more than what is left.
 fn grow(x: Root, next: u64, b: u64) -> Root
-    requires { ⌜ Ready (x .root) (x .rest) next b ⌝ }
+    requires { ⌜ StepReady (x .root) (x .rest) next b ⌝ }
     ensures { λ r. ⌜ Parted ((x .root * x .root + x .rest) * (b * b) + next) (r .root) (r .rest) ⌝ }
 {
     let dividend = x.rest * b + next / b;

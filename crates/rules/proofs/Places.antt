@@ -10,8 +10,8 @@ use Rattle.rules.specs.Session.{placeCount}
 use Rattle.rules.proofs.Session.{the-type}
 
 -- of a record that stands in memory, as `.good` of a call's start has it
-pub places-long : (s : Session) (v : List Val) → Is (row the-type) s v → length (s .pairs) ≡ placeCount
-places-long s v good =
+pub pairs-long : (s : Session) (v : List Val) → Is (row the-type) s v → length (s .pairs) ≡ placeCount
+pairs-long s v good =
     let fields = good .1 .1 in
     let counts = fields .1 .1 .1 in
     let pairs = counts .1 .1 .1 .0 in

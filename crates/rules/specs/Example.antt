@@ -131,8 +131,8 @@ abbrev near : ℕ → List ℤ → List ℤ → Bool
 near radius = qualifies (exactQuery 1 1 radius (weights 1 1))
 
 -- P1 to P12, in the rules' order: what the rules find, and what is wanted; s is the record after five reads
-abbrev tableAt : Session → List Entry
-tableAt s =
+abbrev entriesAt : Session → List Entry
+entriesAt s =
     entry (test (near 5 (shade (pos 0) (pos 0)) (shade (pos 3) (pos 4)))) (test true)
     ∷ entry (test (near 4 (shade (pos 0) (pos 0)) (shade (pos 3) (pos 4)))) (test false)
     ∷ entry (test (near 0 (shade (pos 3) (pos 4)) (shade (pos 3) (pos 4)))) (test true)
@@ -147,18 +147,18 @@ tableAt s =
     ∷ entry (told (takeCall (oldTable []) trims (openCall query (oldTable []) trims .session) .answer)) (pos 4 ∷ [])
     ∷ []
 
-pub table : List Entry
-table = tableAt (afterReads 5)
+pub entries : List Entry
+entries = entriesAt (afterReads 5)
 
 -- the whole table at once, computed
-holds : map (λ e. e .found) table ≡ map (λ e. e .said) table
-unfolding run table
-holds = ap (λ (s : Session). map (λ e. e .found) (tableAt s)) is-five
+holds : map (λ e. e .found) entries ≡ map (λ e. e .said) entries
+unfolding run entries
+holds = ap (λ (s : Session). map (λ e. e .found) (entriesAt s)) is-five
 
 -- each entry, P1 being entry 0
-pub fact : (i : ℕ) → getD table i (entry [] []) .found ≡ getD table i (entry [] []) .said
+pub fact : (i : ℕ) → getD entries i (entry [] []) .found ≡ getD entries i (entry [] []) .said
 fact i =
     let none = entry [] [] in
-    sym (List·getD-map (λ e. e .found) table i none)
+    sym (List·getD-map (λ e. e .found) entries i none)
     ∙ ap (λ (l : List (List ℤ)). getD l i []) holds
-    ∙ List·getD-map (λ e. e .said) table i none
+    ∙ List·getD-map (λ e. e .said) entries i none

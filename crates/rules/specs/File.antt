@@ -16,8 +16,8 @@ use Rattle.rules.specs.Calls.{between, rowCode}
 abbrev pub blank : ℕ
 blank = 32
 
-abbrev pub minus : ℕ
-minus = 45
+abbrev pub minusSign : ℕ
+minusSign = 45
 
 abbrev pub lineFeed : ℕ
 lineFeed = 10
@@ -45,7 +45,7 @@ digitsFrom n (b ∷ l) = digitsFrom (10 * n + (b - 48)) l
 -- says whether the column may have one.
 unfoldable pub hasMinus : Bool → List ℕ → Bool
 hasMinus signed [] = false
-hasMinus signed (b ∷ l) = signed && eqb b minus
+hasMinus signed (b ∷ l) = signed && eqb b minusSign
 
 unfoldable pub afterMinus : Bool → List ℕ → List ℕ
 afterMinus signed [] = []

@@ -7,6 +7,7 @@ use native.Mathlib.Omega.{arith}
 use lib.Dec.{eqb, leb, ltb}
 use borrow.Author.Tests.{lt-ltb, le-ltb, ltb-true, eq-eqb, ne-eqb, eqb-true}
 use Rattle.lists.specs.Bools.{and-out, and-in, and-false, or-out, or-in-left, or-in-right}
+use Rattle.rules.specs.declared.Query.{Query}
 use Rattle.rules.specs.declared.Session.{Session}
 use Rattle.rules.specs.Tables.{Table, terms, Block}
 use Rattle.rules.specs.Session.{firstScore, lastScore, fieldReadOut, trimReadOut, heldPairs, ceilingBy, ceiling}
@@ -73,14 +74,17 @@ module _ (f t : Table) (s : Session) (p : 0 < s .depth .field .0) (q : 0 < s .de
 
 -- ---- which block pairs are skipped
 
+-- what the first rows of two blocks add to a sum
+abbrev pub firstScores : Query → Table → Table → ℕ
+firstScores q x y = firstScore (terms q .field) x + firstScore (terms q .trim) y
+
 module _ (s : Session) (x y : Block) where
-  -- the first scores of both, added
-  abbrev pub firstScores : ℕ
-  firstScores = firstScore (terms (s .query) .field) (x .rows) + firstScore (terms (s .query) .trim) (y .rows)
+  abbrev scores : ℕ
+  scores = firstScores (s .query) (x .rows) (y .rows)
 
   -- out plus held is k, and the first scores add to less than the lowest held sum
   abbrev pub SkippedForScores : Type 0
-  SkippedForScores = (s .out + s .held ≡ s .query .k) × (firstScores < lowest (heldPairs s))
+  SkippedForScores = (s .out + s .held ≡ s .query .k) × (scores < lowest (heldPairs s))
 
   -- by either rule, and no other way
   pub skipped-is : (skipped s x y ≡ true)
@@ -101,7 +105,7 @@ module _ (s : Session) (x y : Block) where
       full = eqb n k
 
       low : Bool
-      low = ltb firstScores least
+      low = ltb scores least
 
       far : Bool
       far = terms (s .query) .far (x .rows) (y .rows)
@@ -109,20 +113,20 @@ module _ (s : Session) (x y : Block) where
       there : (full && low) || far ≡ true → SkippedForScores ⊎ (far ≡ true)
       there e =
           ⊎-elim
-          (λ a. let both = and-out full low a in inl (eqb-true n k (both .0), ltb-true firstScores least (both .1)))
+          (λ a. let both = and-out full low a in inl (eqb-true n k (both .0), ltb-true scores least (both .1)))
           inr (or-out (full && low) far e)
 
       back : SkippedForScores ⊎ (far ≡ true) → (full && low) || far ≡ true
       back (inl h) =
-          or-in-left (full && low) far (and-in full low (eq-eqb n k (h .0)) (lt-ltb firstScores least (h .1)))
+          or-in-left (full && low) far (and-in full low (eq-eqb n k (h .0)) (lt-ltb scores least (h .1)))
       back (inr h) = or-in-right (full && low) far h
 
   -- where the first scores add to just the lowest held sum, shades alone decide
-  pub joined-at-equality : firstScores ≡ lowest (heldPairs s)
+  pub joined-at-equality : scores ≡ lowest (heldPairs s)
       → skipped s x y ≡ terms (s .query) .far (x .rows) (y .rows)
   unfolding skippedBy
   joined-at-equality h =
       simp (
-        le-ltb firstScores (lowest (heldPairs s)) (omega arith),
+        le-ltb scores (lowest (heldPairs s)) (omega arith),
         and-false (eqb (s .out + s .held) (s .query .k)),
       )

@@ -152,11 +152,11 @@ gap-le s o x y h k = go (gap-is s o)
     go (inr (inr (b, e))) = omega arith
 
 -- the low end is not above the high one
-abbrev pub Ordered : Side → Type 0
-Ordered s = AtMost (s .low) (s .high) 0
+abbrev pub LowFirst : Side → Type 0
+LowFirst s = AtMost (s .low) (s .high) 0
 
 -- and some two lie just as near
-pub gap-reached : (s o : Side) → Ordered s → Ordered o
+pub gap-reached : (s o : Side) → LowFirst s → LowFirst o
     → (x : ℤ) × (y : ℤ) × Spans s x × Spans o y × (sideGap s o ≡ gap x y)
 gap-reached s o h k = go (gap-is s o)
   where
@@ -177,19 +177,19 @@ gap-reached s o h k = go (gap-is s o)
     go (inr (inr (b, e))) = meeting (b .0) (b .1) e (leZ (s .low) (o .low)) refl
 
 -- sides that hold more lie no farther apart
-pub gap-covered : (s o u v : Side) → Ordered u → Ordered v → Covers s u → Covers o v → sideGap s o ≤ sideGap u v
+pub gap-covered : (s o u v : Side) → LowFirst u → LowFirst v → Covers s u → Covers o v → sideGap s o ≤ sideGap u v
 gap-covered s o u v h k c d =
     let r = gap-reached u v h k in
     let a = r .2 in
     let b = r .3 in
     omega (arith, r .4, gap-le s o (r .0) (r .1) (omega arith, omega arith) (omega arith, omega arith))
 
-turned-most : (s o : Side) → Ordered s → Ordered o → sideGap s o ≤ sideGap o s
+turned-most : (s o : Side) → LowFirst s → LowFirst o → sideGap s o ≤ sideGap o s
 turned-most s o h k =
     let r = gap-reached o s k h in
     omega (arith, r .4, gap-sym (r .0) (r .1), gap-le s o (r .1) (r .0) (r .3) (r .2))
 
-pub gap-turned : (s o : Side) → Ordered s → Ordered o → sideGap s o ≡ sideGap o s
+pub gap-turned : (s o : Side) → LowFirst s → LowFirst o → sideGap s o ≡ sideGap o s
 gap-turned s o h k = omega (arith, turned-most s o h k, turned-most o s k h)
 
 -- ---- The rectangle of a block's rows
@@ -227,10 +227,10 @@ module _ (t : Table) where
         subst (Covers s) (sym rectangle-at)
         (side-smallest t k s (rowCount t - 1) (λ i l. subst (Spans s) (shade-num t i k c) (h i (omega arith))))
 
-    rectangle-ordered : Ordered (sideOf t k)
+    rectangle-ordered : LowFirst (sideOf t k)
     rectangle-ordered =
         let a = side-holds t k (rowCount t - 1) 0 (omega arith) in
-        subst Ordered (sym rectangle-at) (omega arith)
+        subst LowFirst (sym rectangle-at) (omega arith)
 
 -- a side of the first rows' rectangle
 pub first-side : (t : Table) (k : ℕ) → k < t .coordinates → (m : ℕ) → 0 < m → HasRows t m
@@ -266,7 +266,7 @@ module _ (f : Side → Side → ℕ) (g : ℤ → ℤ → ℕ)
 
 -- what holds of sides and of smaller ones, holds of the rectangles and of those of the second block's first rows
 module _ (f : Side → Side → ℕ)
-    (law : (s o u v : Side) → Ordered u → Ordered v → Covers s u → Covers o v → f s o ≤ f u v) where
+    (law : (s o u v : Side) → LowFirst u → LowFirst v → Covers s u → Covers o v → f s o ≤ f u v) where
   pub rectangles-first : (x y : Table) (m : ℕ) → 0 < m → m ≤ rowCount y
       → squares f (rectangle x) (rectangle y) ≤ squares f (rectangle x) (rectangle (firstRows m y))
   rectangles-first x y m some h =
@@ -294,7 +294,7 @@ module _ (t : ℕ) where
   abbrev pub apartSquare : Table → Table → ℕ
   apartSquare x y = squares (loweredGap t) (rectangle x) (rectangle y)
 
-  lowered-covered : (s o u v : Side) → Ordered u → Ordered v → Covers s u → Covers o v
+  lowered-covered : (s o u v : Side) → LowFirst u → LowFirst v → Covers s u → Covers o v
       → loweredGap t s o ≤ loweredGap t u v
   lowered-covered s o u v h k c d = omega (arith, gap-covered s o u v h k c d)
 

@@ -95,11 +95,11 @@ module _ (u v : ℕ) (k l p q : List ℤ) (h : Within u k p) (i : Within v l q) 
 -- ---- and some lie just so
 
 -- two numbers within the tolerances of x and y that are n apart
-abbrev Reached : ℕ → ℕ → ℤ → ℤ → ℕ → Type 0
-Reached u v x y n = (z : ℤ) × (w : ℤ) × (gap x z ≤ u) × (gap y w ≤ v) × (gap z w ≡ n)
+abbrev GapReached : ℕ → ℕ → ℤ → ℤ → ℕ → Type 0
+GapReached u v x y n = (z : ℤ) × (w : ℤ) × (gap x z ≤ u) × (gap y w ≤ v) × (gap z w ≡ n)
 
 -- x ≤ y: x moved down and y moved up
-away : (u v : ℕ) (x y : ℤ) → AtMost x y 0 → Reached u v x y (gap x y + (u + v))
+away : (u v : ℕ) (x y : ℤ) → AtMost x y 0 → GapReached u v x y (gap x y + (u + v))
 away u v x y h =
     let z = x -ℤ pos u in
     let w = y +ℤ pos v in
@@ -116,11 +116,11 @@ away u v x y h =
     )
 
 -- x ≤ y: each moved towards the other, till they meet
-toward : (u v : ℕ) (x y : ℤ) → AtMost x y 0 → Reached u v x y (gap x y - (u + v))
+toward : (u v : ℕ) (x y : ℤ) → AtMost x y 0 → GapReached u v x y (gap x y - (u + v))
 toward u v x y h =
     go (min u (gap x y)) (min v (gap x y - min u (gap x y))) (omega arith) (omega arith) (omega arith)
   where
-    go : (a b : ℕ) → a ≤ u → b ≤ v → gap x y ≡ gap x y - (u + v) + a + b → Reached u v x y (gap x y - (u + v))
+    go : (a b : ℕ) → a ≤ u → b ≤ v → gap x y ≡ gap x y - (u + v) + a + b → GapReached u v x y (gap x y - (u + v))
     go a b i j s =
         let z = x +ℤ pos a in
         let w = y -ℤ pos b in
@@ -137,17 +137,17 @@ toward u v x y h =
         )
 
 -- y < x is the same, the other way round
-either : (f : ℕ → ℕ → ℕ) → ((u v : ℕ) (x y : ℤ) → AtMost x y 0 → Reached u v x y (f (gap x y) (u + v)))
-    → (u v : ℕ) (x y : ℤ) → Reached u v x y (f (gap x y) (u + v))
+either : (f : ℕ → ℕ → ℕ) → ((u v : ℕ) (x y : ℤ) → AtMost x y 0 → GapReached u v x y (f (gap x y) (u + v)))
+    → (u v : ℕ) (x y : ℤ) → GapReached u v x y (f (gap x y) (u + v))
 either f move u v x y = go (leZ x y) refl
   where
-    go : (b : Bool) → leZ x y ≡ b → Reached u v x y (f (gap x y) (u + v))
+    go : (b : Bool) → leZ x y ≡ b → GapReached u v x y (f (gap x y) (u + v))
     go true e = move u v x y (le-is x y e)
     go false e =
         let r = move v u y x (omega (arith, not-le-is x y e)) in
         (r .1, r .0, r .3, r .2, gap-sym (r .1) (r .0) ∙ r .4 ∙ ap₂ f (gap-sym y x) (add-comm v u))
 
-reached : (u v : ℕ) (f : ℤ → ℤ → ℕ) → ((x y : ℤ) → Reached u v x y (f x y)) → (k l : List ℤ)
+reached : (u v : ℕ) (f : ℤ → ℤ → ℕ) → ((x y : ℤ) → GapReached u v x y (f x y)) → (k l : List ℤ)
     → (p : List ℤ) × (q : List ℤ) × Within u k p × Within v l q × (squaredDistance p q ≡ squares f k l)
 unfolding squares
 reached u v f h [] l = ([], l, tt, within-same v l, refl)

@@ -35,8 +35,8 @@ fieldTables = tables (rows (0 ∷ 1 ∷ 2 ∷ []) (0 ∷ 1 ∷ []))
 abbrev pub trimTables : List Table
 trimTables = tables (rows (0 ∷ 1 ∷ []) (0 ∷ 2 ∷ []))
 
-pub query : ℕ → ℕ → Query
-query k block = exactQuery k block 1 (weights 1 1)
+pub tinyQuery : ℕ → ℕ → Query
+tinyQuery k block = exactQuery k block 1 (weights 1 1)
 
 pub right : Query → Table → Table → Bool
 right q f t = same (map (λ p. p .sum) (list q f t)) (best (q .k) (qualifyingSums q f t))
@@ -44,18 +44,18 @@ right q f t = same (map (λ p. p .sum) (list q f t)) (best (q .k) (qualifyingSum
 pub allRight : Query → List Table → List Table → Bool
 allRight q fs ts = every (λ f. every (right q f) ts) fs
 
-pub k1-block1 : allRight (query 1 1) fieldTables trimTables ≡ true
-unfolding run best qualifyingSums same rows tables query right allRight
+pub k1-block1 : allRight (tinyQuery 1 1) fieldTables trimTables ≡ true
+unfolding run best qualifyingSums same rows tables tinyQuery right allRight
 k1-block1 = refl
 
-pub k1-block2 : allRight (query 1 2) fieldTables trimTables ≡ true
-unfolding run best qualifyingSums same rows tables query right allRight
+pub k1-block2 : allRight (tinyQuery 1 2) fieldTables trimTables ≡ true
+unfolding run best qualifyingSums same rows tables tinyQuery right allRight
 k1-block2 = refl
 
-pub k2-block1 : allRight (query 2 1) fieldTables trimTables ≡ true
-unfolding run best qualifyingSums same rows tables query right allRight
+pub k2-block1 : allRight (tinyQuery 2 1) fieldTables trimTables ≡ true
+unfolding run best qualifyingSums same rows tables tinyQuery right allRight
 k2-block1 = refl
 
-pub k2-block2 : allRight (query 2 2) fieldTables trimTables ≡ true
-unfolding run best qualifyingSums same rows tables query right allRight
+pub k2-block2 : allRight (tinyQuery 2 2) fieldTables trimTables ≡ true
+unfolding run best qualifyingSums same rows tables tinyQuery right allRight
 k2-block2 = refl

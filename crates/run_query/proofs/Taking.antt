@@ -20,14 +20,14 @@ use Rattle.outcomes.specs.Outcomes.{takenOut}
 use Rattle.rules.specs.Tables.{Table}
 
 -- the pairs that are still to come after n
-abbrev pub left : Table → Table → ℕ → Session → List Pair
-left f t n s = takeUntilFinished (placeCount - n) f t s
+abbrev pub toCome : Table → Table → ℕ → Session → List Pair
+toCome f t n s = takeUntilFinished (placeCount - n) f t s
 
 -- before turn n + 1, r being the record that is left of s: n pairs are out
 pub record Taking (f t : Table) (s : Session) (n : ℕ) (pairs : List Pair) (r : Session) : Type 0 where
   pub within : n ≤ placeCount
   pub long : length pairs ≡ placeCount
-  pub so-far : take n pairs ++ left f t n r ≡ takeUntilFinished placeCount f t s
+  pub so-far : take n pairs ++ toCome f t n r ≡ takeUntilFinished placeCount f t s
   pub free : drop n pairs ≡ replicate (placeCount - n) noPair
 
 -- a free place is filled
@@ -57,11 +57,11 @@ module _ {f t : Table} {s : Session} {n : ℕ} {pairs : List Pair} {r : Session}
   taking-on more x p called answered =
       let gave : takeCall f t r .answer ≡ Given p = ap (λ (y : Step). y .answer) (sym called) ∙ answered in
       let m : placeCount - n ≡ suc (placeCount - (n + 1)) = omega arith in
-      let rest = left f t (n + 1) (x .session) in
-      let one : left f t n r ≡ p ∷ rest =
+      let rest = toCome f t (n + 1) (x .session) in
+      let one : toCome f t n r ≡ p ∷ rest =
       ap (λ (k : ℕ). takeUntilFinished k f t r) m
       ∙ take-more (placeCount - (n + 1)) f t r p gave
-      ∙ ap (λ (y : Step). p ∷ left f t (n + 1) (y .session)) (sym called) in
+      ∙ ap (λ (y : Step). p ∷ toCome f t (n + 1) (y .session)) (sym called) in
       record {
         within = omega arith;
         long = length-set pairs n p ∙ h .long;
@@ -73,7 +73,7 @@ module _ {f t : Table} {s : Session} {n : ℕ} {pairs : List Pair} {r : Session}
       }
 
   -- no pair is left
-  taking-ends : left f t n r ≡ [] → _≡_ {A = TakenOut} (record { pairs = pairs; count = n }) (takenOut f t s)
+  taking-ends : toCome f t n r ≡ [] → _≡_ {A = TakenOut} (record { pairs = pairs; count = n }) (takenOut f t s)
   unfolding takenOut places
   taking-ends none =
       let l = takeUntilFinished placeCount f t s in

@@ -10,11 +10,11 @@ use rules::Session;
 ghost use mathlib.Core.Path.{_≡_};
 ghost use Rattle.rules.specs.Tables.{fieldTable, trimTable};
 ghost use Rattle.rules.specs.Session.{lentTable};
-ghost use Rattle.outcomes.specs.Outcomes.{readOut, takenOut, queryOutcome};
+ghost use Rattle.outcomes.specs.Outcomes.{readEnd, takenOut, queryOutcome};
 
 // Reads until settled.
 fn read_on(f: &[i32], t: &[i32], s: Session) -> ReadOut
-    ensures { λ r. ⌜ r ≡ readOut (lentTable s (now (f .entry))) (lentTable s (now (t .entry))) s ⌝ }
+    ensures { λ r. ⌜ r ≡ readEnd (lentTable s (now (f .entry))) (lentTable s (now (t .entry))) s ⌝ }
 {
     let mut at = s;
     loop {

@@ -1,9 +1,9 @@
 -- What the calls know once their checks have passed, what they then answer, and which checks legal tables pass. Assumes
 -- nothing.
-use mathlib.Core.Path.{_≡_, refl, sym, ap, subst}
+use mathlib.Core.Path.{_≡_, refl, sym, ap, subst, _∙_}
 use mathlib.Core.Bool.{Bool, true, false, cond, _&&_}
 use mathlib.Core.List.{[], _∷_}
-use Prim.Native.Nat.{ℕ, _-_, _≤_, _<_}
+use Prim.Native.Nat.{ℕ, suc, _+_, _-_, _≤_, _<_}
 use native.Mathlib.Omega.{arith}
 use native.Mathlib.Decide.{decLe}
 use lib.Dec.{eqb}
@@ -22,7 +22,7 @@ use Rattle.rules.specs.Checks.{first-out, unless-out}
 use Rattle.rules.specs.Calls.{queryCode, isCard, kindCode, cardsCode, sizeCode, sameSizeCode, rowsCode, recordFits}
 use Rattle.rules.specs.Calls.{newBlockCodeBy, newBlockCode, step, openCode, openCall, readCallBy, readCall, takeCallBy}
 use Rattle.rules.specs.Calls.{recordCode, lentCode, callCode, takeCall}
-use Rattle.rules.specs.Query.{wasRead, wasGiven}
+use Rattle.rules.specs.Query.{wasRead, wasGiven, readUntilSettled, settledSession}
 use Rattle.session_laws.specs.Tables.{Sized, size-out, size-in, RowFits, rows-out, rows-in, legal-out}
 use Rattle.session_laws.specs.Record.{RecordFits, record-out, record-in}
 
@@ -95,6 +95,19 @@ module _ (q : Query) (f t : Table) where
       let fits : Opening q f t =
       record { query = e; field = legal-out f g .size; trim = legal-out t h .size; cards = cards } in
       rw (eq-eqb (openCode q f t) 0 (open-in fits))
+
+  -- and a whole query of them reads on from there
+  pub legal-settled : queryCode q ≡ 0 → OneCard f t → legal f ≡ true → legal t ≡ true
+      → settledSession q f t ≡ readUntilSettled (suc (rowCount f + rowCount t)) f t (opened q (twoTables f t))
+  unfolding settledSession opened
+  legal-settled e cards g h =
+      let n : rowCount f + rowCount t + 1 ≡ suc (rowCount f + rowCount t) = omega arith in
+      ap
+      (λ x.
+      let s = x .session in
+      readUntilSettled (s .rows .field .0 + s .rows .trim .0 + 1) f t s)
+      (legal-opened e cards g h)
+      ∙ ap (λ n. readUntilSettled n f t (opened q (twoTables f t))) n
 
 -- ---- 4, later: a slice of the row count at opening
 

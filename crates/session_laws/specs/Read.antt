@@ -202,8 +202,8 @@ module _ (f t : Table) (s : Session) (u : Unsettled f t s) where
 -- ---- So a read raises a depth
 
 -- the rows read of both tables, and those that are not read yet
-abbrev pub depths : Session → ℕ
-depths s = s .depth .field .0 + s .depth .trim .0
+abbrev pub rowsRead : Session → ℕ
+rowsRead s = s .depth .field .0 + s .depth .trim .0
 
 abbrev pub unreadRows : Session → ℕ
 unreadRows s = (s .rows .field .0 - s .depth .field .0) + (s .rows .trim .0 - s .depth .trim .0)
@@ -213,10 +213,10 @@ module _ (f t : Table) (s : Session) (h : settled f t s ≡ false) (size : 1 ≤
   pub read-raises : oldDepth (fieldNext f t s) s < newDepth (fieldNext f t s) s
   read-raises = let k = next-unread f t s (unsettled-out f t s h) m n in omega arith
 
-  pub read-deeper : depths s < depths (readBlock f t s)
+  pub read-deeper : rowsRead s < rowsRead (readBlock f t s)
   read-deeper = go (fieldNext f t s) read-raises
     where
-      go : (b : Bool) → oldDepth b s < newDepth b s → depths s < depths (readTable b f t s)
+      go : (b : Bool) → oldDepth b s < newDepth b s → rowsRead s < rowsRead (readTable b f t s)
       go true k = omega (arith, read-field true f t s, read-trim true f t s)
       go false k = omega (arith, read-field false f t s, read-trim false f t s)
 

@@ -25,8 +25,8 @@ use Rattle.session_laws.specs.Read.{unreadRows, read-fewer, read-query}
 use Rattle.session_laws.specs.Take.{gives-some}
 
 -- the pairs that are still wanted
-abbrev pub wanted : Session → ℕ
-wanted s = s .query .k - s .out
+abbrev pub stillWanted : Session → ℕ
+stillWanted s = s .query .k - s .out
 
 module _ (f t : Table) where
   -- ---- Reading
@@ -77,7 +77,7 @@ module _ (f t : Table) where
 
   -- a take that answers a pair leaves fewer wanted, of 64 at most
   pub fewer-wanted : (s : Session) → wasGiven (takeCall f t s .answer) ≡ true
-      → (wanted s ≤ 64) × (wanted (takeCall f t s .session) < wanted s)
+      → (stillWanted s ≤ 64) × (stillWanted (takeCall f t s .session) < stillWanted s)
   unfolding movedOut
   fewer-wanted s h =
       let r = was-given-out f t s h in
@@ -85,7 +85,7 @@ module _ (f t : Table) where
       (omega (arith, fits .query .k), rw (r .after) (omega (arith, fits .room, gives-some f t s (r .gives))))
 
   -- the same pairs from any two bounds above the number of pairs still wanted
-  pub takes-end : (m n : ℕ) (s : Session) → wanted s < m → wanted s < n
+  pub takes-end : (m n : ℕ) (s : Session) → stillWanted s < m → stillWanted s < n
       → takeUntilFinished m f t s ≡ takeUntilFinished n f t s
   unfolding takeUntilFinishedBy
   takes-end zero n s h k = absurd (not-suc-le-zero h)
@@ -100,7 +100,7 @@ module _ (f t : Table) where
       l = given (takeCall f t s .answer)
 
       go : (b : Bool) → wasGiven (takeCall f t s .answer) ≡ b
-          → (wanted r < m → wanted r < n → takeUntilFinished m f t r ≡ takeUntilFinished n f t r)
+          → (stillWanted r < m → stillWanted r < n → takeUntilFinished m f t r ≡ takeUntilFinished n f t r)
           → _≡_ {A = List Pair} (elim b [ true ↦ l ++ takeUntilFinished m f t r | false ↦ [] ])
           (elim b [ true ↦ l ++ takeUntilFinished n f t r | false ↦ [] ])
       go true e ih =

@@ -2,31 +2,25 @@
 -- nothing.
 use mathlib.Core.Path.{_≡_, ap, ap₂, _∙_}
 use mathlib.Core.Bool.{true, false, cond}
-use Prim.Native.Nat.{ℕ, zero, suc, _+_, _-_, _≤_, _<_, _^_}
+use Prim.Native.Nat.{ℕ, zero, suc, _+_, _-_, _≤_}
 use native.Mathlib.Omega.{arith}
 use lib.IntN.{ℤ}
-use lib.Signed.{leZ, mag}
+use lib.Signed.{leZ}
 use mir.Syntax.{w32}
-use mir.Val.{SFits, toZ, ofZ}
+use mir.Val.{SFits}
 use mir.Facts.{toZ-ofZ}
+use Rattle.lists.specs.Bits.{as32}
 use Rattle.rules.specs.declared.Side.{Side}
 use Rattle.rules.specs.Tables.{Table, num, side}
 use Rattle.sides.specs.Sides.{widened}
 
--- a 32-bit number, as the code has it
-abbrev pub held : ℤ → ℤ
-held z = toZ w32 (ofZ w32 z)
-
-pub passed : (z : ℤ) → mag z < 2 ^ 31 → held z ≡ z
-passed z h = toZ-ofZ {w = w32} {z = z} (record { sfits = h })
-
 module _ (x y a b : ℤ) (f : SFits w32 x) (g : SFits w32 y) where
-  pub chosen : SFits w32 a → leZ (held x) (held y) ≡ true → held a ≡ cond (leZ x y) a b
+  pub chosen : SFits w32 a → leZ (as32 x) (as32 y) ≡ true → as32 a ≡ cond (leZ x y) a b
   chosen h e =
       let t : leZ x y ≡ true = simp (toZ-ofZ f, toZ-ofZ g) at e in
       rw (t, toZ-ofZ h)
 
-  pub other : SFits w32 b → leZ (held x) (held y) ≡ false → held b ≡ cond (leZ x y) a b
+  pub other : SFits w32 b → leZ (as32 x) (as32 y) ≡ false → as32 b ≡ cond (leZ x y) a b
   other h e =
       let t : leZ x y ≡ false = simp (toZ-ofZ f, toZ-ofZ g) at e in
       rw (t, toZ-ofZ h)

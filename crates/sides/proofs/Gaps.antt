@@ -11,7 +11,7 @@ use lib.Dec.{T}
 use mir.Syntax.{w32, w64}
 use mir.Val.{SFits, toZ, ofZ}
 use mir.Facts.{toZ-ofZ}
-use Rattle.lists.specs.Wide.{wide, wide-is}
+use Rattle.lists.specs.Bits.{as64, as64-is}
 use Rattle.rules.specs.declared.Side.{Side}
 use Rattle.rules.specs.Tables.{gap, sideGap}
 use Rattle.rules.specs.Whole.{plus, minus, Below, apart, apart-le, lt-is, not-lt-is, sub-is}
@@ -41,17 +41,17 @@ fits-by (negsuc a) m n e h k = record { sfits = omega arith }
 
 -- the difference of two, as the code has it
 abbrev pub difference : ℤ → ℤ → ℤ
-difference x y = toZ w64 (ofZ w64 (wide x -ℤ wide y))
+difference x y = toZ w64 (ofZ w64 (as64 x -ℤ as64 y))
 
 module _ (x y : ℤ) (f : SFits w32 x) (g : SFits w32 y) where
-  pub sub-fits : SFits w64 (wide x -ℤ wide y)
+  pub sub-fits : SFits w64 (as64 x -ℤ as64 y)
   sub-fits =
-      rw (wide-is x f, wide-is y g)
+      rw (as64-is x f, as64-is y g)
       (fits-by (x -ℤ y) (plus y + minus x) (plus x + minus y) (less x y)
       (omega (arith, small x f, small y g)) (omega (arith, small x f, small y g)))
 
   difference-less : Less x y (difference x y)
-  difference-less = rw (toZ-ofZ sub-fits, wide-is x f, wide-is y g) (less x y)
+  difference-less = rw (toZ-ofZ sub-fits, as64-is x f, as64-is y g) (less x y)
 
 -- ---- What the tests choose
 
@@ -69,8 +69,8 @@ natural (pos a) n e h = (tt, omega arith, omega arith)
 natural (negsuc a) n e h = absurd (omega arith)
 
 -- the first where it is above 0, else the second where that is not below 0
-abbrev pub Chosen : ℤ → ℤ → ℤ → Type 0
-Chosen a b z =
+abbrev pub ChosenGap : ℤ → ℤ → ℤ → Type 0
+ChosenGap a b z =
     ((ltZ (pos 0) a ≡ true) × (z ≡ a))
     ⊎ ((ltZ (pos 0) a ≡ false) × (((ltZ b (pos 0) ≡ true) × (z ≡ pos 0)) ⊎ ((ltZ b (pos 0) ≡ false) × (z ≡ b))))
 
@@ -82,11 +82,11 @@ module _ (s o : Side) (f : SFits w32 (s .low)) (g : SFits w32 (s .high)) (h : SF
   abbrev below : ℤ
   below = difference (s .low) (o .high)
 
-  pub chosen-is : (z : ℤ) → Chosen above below z → Is z (sideGap s o)
+  pub chosen-is : (z : ℤ) → ChosenGap above below z → Is z (sideGap s o)
   unfolding sideGap
   chosen-is z c = go (ltZ (s .high) (o .low)) (ltZ (o .high) (s .low)) refl refl c
     where
-      go : (t u : Bool) → ltZ (s .high) (o .low) ≡ t → ltZ (o .high) (s .low) ≡ u → Chosen above below z
+      go : (t u : Bool) → ltZ (s .high) (o .low) ≡ t → ltZ (o .high) (s .low) ≡ u → ChosenGap above below z
           → Is z (cond t (gap (s .high) (o .low)) (cond u (gap (o .high) (s .low)) 0))
       go true u d e (inl (p, q)) =
           let n = gap-below (s .high) (o .low) (lt-is (s .high) (o .low) d) in

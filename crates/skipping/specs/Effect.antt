@@ -2,19 +2,15 @@
 -- nothing.
 use mathlib.Core.Path.{_≡_}
 use mathlib.Core.Bool.{Bool, true, false, _&&_, _||_}
-use Prim.Native.Nat.{ℕ, _+_, _≤_}
+use Prim.Native.Nat.{ℕ, _≤_}
 use native.Mathlib.Omega.{arith}
 use lib.Dec.{ltb}
 use Rattle.rules.specs.declared.Query.{Query}
 use Rattle.rules.specs.Tables.{Table, terms}
-use Rattle.rules.specs.Session.{firstScore}
+use Rattle.rules.specs.Meaning.{firstScores}
 use Rattle.near_rows.specs.Near.{NoPair}
 
--- what the first rows of two blocks add to a sum
-abbrev pub firstScores : Query → Table → Table → ℕ
-firstScores q x y = firstScore (terms q .field) x + firstScore (terms q .trim) y
-
--- they are too low for a full list
+-- what the first rows add to a sum is too low for a full list
 abbrev pub lowScores : Bool → ℕ → Query → Table → Table → Bool
 lowScores full low q x y = full && ltb (firstScores q x y) low
 

@@ -21,7 +21,6 @@ use Rattle.rules.specs.Session.{fieldReadOut, trimReadOut, bothReadOut, settled
 use Rattle.rules.specs.Read.{scoreDrop, fieldNextBy, fieldNext, readTable, readBlock}
 use Rattle.rules.specs.Sure.{Sure}
 use Rattle.session_laws.specs.Read.{read-field, read-trim, unsettled-out}
-use Rattle.session_laws.specs.Until.{wanted}
 use Rattle.tables_join.specs.Rows.{rowsOf, fieldSide, trimSide, near, field-rises, trim-rises, empty-read}
 use Rattle.tables_join.specs.Rows.{legal-rows, laws}
 use Rattle.tables_join.specs.Sure.{sure-rows}

@@ -100,7 +100,8 @@ module _ (s : Session) (x y : Block) where
 
   -- of any record whose held pairs are ranked, as many as it says, and with those out at most k
   module _ (stored : length (heldPairs s) ≡ s .held) (in-rank : ranked ahead (heldPairs s) ≡ true)
-      (room : s .out + s .held ≤ s .query .k) (low : (p : Pair) → List·Memᴰ p met → p .sum ≤ firstScores s x y) where
+      (room : s .out + s .held ≤ s .query .k)
+      (low : (p : Pair) → List·Memᴰ p met → p .sum ≤ firstScores (s .query) (x .rows) (y .rows)) where
     -- "Skipping never changes them": neither for scores nor for shade
     skipped-same : skipped s x y ≡ true → bestHeld s met ≡ heldPairs s
     unfolding bestHeld
@@ -122,7 +123,7 @@ module _ (s : Session) (x y : Block) where
 
   -- the block pair's pairs M, none of them in R, join R
   meet-holds : (R R′ M : Pair → Type 0) (out : List Pair) → Keeping R out s → ((p : Pair) → List·Memᴰ p met ↔ M p)
-      → ((p : Pair) → M p → p .sum ≤ firstScores s x y) → ((p : Pair) → M p → R p → ⊥)
+      → ((p : Pair) → M p → p .sum ≤ firstScores (s .query) (x .rows) (y .rows)) → ((p : Pair) → M p → R p → ⊥)
       → ((p : Pair) → R′ p ↔ (R p ⊎ M p))
       → Keeping R′ out (meet s x y)
   unfolding bestHeld
@@ -217,7 +218,8 @@ module _ (field : Bool) (f t : Table) (g : legal f ≡ true) (h : legal t ≡ tr
           (sym (blocks-keep field s x (cond field t f) c n .query))
           (mem-between field (s .query) f t a b (n * size) high hb (omega arith) p)
 
-      under : (p : Pair) → New (n * size) high p → p .sum ≤ firstScores (after n) (cond field x y) (cond field y x)
+      under : (p : Pair) → New (n * size) high p
+          → p .sum ≤ firstScores (after n .query) (cond field x y .rows) (cond field y x .rows)
       under p m =
           subst
           (λ q.

@@ -21,7 +21,7 @@ use Rattle.rules.specs.Session.{firstScore}
 use Rattle.rules.specs.Read.{rowsBetween}
 use Rattle.rules.specs.Ranking.{Before, before-ahead, ahead-trans, ahead-asym, ahead-tri}
 use Rattle.session_laws.specs.Tables.{row-part}
-use Rattle.tables_join.specs.Rows.{near, field-up, trim-up, scores-fall}
+use Rattle.tables_join.specs.Rows.{near, field-up, trim-up, legal-fall}
 
 -- rows of the tables that qualify, with their own sum
 pub record QualifyingPair (query : Query) (f t : Table) (p : Pair) : Type 0 where
@@ -229,8 +229,8 @@ module _ (query : Query) (f t : Table) where
     low-sums g h p m =
         let in-f : (a < p .field) × (p .field ≤ b) = m .own-part in
         let in-t : (c < p .trim) × (p .trim ≤ d) = m .other-part in
-        let first = scores-fall f g a (p .field - 1) (omega (arith, in-f)) (omega (arith, m .fits .field-row)) in
-        let second = scores-fall t h c (p .trim - 1) (omega (arith, in-t)) (omega (arith, m .fits .trim-row)) in
+        let first = legal-fall f g a (p .field - 1) (omega (arith, in-f)) (omega (arith, m .fits .field-row)) in
+        let second = legal-fall t h c (p .trim - 1) (omega (arith, in-t)) (omega (arith, m .fits .trim-row)) in
         omega (
           arith,
           m .fits .own-sum,

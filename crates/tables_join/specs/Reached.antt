@@ -29,7 +29,8 @@ use Rattle.session_laws.specs.Calls.{OneCard}
 use Rattle.session_laws.specs.ReadOut.{rows-qualify-out, live-above, live-never}
 use Rattle.session_laws.specs.Tables.{weighted-most, legal-out}
 use Rattle.session_laws.specs.Record.{query-out, pair-in, record-in}
-use Rattle.session_laws.specs.Read.{new-grows, new-within, own-within, Kept, metAll, met-all-keeps, depths, read-deeper}
+use Rattle.session_laws.specs.Read.{new-grows, new-within, own-within, Kept, metAll, met-all-keeps, rowsRead}
+use Rattle.session_laws.specs.Read.{read-deeper}
 use Rattle.session_laws.specs.Take.{held-first}
 use Rattle.session_laws.specs.Sound.{Sound, sound-read, sound-take}
 use Rattle.tables_join.specs.Pairs.{QualifyingPair, ownRow, Between, Region, pair-rank, region-between}
@@ -290,7 +291,7 @@ module _ {q : Query} {f t : Table} {out : List Pair} {s : Session} (a : Reached 
   own-size size = subst (λ q. 1 ≤ q .block) (sym (a .query)) size
 
   -- an unsettled read raises a depth
-  pub read-deepens : 1 ≤ q .block → settled f t s ≡ false → depths s < depths (readBlock f t s)
+  pub read-deepens : 1 ≤ q .block → settled f t s ≡ false → rowsRead s < rowsRead (readBlock f t s)
   read-deepens size u = read-deeper f t s u (own-size size) field-within-rows trim-within-rows
 
   pub read-sound : Sound s → 1 ≤ q .block → settled f t s ≡ false → Sound (readBlock f t s)

@@ -3,22 +3,20 @@
 use mathlib.Core.Path.{_≡_, refl, sym, ap, ap₂, subst, subst₂, _∙_}
 use mathlib.Core.Bool.{Bool, true, false, _&&_, _||_, not}
 use mathlib.Core.List.{List, [], _∷_, _++_, map}
-use mathlib.Core.Logic.{⊎-elim}
 use Prim.Native.Nat.{ℕ, zero, suc, _+_, _*_, _-_, _/_, _%_, _≤_, _<_}
 use native.Mathlib.Omega.{arith}
-use native.Mathlib.Decide.{le-ind, decLe}
+use native.Mathlib.Decide.{decLe}
 use native.Mathlib.Nat.{mul-le-mul-left, mul-suc, mul-zero, div-add-mod, mod-lt}
 use native.Mathlib.Nat.{mul-comm, div-lt-iff-lt-mul}
 use lib.Dec.{eqb, leb, ltb, lit≤}
 use lib.IntN.{ℤ, pos}
-use lib.Signed.{leZ}
 use lib.ListN.{length, getD, take, drop, replicate, length-append, length-replicate}
 use lib.ListN.{List·getD-append, getD-replicate}
 use lib.Seq.{ext-getD, take-nil, drop-nil, take-at, take-append-add, drop-append-add, getD-append-add, getD-take}
 use lib.Seq.{getD-drop}
-use borrow.Author.Tests.{leb-true, le-leb, eqb-true, eqb-false, eq-eqb, ne-eqb, lt-leb}
+use borrow.Author.Tests.{le-leb, eqb-true, eqb-false, eq-eqb, ne-eqb, lt-leb}
 use Rattle.lists.specs.Lists.{range}
-use Rattle.lists.specs.Bools.{clash, cond-same, and-false, or-out}
+use Rattle.lists.specs.Bools.{clash, cond-same, and-false}
 use Rattle.lists.specs.Parts.{map-range-at, length-map-range, every-of, mem-range}
 use Rattle.join.specs.Join.{Side, Laws}
 use Rattle.join.specs.Plain.{Rows, PlainLegal}
@@ -34,7 +32,7 @@ use Rattle.rules.specs.Widths.{rows-count, has-row, shade-length}
 use Rattle.rules.specs.Tables.{natOf, table, shadeAt, coordinateFits, fitsAt, shadeFits}
 use Rattle.rules.specs.declared.Query.{Query}
 use Rattle.rules.specs.Calls.{queryCode}
-use Rattle.session_laws.specs.ReadOut.{rows-qualify-in}
+use Rattle.session_laws.specs.ReadOut.{rows-qualify-in, scores-fall}
 use Rattle.session_laws.specs.Record.{query-out}
 use Rattle.session_laws.specs.Tables.{pattern-kept, score-kept, range-out, range-in, legal-out, legal-in}
 
@@ -162,23 +160,8 @@ module _ (t : Table) (g : legal t ≡ true) where
   in-range i h = legal-out t g .rows i h .range
 
   -- scores fall down a legal table
-  score-falls : (i : ℕ) → suc i < rowCount t → row t (suc i) .score ≤ row t i .score
-  unfolding rowInOrder
-  score-falls i h =
-      let below = leZ (num t (suc i) 1) (num t (suc i - 1) 1) in
-      let a : below ≡ true =
-      ⊎-elim (λ e. absurd (omega (arith, eqb-true (suc i) 0 e))) (λ e. e)
-      (or-out (eqb (suc i) 0) below (legal-out t g .rows (suc i) h .order)) in
-      let b : suc i - 1 ≡ i = omega arith in
-      let c : leZ (num t (suc i) 1) (num t i 1) ≡ true = subst (λ j. leZ (num t (suc i) 1) (num t j 1) ≡ true) b a in
-      leb-true (row t (suc i) .score) (row t i .score)
-      (subst₂ (λ x y. leZ x y ≡ true) (sym (score-kept t (suc i) (in-range (suc i) h)))
-      (sym (score-kept t i (in-range i (omega arith)))) c)
-
-  pub scores-fall : (i j : ℕ) → i ≤ j → j < rowCount t → row t j .score ≤ row t i .score
-  scores-fall i j h =
-      le-ind (λ j. j < rowCount t → row t j .score ≤ row t i .score) (λ k. omega arith)
-      (λ j m ih k. omega (arith, ih (omega arith), score-falls j k)) j h
+  pub legal-fall : (i j : ℕ) → i ≤ j → j < rowCount t → row t j .score ≤ row t i .score
+  legal-fall = scores-fall t (rowCount t) (legal-out t g .rows)
 
   pub legal-rows : {weight : Row → ℕ} → Rises weight → PlainLegal (rowsBy (t .coordinates) weight) (rowsOf t)
   legal-rows {weight} rises = record {
@@ -191,7 +174,7 @@ module _ (t : Table) (g : legal t ≡ true) where
         λ i h.
         let k : suc i < rowCount t = omega (arith, length-rows t) in
         subst₂ (λ x y. weight x ≤ weight y) (sym (rows-at t (suc i) k)) (sym (rows-at t i (omega arith)))
-        (rises .up (row t (suc i)) (row t i) (score-falls i k));
+        (rises .up (row t (suc i)) (row t i) (legal-fall i (suc i) (omega arith) k));
   }
 
 -- ---- Rows written out

@@ -15,9 +15,9 @@ use Rattle.rules.specs.Tables.{Table, rowCount, unsatisfiable, legal}
 use Rattle.rules.specs.Session.{noPair, placeCount, places, twoTables, opened, nothingQualifies, settledBy}
 use Rattle.rules.specs.Take.{givesPair, finished}
 use Rattle.rules.specs.Calls.{queryCode, callCode, step, readCall, takeCall}
-use Rattle.rules.specs.Query.{readUntilSettled, takeUntilFinished, settledSession, list}
+use Rattle.rules.specs.Query.{takeUntilFinished, settledSession, list}
 use Rattle.session_laws.specs.Record.{first-fits}
-use Rattle.session_laws.specs.Calls.{OneCard, legal-opened, call-out, read-settled, take-finishes}
+use Rattle.session_laws.specs.Calls.{OneCard, legal-settled, call-out, read-settled, take-finishes}
 use Rattle.session_laws.specs.Sound.{sound-open}
 use Rattle.session_laws.specs.Take.{gives-some}
 use Rattle.tables_join.specs.Reached.{open-reached}
@@ -52,15 +52,9 @@ module _ (q : Query) (accepted : queryCode q ≡ 0) (f t : Table) (cards : OneCa
   passes = call-passes q f t g h accepted (open-reached q f t accepted cards) (sound-open q (twoTables f t))
 
   pub settled-at-opening : settledSession q f t ≡ begun
-  unfolding settledSession opened
+  unfolding opened
   settled-at-opening =
-      let e : rowCount f + rowCount t + 1 ≡ suc (rowCount f + rowCount t) = omega arith in
-      ap
-      (λ x.
-      let s = x .session in
-      readUntilSettled (s .rows .field .0 + s .rows .trim .0 + 1) f t s)
-      (legal-opened q f t accepted cards g h)
-      ∙ ap (λ n. readUntilSettled n f t begun) e
+      legal-settled q f t accepted cards g h
       ∙ until-settled (rowCount f + rowCount t) f t begun (unsatisfiable-settles f t begun passes u)
 
   pub none-listed : list q f t ≡ []

@@ -16,7 +16,7 @@ use Rattle.rules.specs.declared.Query.{Query}
 use Rattle.rules.specs.declared.Session.{Session}
 use Rattle.rules.specs.declared.Step.{Step}
 use Rattle.rules.specs.declared.Answer.the-variants.{Read, Settled, Given, Finished}
-use Rattle.rules.specs.Session.{settled, twoTables, opened}
+use Rattle.rules.specs.Session.{settled, twoTables}
 use Rattle.rules.specs.Tables.{Table, width, rowCount, legal, terms, qualifying}
 use Rattle.rules.specs.Widths.{part-all}
 use Rattle.rules.specs.Read.{rowsBetween, fieldNext, readBlock}
@@ -28,9 +28,9 @@ use Rattle.rules.specs.Query.{list}
 use Rattle.rules.specs.Sure.{whole, qualifyingSums}
 use Rattle.session_laws.specs.Tables.{legal-out}
 use Rattle.session_laws.specs.Record.{query-out}
-use Rattle.session_laws.specs.Calls.{OneCard, legal-opened, call-accepted, new-block-accepted, read-settled, read-goes}
+use Rattle.session_laws.specs.Calls.{OneCard, legal-settled, call-accepted, new-block-accepted, read-settled, read-goes}
 use Rattle.session_laws.specs.Calls.{take-gives, take-finishes}
-use Rattle.session_laws.specs.Read.{depths}
+use Rattle.session_laws.specs.Read.{rowsRead}
 use Rattle.session_laws.specs.Take.{gives-some, gives-secured, settled-take, settled-moves}
 use Rattle.session_laws.specs.Sound.{Sound, sound-open}
 use Rattle.tables_join.specs.Pairs.{QualifyingPair, pair-rank, qualifying-distinct, mem-qualifying}
@@ -98,7 +98,7 @@ module _ (q : Query) (f t : Table) (g : legal f ≡ true) (h : legal t ≡ true)
 
   -- each read reads a row at least, so that the bound is never what ends it
   settles : (n : ℕ) {out : List Pair} {s : Session} → Reached q f t out s → Sound s
-      → rowCount f + rowCount t < depths s + n → SettledAt q f t out (readUntilSettled n f t s)
+      → rowCount f + rowCount t < rowsRead s + n → SettledAt q f t out (readUntilSettled n f t s)
   settles zero a b k = absurd (omega (arith, a .field-depth, a .trim-depth))
   settles (suc n) {out} {s} a b k = go (settled f t s) refl (λ x y z. settles n x y z)
     where
@@ -106,7 +106,7 @@ module _ (q : Query) (f t : Table) (g : legal f ≡ true) (h : legal t ≡ true)
       r = readBlock f t s
 
       go : (c : Bool) → settled f t s ≡ c
-          → (Reached q f t out r → Sound r → rowCount f + rowCount t < depths r + n
+          → (Reached q f t out r → Sound r → rowCount f + rowCount t < rowsRead r + n
           → SettledAt q f t out (readUntilSettled n f t r))
           → SettledAt q f t out (readUntilSettled (suc n) f t s)
       go true e next =
@@ -213,14 +213,9 @@ module _ (q : Query) (f t : Table) (g : legal f ≡ true) (h : legal t ≡ true)
     (cards : OneCard f t) where
   -- it reads until settled
   settled-session : SettledAt q f t [] (settledSession q f t)
-  unfolding settledSession opened
   settled-session =
-      subst
-      (λ x.
-      let s = x .session in
-      SettledAt q f t [] (readUntilSettled (s .rows .field .0 + s .rows .trim .0 + 1) f t s))
-      (sym (legal-opened q f t accepted cards g h))
-      (settles q f t g h accepted (rowCount f + rowCount t + 1) (open-reached q f t accepted cards)
+      subst (SettledAt q f t []) (sym (legal-settled q f t accepted cards g h))
+      (settles q f t g h accepted (suc (rowCount f + rowCount t)) (open-reached q f t accepted cards)
       (sound-open q (twoTables f t)) (omega arith))
 
   -- and takes until finished

@@ -23,7 +23,7 @@ use Rattle.rules.specs.Calls.{queryCode, callCode, step}
 use Rattle.rules.specs.Sure.{Sure, qualifyingSums}
 use Rattle.rules.specs.Query.{readUntilSettled, settledSession}
 use Rattle.session_laws.specs.Record.{query-out}
-use Rattle.session_laws.specs.Calls.{OneCard, legal-opened, call-accepted, new-block-accepted, read-goes, read-settled}
+use Rattle.session_laws.specs.Calls.{OneCard, legal-settled, call-accepted, new-block-accepted, read-goes, read-settled}
 use Rattle.session_laws.specs.Read.{read-field, read-trim}
 use Rattle.session_laws.specs.Sound.{Sound, sound-open}
 use Rattle.tables_join.specs.Sure.{readOutBy, emptyBy, ceilingAt, isSure, sure-is-test}
@@ -224,16 +224,7 @@ module _ (q : Query) (accepted : queryCode q ≡ 0) (f t : Table) (cards : OneCa
           (reached-fits a b g h)
 
   settles-after-one : settledSession q f t ≡ after
-  unfolding settledSession opened
-  settles-after-one =
-      let e : rowCount f + rowCount t + 1 ≡ suc (rowCount f + rowCount t) = omega arith in
-      ap
-      (λ x.
-      let s = x .session in
-      readUntilSettled (s .rows .field .0 + s .rows .trim .0 + 1) f t s)
-      (legal-opened q f t accepted cards g h)
-      ∙ ap (λ n. readUntilSettled n f t begun) e
-      ∙ read-once (rowCount f + rowCount t) (omega arith)
+  settles-after-one = legal-settled q f t accepted cards g h ∙ read-once (rowCount f + rowCount t) (omega arith)
 
   pub first-block-settles : (settledSession q f t .depth .field .0 ≡ min (q .block) (rowCount f))
       × (settledSession q f t .depth .trim .0 ≡ 0)

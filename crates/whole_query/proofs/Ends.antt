@@ -17,7 +17,7 @@ use Rattle.record_layout.specs.Flat.{querySize, queryIn}
 use Rattle.answers.specs.Refusals.{open-refusal, read-refusal}
 use Rattle.outcomes.specs.declared.Outcome.{Outcome}
 use Rattle.outcomes.specs.Outcomes.{readCode, queryOutcome, opening-code, OutcomeOf, is-outcome, lent-outcome}
-use Rattle.whole_query.specs.Asked.{askedCode, asked, writtenUnless}
+use Rattle.whole_query.specs.Asked.{askedCode, countSaid, writtenUnless}
 use Rattle.rules.specs.Tables.{Table}
 
 -- the code's checks, of the outcome that it has
@@ -81,13 +81,13 @@ module _ {least : ℕ} {l : List ℕ} {f t : Table} {room : ℕ} {q : Query} {r 
   -- of a query's answer: how many there are, and the lent places with it written
   module _ (count : Query → ℕ) (written : Query → List ℕ) (out : List ℕ) where
     pub refused : (code ≡ 0 → ⊥) →
-        (negℤ (pos code) ≡ signed (asked (askedCode least l f t room) (count (queryIn l))))
+        (negℤ (pos code) ≡ signed (countSaid (askedCode least l f t room) (count (queryIn l))))
         × (out ≡ writtenUnless (askedCode least l f t room) (written (queryIn l)) out)
     unfolding writtenUnless
     refused some = rw (← code-is) (simp (ne-eqb code 0 some), simp (ne-eqb code 0 some))
 
     pub found : code ≡ 0 → (n : ℕ) (next : List ℕ) → n ≡ count (r .query) → next ≡ written (r .query) →
-        (pos n ≡ signed (asked (askedCode least l f t room) (count (queryIn l))))
+        (pos n ≡ signed (countSaid (askedCode least l f t room) (count (queryIn l))))
         × (next ≡ writtenUnless (askedCode least l f t room) (written (queryIn l)) out)
     unfolding writtenUnless
     found z n next en w =

@@ -36,8 +36,8 @@ askedCode least l f t room =
     ∷ [])
 
 -- what such a number and the count that goes with none say
-abbrev pub asked : ℕ → ℕ → Said
-asked code count =
+abbrev pub countSaid : ℕ → ℕ → Said
+countSaid code count =
     record { accepted = eqb code 0; number = cond (eqb code 0) count code; values = [] }
 
 -- the lent places after it: with the answer written; refused, all as it was
@@ -52,7 +52,7 @@ lentQueryCode l f t out = askedCode queryRoom l (askedField l f) (askedTrim l t)
 -- how many pairs there are, or minus the refusal's number
 unfoldable pub lentQueryAnswer : List ℕ → List ℤ → List ℤ → List ℕ → ℤ
 lentQueryAnswer l f t out =
-    signed (asked (lentQueryCode l f t out) (length (list (queryIn l) (askedField l f) (askedTrim l t))))
+    signed (countSaid (lentQueryCode l f t out) (length (list (queryIn l) (askedField l f) (askedTrim l t))))
 
 unfoldable pub lentQueryNumbers : List ℕ → List ℤ → List ℤ → List ℕ → List ℕ
 lentQueryNumbers l f t out =
@@ -66,7 +66,7 @@ lentListingCode l f t out = askedCode listingRoom l (askedField l f) (askedTrim 
 -- how many bytes the listing takes, or minus the refusal's number
 unfoldable pub lentListingAnswer : List ℕ → List ℤ → List ℤ → List ℕ → ℤ
 lentListingAnswer l f t out =
-    signed (asked (lentListingCode l f t out) (length (listing (queryIn l) (askedField l f) (askedTrim l t))))
+    signed (countSaid (lentListingCode l f t out) (length (listing (queryIn l) (askedField l f) (askedTrim l t))))
 
 unfoldable pub lentListingBytes : List ℕ → List ℤ → List ℤ → List ℕ → List ℕ
 lentListingBytes l f t out =

@@ -6,7 +6,7 @@ use mathlib.Core.Bool.{Bool, cond}
 use Rattle.rules.specs.Session.{lentTable}
 use Rattle.rules.specs.Tables.{Table, mostRows, HasRows}
 use Rattle.rules.specs.Read.{oldDepth, newDepth}
-use Rattle.rules.proofs.Places.{places-long}
+use Rattle.rules.proofs.Places.{pairs-long}
 use Rattle.choosing.specs.Due.{Due, due, new-inside, code-is}
 use borrow.Author.Needs.{needs}
 use Rattle.choosing.proofs.new_block_code.Statement.{statement}
@@ -28,7 +28,7 @@ known : (c : tie.After-field-next) → Due (c .field-next .result) (field (c .be
     (c .before .args .s)
 known c =
     let s = c .before in
-    let long = places-long (s .args .s) _ (s .good .1 .1 .0) in
+    let long = pairs-long (s .args .s) _ (s .good .1 .1 .0) in
     due (field s) (trim s) (s .args .s) (s .pre .0 .lent) long (s .pre .1) (c .field-next .result)
     (c .field-next .ensures)
 

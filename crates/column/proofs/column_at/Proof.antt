@@ -4,7 +4,7 @@ use Prim.Native.Nat.{_+_}
 use Rattle.column.specs.Column.{columnHeld}
 use Rattle.column.specs.Held.{heldOf}
 use Rattle.column_scan.specs.Scan.{upTo}
-use Rattle.column_scan.proofs.Bytes.{whole, short}
+use Rattle.column_scan.proofs.Bytes.{columns-whole, short}
 use Rattle.column.proofs.Scans.{scan-holds}
 use borrow.Author.Needs.{needs}
 use Rattle.column.proofs.column_at.Statement.{statement}
@@ -27,7 +27,7 @@ returns c =
     ∙ ap heldOf (c .before .scan-from .ensures .0)
     ∙ scan-holds (s .signed) (upTo l (s .at) (s .at + s .width))
     (short l (s .at) (s .width) (c .before .before .before .pre))
-    ∙ sym (ap (columnHeld (s .signed)) (whole l (s .at) (s .width)))
+    ∙ sym (ap (columnHeld (s .signed)) (columns-whole l (s .at) (s .width)))
 
 pub column-at-spec : {M : Type 1} → statement M
 column-at-spec = tie.close (tie.spec add-scan-from scan-from-requires held-requires returns)

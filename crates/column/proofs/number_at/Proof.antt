@@ -7,7 +7,7 @@ use mir.Facts.{toZ-ofZ}
 use Rattle.rules.specs.File.{columns, columnFits, columnNumber}
 use Rattle.column_scan.specs.Scan.{upTo}
 use Rattle.column.specs.Held.{signedWorth}
-use Rattle.column_scan.proofs.Bytes.{whole, short}
+use Rattle.column_scan.proofs.Bytes.{columns-whole, short}
 use Rattle.column.proofs.Scans.{scan-number}
 use borrow.Author.Needs.{needs, sfits-of}
 use Rattle.column.proofs.number_at.Statement.{statement}
@@ -27,7 +27,7 @@ returns c =
     let at = c .before .before .before in
     let s = at .args in
     let l = s .bytes .now in
-    let same : columns l (s .at) (s .width) ≡ upTo l (s .at) (s .at + s .width) = whole l (s .at) (s .width) in
+    let same : columns l (s .at) (s .width) ≡ upTo l (s .at) (s .at + s .width) = columns-whole l (s .at) (s .width) in
     let fits : columnFits (s .signed) (upTo l (s .at) (s .at + s .width)) ≡ true =
     sym (ap (columnFits (s .signed)) same) ∙ at .pre .1 in
     toZ-ofZ {w = w32} {z = c .signed-worth .result} (sfits-of (c .signed-worth .ok))

@@ -7,7 +7,7 @@ use mathlib.Core.Bool.{_&&_}
 use lib.Dec.{eqb}
 use lib.ListN.{length, getD}
 use borrow.Author.Needs.{needs}
-use Rattle.file_laws.specs.Places.{placeAt}
+use Rattle.file_laws.specs.Places.{placeValueAt}
 use Rattle.column_scan.specs.declared.Scan.{Scan}
 use Rattle.rules.specs.File.{isDigit}
 use Rattle.column_scan.specs.Scan.{upTo, byteWorth, stepped, start, scanned}
@@ -77,7 +77,7 @@ loop-again c =
     let place = c .before .before .place-value in
     let behind : length (upTo bytes (l .i + 1) (s .end)) ≡ left =
     length-upTo bytes (l .i + 1) (s .end) (omega arith) (omega arith) ∙ fewer in
-    let stepped-is : c .step .result ≡ stepped (s .signed) (placeAt left) (l .s) b =
+    let stepped-is : c .step .result ≡ stepped (s .signed) (placeValueAt left) (l .s) b =
     c .step .ensures ∙ ap (λ (p : ℕ). stepped (s .signed) p (l .s) b) (place .ensures) in
     let before : l .s .worth + 2 * 10 ^ suc left ≤ 20000000 =
     subst (λ (r : ℕ). l .s .worth + 2 * 10 ^ r ≤ 20000000) k (l .inv .2) in
@@ -91,7 +91,8 @@ loop-again c =
       l .inv .4
           ∙ ap (scanned (s .signed) (l .s)) (next bytes (l .i) (s .end) (omega arith) (omega arith))
           ∙ ap
-          (λ (n : ℕ). scanned (s .signed) (stepped (s .signed) (placeAt n) (l .s) b) (upTo bytes (l .i + 1) (s .end)))
+          (λ (n : ℕ).
+          scanned (s .signed) (stepped (s .signed) (placeValueAt n) (l .s) b) (upTo bytes (l .i + 1) (s .end)))
           behind
           ∙ ap (λ (x : Scan). scanned (s .signed) x (upTo bytes (l .i + 1) (s .end))) (sym stepped-is),
     )

@@ -2,20 +2,20 @@
 use mathlib.Core.Path.{_≡_, refl}
 use mathlib.Core.Bool.{true}
 use lib.Signed.{leZ}
-use Rattle.lists.specs.Wide.{wide, fits-wide}
+use Rattle.lists.specs.Bits.{as64, fits64}
 use Rattle.rules.specs.Whole.{gap-sym}
 use Rattle.distance.proofs.Gap as G
 use Rattle.distance.proofs.apart.Statement.{statement}
 use Rattle.distance.proofs.apart.Tie as tie
 
-other : (c : tie.Else1) → leZ (wide (c .before .args .x)) (wide (c .before .args .y)) ≡ true
-other c = G.total (wide (c .before .args .x)) (wide (c .before .args .y)) (c .if1 .left)
+other : (c : tie.Else1) → leZ (as64 (c .before .args .x)) (as64 (c .before .args .y)) ≡ true
+other c = G.le-total (as64 (c .before .args .x)) (as64 (c .before .args .y)) (c .if1 .left)
 
 cast-a : tie.Need-cast-a
-cast-a c = fits-wide (c .args .x) (c .fits .x)
+cast-a c = fits64 (c .args .x) (c .fits .x)
 
 cast-b : tie.Need-cast-b
-cast-b c = fits-wide (c .args .y) (c .fits .y)
+cast-b c = fits64 (c .args .y) (c .fits .y)
 
 sub-result : tie.Need-sub-result
 sub-result c = G.sub-fits (c .before .args .x) (c .before .args .y) (c .before .fits .x) (c .before .fits .y)

@@ -2,13 +2,14 @@
 use mathlib.Core.Path.{_≡_, refl}
 use mathlib.Core.Bool.{true}
 use lib.Signed.{leZ}
+use Rattle.lists.specs.Bits.{as32}
 use Rattle.rules.specs.Whole.{gap-sym}
 use Rattle.distance.proofs.Gap as G
 use Rattle.distance.proofs.apart_small.Statement.{statement}
 use Rattle.distance.proofs.apart_small.Tie as tie
 
-other : (c : tie.Else1) → leZ (G.held (c .before .args .x)) (G.held (c .before .args .y)) ≡ true
-other c = G.total (G.held (c .before .args .x)) (G.held (c .before .args .y)) (c .if1 .left)
+other : (c : tie.Else1) → leZ (as32 (c .before .args .x)) (as32 (c .before .args .y)) ≡ true
+other c = G.le-total (as32 (c .before .args .x)) (as32 (c .before .args .y)) (c .if1 .left)
 
 sub-result : tie.Need-sub-result
 sub-result c = let s = c .before in G.sub-fits-small (s .args .x) (s .args .y) (s .pre .0) (s .pre .1) (c .if1 .taken)

@@ -6,6 +6,7 @@ use Prim.Native.Nat.{_-_, _≤_, _<_}
 use native.Mathlib.Omega.{arith}
 use lib.Dec.{leb}
 use borrow.Author.Tests.{leb-false}
+use Rattle.lists.specs.Bits.{as32}
 use Rattle.lists.specs.Bools.{clash, and-none-out}
 use lib.IntN.{pos}
 use lib.ListN.{length, getD}
@@ -41,8 +42,8 @@ no-farther-requires : tie.Need-no-farther-requires Inv-loop μ-loop
 no-farther-requires c κs =
     let s = c .before .before .before .before in
     let k = c .before .before .before .loop .k in (
-      G.held-small (getD (s .args .x .now) k (pos 0)) (s .pre .0 .0 k),
-      G.held-small (getD (s .args .y .now) k (pos 0)) (s .pre .0 .1 k),
+      G.small-stays (getD (s .args .x .now) k (pos 0)) (s .pre .0 .0 k),
+      G.small-stays (getD (s .args .y .now) k (pos 0)) (s .pre .0 .1 k),
       s .pre .1 .1,
     )
 
@@ -61,10 +62,10 @@ far c e =
     let k = at .before .loop .k in
     let x = getD (s .args .x .now) k (pos 0) in
     let y = getD (s .args .y .now) k (pos 0) in
-    let test : leb (gap (G.held x) (G.held y)) (s .args .reach) ≡ false = sym (c .no-farther .ensures) ∙ e in
+    let test : leb (gap (as32 x) (as32 y)) (s .args .reach) ≡ false = sym (c .no-farther .ensures) ∙ e in
     let more : s .args .reach < gap x y =
     leb-false (gap x y) (s .args .reach)
-    (simp (G.held-is x (s .pre .0 .0 k), G.held-is y (s .pre .0 .1 k)) at test) in
+    (simp (G.small-is x (s .pre .0 .0 k), G.small-is y (s .pre .0 .1 k)) at test) in
     let own = at .loop-test .taken in
     (k, own, omega (arith, own, s .pre .1 .0), more)
 

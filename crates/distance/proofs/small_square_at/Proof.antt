@@ -27,8 +27,8 @@ apart-small-requires : tie.Need-apart-small-requires
 apart-small-requires c κs =
     let s = c .before .before in
     let k = s .args .k in (
-      G.held-small (getD (s .args .x .now) k (pos 0)) (s .pre .2 k),
-      G.held-small (getD (s .args .y .now) k (pos 0)) (s .pre .3 k),
+      G.small-stays (getD (s .args .x .now) k (pos 0)) (s .pre .2 k),
+      G.small-stays (getD (s .args .y .now) k (pos 0)) (s .pre .3 k),
     )
 
 counted-requires : tie.Need-counted-requires

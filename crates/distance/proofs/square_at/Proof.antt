@@ -3,7 +3,7 @@ use mathlib.Core.Path.{ap}
 use Prim.Native.Nat.{ℕ, _*_}
 use lib.IntN.{pos}
 use lib.ListN.{getD}
-use Rattle.lists.specs.Wide.{square-fits}
+use Rattle.lists.specs.Bits.{square-fits}
 use Rattle.rules.specs.Squares.{squareAt}
 use Rattle.distance.proofs.Gap as G
 use borrow.Author.Needs.{needs}

@@ -4,7 +4,7 @@ use Prim.Native.Nat.{ℕ, _+_, _≤_}
 use lib.ListN.{length}
 use Rattle.rules.specs.Tables.{width}
 use Rattle.rules.specs.File.{rowBytes}
-use Rattle.file_laws.specs.Parts.{RowFits}
+use Rattle.file_laws.specs.Parts.{RowBytesFit}
 use borrow.Author.Needs.{needs}
 use Rattle.file.proofs.put_row.Statement.{statement}
 use Rattle.file.proofs.put_row.Tie as tie
@@ -14,7 +14,7 @@ abbrev Asks : tie.Start → ℕ → Type 0
 Asks s n =
     let a = s .args in
     ((a .o + rowBytes n ≤ length (a .bytes .now)) × (a .p + width n ≤ length (a .out .now)))
-    × RowFits n (a .bytes .now) (a .o)
+    × RowBytesFit n (a .bytes .now) (a .o)
 
 put-row-at-requires : tie.Need-put-row-at-requires
 put-row-at-requires c κs =

@@ -9,7 +9,7 @@ use Rattle.lists.specs.Lists.{range, each}
 use Rattle.rules.specs.File.{headerBytes, rowBytes, rowStart, fileTable}
 use Rattle.rules.specs.Tables.{table, width, HasRow, afterRows}
 use Rattle.rules.specs.Widths.{rows-row, next-row}
-use Rattle.file_laws.specs.Parts.{RowFits, row-parts}
+use Rattle.file_laws.specs.Parts.{RowBytesFit, row-parts}
 use Rattle.file.specs.Put.{rowPut}
 use Rattle.file.proofs.Table.{one-row}
 use Rattle.file.proofs.put_rows.Statement.{statement}
@@ -85,7 +85,7 @@ put-row-requires c κs =
     let h = at .loop-test .taken in
     let fit = row-parts (s .args .n) (s .args .bytes .now) (l .i) (s .pre .1 (l .i) h) in (
       (omega (arith, place at, room at), omega (arith, goal at, free at, l .inv .1)),
-      subst (RowFits (s .args .n) (s .args .bytes .now)) (sym (place at)) fit,
+      subst (RowBytesFit (s .args .n) (s .args .bytes .now)) (sym (place at)) fit,
     )
 
 add-i : tie.Need-add-i Inv-loop μ-loop

@@ -10,7 +10,7 @@ use Rattle.rules.specs.File.{columnStart, rowBytes, endsLine}
 use Rattle.file_laws.specs.Columns.{start-up}
 use Rattle.column.specs.declared.Column.{Column}
 use Rattle.file_row.specs.declared.Row.{Row}
-use Rattle.file_row.specs.Held.{heldAt, columnsHeld, numbersHeld, frontHeld, rowHeld}
+use Rattle.file_row.specs.Held.{heldColumn, columnsHeld, numbersHeld, frontHeld, rowHeld}
 use Rattle.file_row.proofs.Rows.{columns-more, numbers-more, back-held, back-next, back-fits}
 use borrow.Author.Needs.{needs, sfits-of}
 use Rattle.file_row.proofs.read_row.Statement.{statement}
@@ -87,11 +87,11 @@ loop-again c =
     let s = begun (at .before) .args in
     let bytes = s .bytes .now in
     let column = c .before .before .before .column-at in
-    let held : column .result ≡ heldAt bytes (s .o) (l .k + 2) =
+    let held : column .result ≡ heldColumn bytes (s .o) (l .k + 2) =
     column .ensures ∙ back-held bytes (s .o) (l .k) (l .inv .0) (l .at) (l .inv .2) in
     let told = c .before .before .struct-told .given in
     let number = toZ-ofZ {w = w32} {z = column .result .number} (sfits-of (told .1 .0 .1)) in
-    let here : c .before .coordinate-fits .result ≡ coordinateFits (l .k) (heldAt bytes (s .o) (l .k + 2) .number) =
+    let here : c .before .coordinate-fits .result ≡ coordinateFits (l .k) (heldColumn bytes (s .o) (l .k + 2) .number) =
     c .before .coordinate-fits .ensures
     ∙ ap (coordinateFits (l .k)) (number ∙ ap (λ (x : Column). x .number) held) in (
       search needs,

@@ -6,20 +6,20 @@ use native.Mathlib.Omega.{arith}
 use lib.ListN.{length, take, drop, length-set}
 use lib.Seq.{take-take}
 use borrow.Author.Needs.{needs}
-use Rattle.keys.specs.Held.{putAt}
+use Rattle.keys.specs.Held.{insertAt}
 use Rattle.keys.proofs.Lists.{one-on, at-end}
 use Rattle.keys.proofs.shift.Statement.{statement}
 use Rattle.keys.proofs.shift.Tie as tie
 
 abbrev Inv-loop : tie.InvT-loop
 Inv-loop a₀ n i p c₀ j₀ a c j =
-    (j ≤ n) × (length a ≡ length a₀) × (take j a ++ c ∷ drop j (take n a) ≡ putAt i p (take n a₀))
+    (j ≤ n) × (length a ≡ length a₀) × (take j a ++ c ∷ drop j (take n a) ≡ insertAt i p (take n a₀))
 
 abbrev μ-loop : tie.MeasureT-loop
 μ-loop a₀ n i p c₀ j₀ a c j = n - j
 
 loop-holds : tie.Need-loop-holds Inv-loop μ-loop
-unfolding putAt
+unfolding insertAt
 loop-holds c = (search needs, refl, simp (take-take (c .args .i) (c .args .n) (c .args .a .now) (c .pre .0)))
 
 mul-q : tie.Need-mul-q Inv-loop μ-loop

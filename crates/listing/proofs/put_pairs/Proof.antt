@@ -12,7 +12,7 @@ use Rattle.printing.specs.Put.{putAt}
 use Rattle.printing.specs.Laid.{Writing, writing-starts, writing-on, writing-ends}
 use Rattle.pair_line.specs.Line.{lineBytes, lineLength}
 use Rattle.listing.specs.Shown.{line-bytes}
-use Rattle.listing.specs.ListShown.{counted, count-few, pair-at}
+use Rattle.listing.specs.ListShown.{count-is, count-few, pair-at}
 use Rattle.listing.proofs.Lines.{lineAt, lineAt-length, lines-laid}
 use Rattle.listing.proofs.put_pairs.Statement.{statement}
 use Rattle.listing.proofs.put_pairs.Tie as tie
@@ -109,7 +109,7 @@ returns c =
     let run = s .args .t6 in
     let l = c .before .loop in
     let all = list (run .query) f t in
-    let done : length all ≤ l .i = omega (arith, c .loop-test .left, counted f t run (s .pre .1)) in
+    let done : length all ≤ l .i = omega (arith, c .loop-test .left, count-is f t run (s .pre .1)) in
     writing-ends (lineAt-length f t) (l .inv .1) done
     ∙ ap (λ (b : List ℕ). putAt (s .args .at) b (s .args .out .now)) (sym (lines-laid f t 0 all))
 

@@ -4,7 +4,7 @@ use mathlib.Core.Bool.{Bool}
 use Rattle.rules.specs.Tables.{Table}
 use Rattle.rules.specs.Session.{lentTable}
 use Rattle.rules.specs.Read.{readTable}
-use Rattle.rules.proofs.Places.{places-long}
+use Rattle.rules.proofs.Places.{pairs-long}
 use Rattle.session_laws.specs.Calls.{new-block-out}
 use Rattle.choosing.specs.Due.{due}
 use Rattle.next_block.specs.Side.{passed}
@@ -26,7 +26,7 @@ read-on-requires c κs =
     let s = c .before .before in
     let a = s .args in
     let next = c .before .field-next in
-    let long = places-long (a .s) _ (s .good .1 .1 .0) in (
+    let long = pairs-long (a .s) _ (s .good .1 .1 .0) in (
       due (fields s) (trims s) (a .s) (s .pre .0 .lent) long (s .pre .1) (next .result) (next .ensures),
       passed (next .result) (fields s) (trims s) (a .s) (s .pre .0)
           (rw (next .ensures) (new-block-out (fields s) (trims s) (a .s) (s .pre .2))),

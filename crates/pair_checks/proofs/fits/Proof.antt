@@ -2,7 +2,7 @@
 use Prim.Native.Nat.{_-_}
 use native.Mathlib.Omega.{arith}
 use borrow.Author.Needs.{needs}
-use Rattle.rules.proofs.Places.{places-long}
+use Rattle.rules.proofs.Places.{pairs-long}
 use Rattle.pair_checks.proofs.Looking.{Looking, look-starts, look-on, look-stops, look-ends}
 use Rattle.pair_checks.proofs.fits.Statement.{statement}
 use Rattle.pair_checks.proofs.fits.Tie as tie
@@ -30,7 +30,7 @@ loop-holds : tie.Need-loop-holds Inv-loop μ-loop
 loop-holds c =
     let s = start (c .before) in
     let n = c .before .numbers-fit in
-    let long = places-long (s .args .t1) _ (s .good .0) in
+    let long = pairs-long (s .args .t1) _ (s .good .0) in
     look-starts (s .args .t1) (n .result) (c .first-place .result) long (n .ensures) (c .first-place .ensures)
 
 mul-p : tie.Need-mul-p Inv-loop μ-loop

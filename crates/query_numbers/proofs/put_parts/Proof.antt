@@ -13,7 +13,7 @@ use Rattle.rules.specs.Session.{noPair, placeCount}
 use Rattle.rules.specs.Query.{list}
 use Rattle.printing.specs.Put.{putAt}
 use Rattle.printing.specs.Laid.{Writing, writing-starts, writing-on, writing-ends}
-use Rattle.listing.specs.ListShown.{counted, count-few, pair-at}
+use Rattle.listing.specs.ListShown.{count-is, count-few, pair-at}
 use Rattle.query_numbers.specs.Parts.{partLength}
 use Rattle.query_numbers.proofs.Steps.{partAt, partAt-length, parts-laid}
 use Rattle.query_numbers.proofs.put_parts.Statement.{statement}
@@ -112,7 +112,7 @@ returns c =
     let run = s .args .t8 in
     let l = c .before .loop in
     let all = list (run .query) f t in
-    let done : length all ≤ l .i = omega (arith, c .loop-test .left, counted f t run (s .pre .1)) in
+    let done : length all ≤ l .i = omega (arith, c .loop-test .left, count-is f t run (s .pre .1)) in
     writing-ends (wide-is (s .args .roots) f t (s .args .wide) (s .pre .0 .0)) (l .inv .1) done
     ∙ ap (λ (b : List ℕ). putAt (s .args .at) b (s .args .out .now))
     (sym (parts-laid (s .args .roots) f t (run .query)))

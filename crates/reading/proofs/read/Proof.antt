@@ -10,7 +10,7 @@ use Rattle.rules.specs.declared.Step.{Step}
 use Rattle.rules.specs.Query.{wasRead}
 use Rattle.session_laws.specs.Calls.{call-record}
 use Rattle.rules.specs.Calls.{recordFits, newBlockCode, step, readCall}
-use Rattle.rules.proofs.Places.{places-long}
+use Rattle.rules.proofs.Places.{pairs-long}
 use Rattle.pair_checks.proofs.Looking.{Looking, look-starts, look-key, look-on, look-stops, look-ends}
 use Rattle.checks.specs.Codes.{depths-fit}
 use Rattle.block_pair.specs.Stands.{Keys}
@@ -56,7 +56,7 @@ loop-holds c =
     let s = start (c .before) in
     let n = c .before .numbers-fit in
     let i = c .first-place in
-    let long = places-long (s .args .s) _ (s .good .1 .1 .0) in (
+    let long = pairs-long (s .args .s) _ (s .good .1 .1 .0) in (
       look-starts (s .args .s) (n .result) (i .result) long (n .ensures) (i .ensures),
       key-starts (s .args .s) (n .result) (i .result) (i .ensures),
     )

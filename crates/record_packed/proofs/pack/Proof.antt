@@ -9,11 +9,11 @@ use borrow.Author.Needs.{needs}
 use Rattle.lists.specs.Lists.{each}
 use Rattle.rules.specs.declared.Pair.{Pair}
 use Rattle.rules.specs.Session.{noPair, placeCount}
-use Rattle.rules.proofs.Places.{places-long}
-use Rattle.record_layout.specs.Flat.{pairsAt, pairSize, pairAt, fieldWeightAt, flatSize, flatPair}
+use Rattle.rules.proofs.Places.{pairs-long}
+use Rattle.record_layout.specs.Flat.{pairsAt, pairSize, pairPlace, fieldWeightAt, flatSize, flatPair}
 use Rattle.record_layout.specs.Flat.{flatHead, flatTail, flatten}
 use Rattle.record_layout.specs.RoundTrip.{flat-length}
-use Rattle.record_layout.proofs.Places.{onto, laid, none-laid, one-out}
+use Rattle.record_layout.proofs.Places.{onto, laidTo, none-laid, one-out}
 use Rattle.record_packed.proofs.pack.Statement.{statement}
 use Rattle.record_packed.proofs.pack.Tie as tie
 
@@ -23,7 +23,7 @@ Inv-loop out₀ s i₀ out i =
     × (length (s .pairs) ≡ placeCount)
     × (length out ≡ length out₀)
     × (flatSize ≤ length out₀)
-    × (out ≡ laid out₀ (s .pairs) i)
+    × (out ≡ laidTo out₀ (s .pairs) i)
 
 abbrev μ-loop : tie.MeasureT-loop
 μ-loop out₀ s i₀ out i = placeCount - i
@@ -40,7 +40,7 @@ loop-holds c =
     let s = c .before .before .before .before .before in
     let head = c .before .before .put-head in
     let a = s .args .t1 .pairs in
-    let long = places-long (s .args .t1) _ (s .good .0) in
+    let long = pairs-long (s .args .t1) _ (s .good .0) in
     (omega arith, long, refl, omega (arith, head .kept .0, s .pre), none-laid (head .last .0) a)
 
 mul-p : tie.Need-mul-p Inv-loop μ-loop
@@ -81,7 +81,8 @@ loop-again c =
       c .before .before .put-pair .kept .0 ∙ v .inv .2,
       v .inv .3,
       c .before .before .put-pair .ensures
-          ∙ ap (λ (r : List ℕ). take (pairAt (v .i)) r ++ flatPair p ++ drop (pairAt (v .i) + pairSize) r) (v .inv .4)
+          ∙ ap (λ (r : List ℕ). take (pairPlace (v .i)) r ++ flatPair p ++ drop (pairPlace (v .i) + pairSize) r)
+          (v .inv .4)
           ∙ one-out l (s .pairs) (omega (arith, v .inv .3)) (v .i) (omega (arith, h, v .inv .1)),
     )
 
@@ -107,7 +108,7 @@ returns c =
     c .before .before .put-tail .ensures
     ∙ ap (λ (r : List ℕ). take fieldWeightAt r ++ flatTail s ++ drop flatSize r)
     (v .inv .4
-    ∙ ap (laid last (s .pairs)) e
+    ∙ ap (laidTo last (s .pairs)) e
     ∙ ap (λ (a : List Pair). take pairsAt last ++ each flatPair a ++ drop fieldWeightAt last)
     (take-all placeCount (s .pairs) (omega (arith, v .inv .1)))
     ∙ ap (λ (r : List ℕ). take pairsAt r ++ pairs ++ drop fieldWeightAt r) (head .ensures)

@@ -20,7 +20,7 @@ some s = row-below (table (s .args .n) (s .args .t .now)) 0 (s .pre .2)
 abbrev test : tie.Start → ℕ → ℕ → Bool
 test s less m =
     let radius = s .args .q .radius in
-    ltb (radius * radius) (S.all less (s .args .sides .now) (table (s .args .n) (s .args .t .now)) m)
+    ltb (radius * radius) (S.allSquares less (s .args .sides .now) (table (s .args .n) (s .args .t .now)) m)
 
 both-requires : tie.Need-both-requires
 both-requires c κs = search needs

@@ -4,9 +4,8 @@ use Prim.Native.Nat.{_+_, _*_, _-_, _≤_}
 use native.Mathlib.Omega.{arith}
 use lib.IntN.{pos}
 use lib.ListN.{getD}
-use Rattle.lists.specs.Wide.{square-fits}
+use Rattle.lists.specs.Bits.{as32-is, square-fits}
 use Rattle.rules.specs.Tables.{table, squares, sideGap}
-use Rattle.sides.proofs.Ends.{passed}
 use Rattle.rectangles.proofs.Sums as S
 use borrow.Author.Needs.{needs}
 use Rattle.rectangles.proofs.rows_far.Statement.{statement}
@@ -70,8 +69,8 @@ turn c =
     let l = head c in
     let s = l .before in
     let g = c .before in
-    let low = passed (getD (s .args .sides .now) (2 * l .loop .k) (pos 0)) (g .before .before .side-gap-arg .given) in
-    let high = passed (getD (s .args .sides .now) (2 * l .loop .k + 1) (pos 0)) (g .before .side-gap-arg2 .given) in
+    let low = as32-is (getD (s .args .sides .now) (2 * l .loop .k) (pos 0)) (g .before .before .side-gap-arg .given) in
+    let high = as32-is (getD (s .args .sides .now) (2 * l .loop .k + 1) (pos 0)) (g .before .side-gap-arg2 .given) in
     let gap =
     g .side-gap .ensures .0
     ∙ ap₂ sideGap (λ i. record { low = low i; high = high i }) (g .before .before .before .side .ensures) in

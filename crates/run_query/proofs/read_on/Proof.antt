@@ -16,7 +16,7 @@ use Rattle.session_laws.specs.Cards.{read-tables}
 use Rattle.checks.proofs.Answers.{not-read}
 use Rattle.outcomes.specs.declared.ReadOut.{ReadOut}
 use Rattle.outcomes.specs.Until.{readOn, read-more, read-ends}
-use Rattle.outcomes.specs.Outcomes.{refusedBy, readOut}
+use Rattle.outcomes.specs.Outcomes.{refusedBy, readEnd}
 use Rattle.run_query.proofs.read_on.Statement.{statement}
 use Rattle.run_query.proofs.read_on.Tie as tie
 
@@ -59,7 +59,7 @@ refusal-requires : tie.Need-refusal-requires Inv-loop μ-loop
 refusal-requires c κs = search needs
 
 returns : tie.Need-returns Inv-loop μ-loop
-unfolding readOut
+unfolding readEnd
 returns c =
     let call = c .before .before in
     let at = call .before in

@@ -14,7 +14,7 @@ use Rattle.rules.specs.Query.{settledSession, list}
 use Rattle.outcomes.specs.declared.ReadOut.{ReadOut}
 use Rattle.outcomes.specs.declared.TakenOut.{TakenOut}
 use Rattle.outcomes.specs.Until.{settled-on, list-taken}
-use Rattle.outcomes.specs.Outcomes.{refusedBy, readOut, takenOut, queryOutcome, opening-code, read-begun}
+use Rattle.outcomes.specs.Outcomes.{refusedBy, readEnd, takenOut, queryOutcome, opening-code, read-begun}
 use Rattle.outcomes.specs.Outcomes.{take-done}
 use Rattle.run_query.proofs.run.Statement.{statement}
 use Rattle.run_query.proofs.run.Tie as tie
@@ -22,13 +22,13 @@ use Rattle.rules.specs.Tables.{Table, fieldTable, trimTable}
 
 module _ (q : Query) (f t : Table)
     (s : Step) (es : s ≡ openCall q f t) (r : ReadOut)
-    (er : r ≡ readOut (lentTable (s .session) (f .numbers)) (lentTable (s .session) (t .numbers)) (s .session)) where
+    (er : r ≡ readEnd (lentTable (s .session) (f .numbers)) (lentTable (s .session) (t .numbers)) (s .session)) where
   read-is : r ≡ record { code = refusedBy f t (settledSession q f t); session = settledSession q f t }
-  unfolding readOut
+  unfolding readEnd
   read-is =
       er
       ∙ ap
-      (λ (x : Step). readOut (lentTable (x .session) (f .numbers)) (lentTable (x .session) (t .numbers)) (x .session))
+      (λ (x : Step). readEnd (lentTable (x .session) (f .numbers)) (lentTable (x .session) (t .numbers)) (x .session))
       es
       ∙ read-begun q f t
       ∙ ap (λ (x : Session). record { code = refusedBy f t x; session = x })

@@ -6,7 +6,7 @@ use native.Mathlib.Omega.{arith}
 use lib.ListN.{length}
 use borrow.Author.Tests.{eq-eqb, ne-eqb}
 use Rattle.rules.specs.Session.{lentTable, placeCount, nothingQualifies, aTableIsEmpty, bothReadOut, settledBy}
-use Rattle.rules.proofs.Places.{places-long}
+use Rattle.rules.proofs.Places.{pairs-long}
 use Rattle.ceiling.specs.Bare.{secured-bare}
 use Rattle.table_ends.specs.BothRead.{RowsRead, accepted-rows}
 use Rattle.securing.specs.Last.{held-then-read, held-secured}
@@ -15,7 +15,7 @@ use Rattle.settling.proofs.is_settled.Tie as tie
 
 -- the record handed in has all its pair places
 long : (c : tie.Start) → length (c .args .s .pairs) ≡ placeCount
-long c = places-long (c .args .s) _ (c .good .1 .1 .0)
+long c = pairs-long (c .args .s) _ (c .good .1 .1 .0)
 
 -- where the query alone does not settle it: the start of the call, and what was asked
 abbrev begin : tie.Else1 → tie.Start

@@ -2,6 +2,7 @@
 use mathlib.Core.Path.{_≡_, ap, _∙_}
 use Prim.Native.Nat.{_-_, _≤_}
 use native.Mathlib.Omega.{arith}
+use Rattle.lists.specs.Bits.{as32, as32-is}
 use Rattle.rules.specs.Tables.{table, side}
 use Rattle.rules.specs.Widths.{rows-row}
 use borrow.Author.Needs.{needs}
@@ -22,7 +23,7 @@ coordinate-requires c κs =
 loop-holds : tie.Need-loop-holds Inv-loop μ-loop
 unfolding side
 loop-holds c =
-    let x = E.passed (c .coordinate .result) (c .coordinate .ok) ∙ c .coordinate .ensures in
+    let x = as32-is (c .coordinate .result) (c .coordinate .ok) ∙ c .coordinate .ensures in
     (search needs, search needs, λ i. record { low = x i; high = x i })
 
 coordinate-requires-2 : tie.Need-coordinate-requires-2 Inv-loop μ-loop
@@ -48,8 +49,8 @@ loop-again c =
     let t = table (s .args .n) (s .args .t .now) in
     let x = c .before .coordinate2 in
     let more =
-    E.side-more t (s .args .k) (l .loop .i) (l .loop .s) (E.held (x .result)) (l .loop .inv .0) (l .loop .inv .2)
-    (E.passed (x .result) (x .ok) ∙ x .ensures) in
+    E.side-more t (s .args .k) (l .loop .i) (l .loop .s) (as32 (x .result)) (l .loop .inv .0) (l .loop .inv .2)
+    (as32-is (x .result) (x .ok) ∙ x .ensures) in
     (search needs, search needs, c .widened .ensures ∙ more)
 
 returns : tie.Need-returns Inv-loop μ-loop

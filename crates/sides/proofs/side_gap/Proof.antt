@@ -4,7 +4,7 @@ use mathlib.Core.Logic.{inl, inr, ⊎-elim}
 use native.Mathlib.Omega.{arith}
 use mir.Syntax.{w32, w64}
 use mir.Val.{SFits, toZ}
-use Rattle.lists.specs.Wide.{fits-wide}
+use Rattle.lists.specs.Bits.{fits64}
 use Rattle.rules.specs.declared.Side.{Side}
 use Rattle.rules.specs.Tables.{sideGap}
 use Rattle.sides.proofs.Gaps as G
@@ -22,19 +22,19 @@ high-fits : (c : tie.After-struct-told) → SFits w32 (start c .args .o .high)
 high-fits c = record { sfits = c .struct-told .given .1 .0 .1 }
 
 cast-above : tie.Need-cast-above
-cast-above c = fits-wide (start c .args .o .low) (low-fits c)
+cast-above c = fits64 (start c .args .o .low) (low-fits c)
 
 cast-above-2 : tie.Need-cast-above-2
-cast-above-2 c = fits-wide (start c .args .high) (start c .fits .high)
+cast-above-2 c = fits64 (start c .args .high) (start c .fits .high)
 
 sub-above : tie.Need-sub-above
 sub-above c = G.sub-fits (start c .args .o .low) (start c .args .high) (low-fits c) (start c .fits .high)
 
 cast-below : tie.Need-cast-below
-cast-below c = fits-wide (start c .args .low) (start c .fits .low)
+cast-below c = fits64 (start c .args .low) (start c .fits .low)
 
 cast-below-2 : tie.Need-cast-below-2
-cast-below-2 c = let s = c .before .before in fits-wide (start s .args .o .high) (high-fits s)
+cast-below-2 c = let s = c .before .before in fits64 (start s .args .o .high) (high-fits s)
 
 sub-below : tie.Need-sub-below
 sub-below c =

@@ -5,7 +5,7 @@ use native.Mathlib.Omega.{arith}
 use borrow.Author.Tests.{lt-ltb}
 use Rattle.rules.specs.Session.{lentTable}
 use Rattle.rules.specs.Take.{firstHeld, givesPairBy}
-use Rattle.rules.proofs.Places.{places-long}
+use Rattle.rules.proofs.Places.{pairs-long}
 use Rattle.ceiling.specs.Bare.{secured-bare}
 use Rattle.securing.specs.Last.{held-then-read}
 use borrow.Author.Needs.{needs}
@@ -26,7 +26,7 @@ some c = c .before .before .before
 is-secured-requires : tie.Need-is-secured-requires
 is-secured-requires c κs =
     let s = some c .before in
-    let long = places-long (s .args .t3) _ (s .good .1 .1 .0) in
+    let long = pairs-long (s .args .t3) _ (s .good .1 .1 .0) in
     let a = s .args in
     held-then-read (lentTable (a .t3) (a .f .now)) (lentTable (a .t3) (a .t .now)) (a .t3) (s .pre)
     (omega (arith, long))

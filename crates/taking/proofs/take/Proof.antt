@@ -12,7 +12,7 @@ use Rattle.rules.specs.Take.{firstHeld, givesPairBy}
 use Rattle.rules.specs.Query.{wasGiven}
 use Rattle.rules.specs.Calls.{recordFits, step, takeCall}
 use Rattle.lists.specs.Bools.{and-left}
-use Rattle.rules.proofs.Places.{places-long}
+use Rattle.rules.proofs.Places.{pairs-long}
 use Rattle.pair_checks.proofs.Looking.{Looking, look-starts, look-on, look-stops, look-ends}
 use Rattle.checks.specs.Codes.{depths-fit}
 use borrow.Author.Needs.{needs}
@@ -53,7 +53,7 @@ loop-holds c =
     let s = start (c .before) in
     let n = c .before .numbers-fit in
     let i = c .first-place in
-    let long = places-long (s .args .s) _ (s .good .1 .1 .0) in
+    let long = pairs-long (s .args .s) _ (s .good .1 .1 .0) in
     look-starts (s .args .s) (n .result) (i .result) long (n .ensures) (i .ensures)
 
 mul-p : tie.Need-mul-p Inv-loop μ-loop Inv-loop2 μ-loop2

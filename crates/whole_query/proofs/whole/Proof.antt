@@ -8,7 +8,7 @@ use borrow.Author.Needs.{needs, sfits-of}
 use Rattle.rules.specs.declared.Query.{Query}
 use Rattle.rules.specs.Tables.{Table}
 use Rattle.rules.specs.Query.{list}
-use Rattle.listing.specs.ListShown.{counted, count-few}
+use Rattle.listing.specs.ListShown.{count-is, count-few}
 use Rattle.whole_query.specs.Asked.{askedField, askedTrim, lentQueryAnswer, lentQueryNumbers}
 use Rattle.query_numbers.specs.Answers.{queryRoom, answered}
 use Rattle.whole_query.proofs.Ends.{Asking, outcome-is, code-refusal, has-room, lents, outcome-lent, refused}
@@ -106,7 +106,7 @@ returns-2 c =
     let end =
     found (asked (if .before)) (λ (q : Query). length (list q f t))
     (λ (q : Query). answered q f t (s .args .out .now)) (s .args .out .now)
-    (if .if1 .left) (run .count) (put .last .0) (counted f t run done) written in
+    (if .if1 .left) (run .count) (put .last .0) (count-is f t run done) written in
     (toZ-pos w32 {n = run .count} (omega (arith, count-few f t run done)) ∙ end .0, end .1)
 
 pub whole-spec : {M : Type 1} → statement M
