@@ -146,10 +146,9 @@ fn refused_at<'a>(
     tally: &mut [u64; 48],
 ) {
     let s = record::numbers(now);
+    let sure = due::sure(c, m, s[record::FIELD_DEPTH], s[record::TRIM_DEPTH]);
     refused::calls_at(f, t, &s, seed, tally);
-    if !due::sure(c, m, s[record::FIELD_DEPTH], s[record::TRIM_DEPTH]) {
-        refused::read_at(f, t, &s, seed, tally);
-    }
+    refused::reads_at(f, t, &s, sure, seed, tally);
 }
 
 // A session from its opening to its end, and a read and a take after it.
@@ -164,7 +163,6 @@ pub fn whole<'a>(
 ) -> Played {
     let order = dice::below(seed, 9, 4);
     let mut now = opened(c, m, f, t, a);
-    refused::openings(f, t, a, seed, tally);
     for step in 1000u64..1600 {
         let said = now.seen.said;
         if said != due::FINISHED {

@@ -7,7 +7,6 @@ use crate::due::when;
 use crate::judge;
 use crate::plain;
 use crate::plain::Asked;
-use crate::plain::Table;
 use crate::record;
 use crate::record::Record;
 use crate::tally;
@@ -77,6 +76,9 @@ const NUMBERS: [u32; 26] = [
 // By what an opening with a harmed query is refused.
 const OPENING: [u32; 11] = [1, 1, 2, 2, 3, 12, 12, 12, 12, 16, 16];
 
+// A table's numbers, and room for a row more.
+type Lent = [i32; 65];
+
 // A record that 5 refuses, of one that it does not: with one of these numbers; with a mark of the table last read where
 // none was, or none where one was; a depth within a block; pairs out of order; rows read though nothing can meet the
 // query.
@@ -111,7 +113,7 @@ pub fn kept(step: Step, s: &Record, number: u32) -> u32 {
 
 // Counts a call that must be refused by this number, and whether it had a fault.
 fn counted(number: u32, fault: u32, tally: &mut [u64; 48]) {
-    tally::count(tally, number);
+    tally::count_if(tally, number < due::OPENED, number);
     tally::count_if(tally, fault != 0, tally::MISMATCHES);
 }
 
@@ -146,18 +148,20 @@ fn with_table<'a>(
 }
 
 fn size(t: &[i32]) -> u32 {
-    (t.len() % 61) as u32
+    (t.len() % 66) as u32
 }
 
-// The numbers of a table, with another at a place.
-fn with_number(t: &[i32], at: u32, x: i32) -> Table {
-    let mut r = [0i32; 60];
-    for i in 0usize..60 {
+// The numbers of a table, with another at a place that it has.
+fn with_number(t: &[i32], at: u32, x: i32) -> Lent {
+    let mut r = [0i32; 65];
+    for i in 0usize..65 {
         if i < t.len() {
             r[i] = t[i];
         }
     }
-    r[(at % 60) as usize] = x;
+    if at < 65 {
+        r[at as usize] = x;
+    }
     r
 }
 
@@ -176,7 +180,7 @@ const BAD: [i32; 10] = [
 ];
 
 // A table with such a number in the row after so many.
-fn bad_after(card: u32, t: &[i32], rows: u32, seed: u64) -> Table {
+fn bad_after(card: u32, t: &[i32], rows: u32, seed: u64) -> Lent {
     let column = dice::below(seed, 24, calls::numbers(card, 1)) % 5;
     let x = 2 * column + dice::below(seed, 25, 2) % 2;
     with_number(
@@ -187,7 +191,7 @@ fn bad_after(card: u32, t: &[i32], rows: u32, seed: u64) -> Table {
 }
 
 // A table whose row after so many has the highest score.
-fn best_after(card: u32, t: &[i32], rows: u32) -> Table {
+fn best_after(card: u32, t: &[i32], rows: u32) -> Lent {
     with_number(t, wrapping_add_u32(calls::numbers(card, rows), 1), 9999)
 }
 
@@ -199,14 +203,19 @@ fn is_low(t: &[i32]) -> bool {
     true
 }
 
-// One number, or one row, more or fewer than n.
-fn other_size(n: u32, cut: u32, more: bool) -> u32 {
-    let next = wrapping_add_u32(n, cut);
-    when(
-        (n < cut) | (more & (next <= 60)),
-        next,
-        wrapping_sub_u32(n, cut),
-    )
+// Another size than n: one or a row more or fewer, or that of the same rows on the other card.
+fn other_size(card: u32, n: u32, way: u32) -> u32 {
+    let row = calls::numbers(card, 1);
+    if n < row {
+        return row;
+    }
+    match way {
+        0 => wrapping_sub_u32(n, 1),
+        1 => wrapping_add_u32(n, 1),
+        2 => wrapping_sub_u32(n, row),
+        3 => wrapping_add_u32(n, row),
+        _ => calls::numbers(wrapping_sub_u32(5, card), when(card == 3, n / 5, n / 4)),
+    }
 }
 
 fn depth(of_field: bool, s: &Record) -> u32 {
@@ -226,12 +235,7 @@ fn of_range<'a>(
 ) {
     let own = if of_field { f } else { t };
     let n = size(own);
-    let cut = when(
-        dice::one_in(seed, 27, 2),
-        1,
-        calls::numbers(s[record::CARD], 1),
-    );
-    let m = other_size(n, cut, dice::one_in(seed, 28, 2));
+    let m = other_size(s[record::CARD], n, dice::below(seed, 27, 5));
     let bad = bad_after(s[record::CARD], own, row, seed);
     let h = harmed(s, dice::below(seed, 26, 30));
     with_table(of_field, calls::first(&bad, n), f, t, &h, 5, tally);
@@ -257,32 +261,68 @@ fn of_order<'a>(
     }
 }
 
-// A read that must read on, over tables whose next rows are out of range.
-pub fn read_at(f: &[i32], t: &[i32], s: &Record, seed: u64, tally: &mut [u64; 48]) {
-    let x = bad_after(s[record::CARD], f, s[record::FIELD_DEPTH], seed);
-    let y = bad_after(s[record::CARD], t, s[record::TRIM_DEPTH], seed);
-    let session = record::session(s);
-    let read = calls::call(
-        calls::first(&x, size(f)),
-        calls::first(&y, size(t)),
-        session,
-        true,
-    );
-    counted(6, kept(read, s, 6), tally);
+// Reads and takes with the record on the other card: the slices do not fit it, unless both are empty; nor does a record
+// with rows read, where nothing can meet its query there.
+fn of_card<'a>(f: &'a [i32], t: &'a [i32], s: &Record, tally: &mut [u64; 48]) {
+    if (size(f) == 0) & (size(t) == 0) {
+        return;
+    }
+    let mut h = *s;
+    h[record::CARD] = wrapping_sub_u32(5, s[record::CARD]);
+    let none = (s[record::LAST] != 0) & plain::none_qualify(record::asked_in(&h));
+    called(f, t, &h, when(none, 5, 4), tally);
 }
 
-// Reads and takes with this record that must be refused.
+// Calls with this record that must be refused, and an opening of its query.
 pub fn calls_at<'a>(f: &'a [i32], t: &'a [i32], s: &Record, seed: u64, tally: &mut [u64; 48]) {
     let of_field = dice::one_in(seed, 22, 2);
     let row = dice::below(seed, 23, depth(of_field, s));
     of_range(of_field, f, t, s, row, seed, tally);
     of_order(of_field, f, t, s, row, tally);
+    of_card(f, t, s, tally);
+    of_opening(s, seed, tally);
 }
 
-// An opening that must be refused by this number and give the record of zeros.
-fn opened(
-    f: &[i32],
-    t: &[i32],
+// A read that must be answered by this number and change nothing.
+fn read(f: &[i32], t: &[i32], s: &Record, number: u32, tally: &mut [u64; 48]) {
+    let step = calls::call(f, t, record::session(s), true);
+    counted(number, kept(step, s, number), tally);
+}
+
+// Reads over tables whose next rows are out of range, or out of order: refused, but settled where nothing unread can
+// matter.
+pub fn reads_at(f: &[i32], t: &[i32], s: &Record, sure: bool, seed: u64, tally: &mut [u64; 48]) {
+    let p = s[record::FIELD_DEPTH];
+    let q = s[record::TRIM_DEPTH];
+    let bad_field = bad_after(s[record::CARD], f, p, seed);
+    let bad_trim = bad_after(s[record::CARD], t, q, seed);
+    let best_field = best_after(s[record::CARD], f, p);
+    let best_trim = best_after(s[record::CARD], t, q);
+    let m = size(f);
+    let n = size(t);
+    let number = when(sure, due::SETTLED, 6);
+    read(
+        calls::first(&bad_field, m),
+        calls::first(&bad_trim, n),
+        s,
+        number,
+        tally,
+    );
+    if !sure & ((0 < p) & (0 < q)) & (is_low(f) & is_low(t)) {
+        read(
+            calls::first(&best_field, m),
+            calls::first(&best_trim, n),
+            s,
+            7,
+            tally,
+        );
+    }
+}
+
+// An opening that must be refused by this number and give the record of zeros, with which nothing is read or taken.
+fn opened<'a>(
+    f: &'a [i32],
+    t: &'a [i32],
     a: Asked,
     field: u32,
     trim: u32,
@@ -292,59 +332,79 @@ fn opened(
     let zeros = [0u32; 209];
     let step = calls::open_as(f, t, a, field, trim);
     counted(number, kept(step, &zeros, number), tally);
+    called(f, t, &zeros, 5, tally);
 }
 
-// For its query, though the size is wrong too.
-fn of_query(f: &[i32], t: &[i32], a: Asked, seed: u64, tally: &mut [u64; 48]) {
-    let which = dice::below(seed, 20, 11) % 11;
-    let r = record::opened(a, 0, 0);
-    let h = harmed(&r, which);
-    let number = OPENING[which as usize];
-    opened(
-        f,
-        t,
-        record::asked_in(&h),
-        calls::kind(a.card, 1),
-        calls::kind(a.card, 2),
-        number,
-        tally,
-    );
+// How an opening goes wrong with a table, if it does: of no such kind, or on the other card; of a part of a row, or of
+// whole rows on the other card only.
+const NO_KIND: u32 = 0;
+
+const OTHER_CARD: u32 = 1;
+
+fn card_of(card: u32, way: u32) -> u32 {
+    when(way == OTHER_CARD, wrapping_sub_u32(5, card), card)
 }
 
-// Openings that must be refused: for the query or for kinds that no such table has, though the size is wrong too; for
-// the size; for two cards, though one table has no row.
-pub fn openings(f: &[i32], t: &[i32], a: Asked, seed: u64, tally: &mut [u64; 48]) {
-    let field = calls::kind(a.card, 1);
-    let trim = calls::kind(a.card, 2);
-    let zeros = [0i32; 60];
-    let x = calls::first(&zeros, other_size(size(f), 1, dice::one_in(seed, 21, 2)));
-    of_query(x, t, a, seed, tally);
-    opened(
-        x,
-        t,
-        a,
-        dice::pick(seed, 22, [0, 0, 2, 2, 4, 4, 5, 5]),
-        trim,
-        10,
-        tally,
-    );
-    opened(
-        x,
-        t,
-        a,
-        field,
-        dice::pick(seed, 23, [0, 0, 1, 1, 3, 3, 5, 5]),
-        10,
-        tally,
-    );
-    opened(x, t, a, field, trim, 4, tally);
-    opened(
-        calls::first(&zeros, 0),
-        t,
-        a,
-        calls::kind(wrapping_sub_u32(5, a.card), 1),
-        trim,
-        15,
-        tally,
-    );
+fn kind_of(card: u32, way: u32, table: u32, other: u32) -> u32 {
+    when(
+        way == NO_KIND,
+        other,
+        calls::kind(card_of(card, way), table),
+    )
+}
+
+fn size_of(card: u32, rows: u32, way: u32) -> u32 {
+    let n = calls::numbers(card, rows);
+    match way {
+        0 => wrapping_add_u32(n, 1),
+        1 => when(card == 3, 48, 50),
+        _ => n,
+    }
+}
+
+// By what it is refused: of several faults by the first.
+fn number_of(query: u32, no_kind: bool, no_size: bool, two_cards: bool) -> u32 {
+    if query < 11 {
+        return OPENING[query as usize];
+    }
+    when(no_kind, 10, when(no_size, 4, when(two_cards, 15, 0)))
+}
+
+// An opening of a record's query and of as many rows, with any of these faults. A harm from the twelfth on is none of
+// the query's.
+fn of_opening(s: &Record, seed: u64, tally: &mut [u64; 48]) {
+    let card = s[record::CARD];
+    let zeros = [0i32; 65];
+    let query = dice::below(seed, 30, 22);
+    let field = dice::below(seed, 31, 5);
+    let trim = dice::below(seed, 32, 5);
+    let fields = dice::below(seed, 33, 5);
+    let trims = dice::below(seed, 34, 5);
+    let m = size_of(card_of(card, field), s[record::FIELDS], fields);
+    let n = size_of(card_of(card, trim), s[record::TRIMS], trims);
+    let no_kind = (field == NO_KIND) | (trim == NO_KIND);
+    let two_cards = (field == OTHER_CARD) != (trim == OTHER_CARD);
+    let number = number_of(query, no_kind, (fields < 2) | (trims < 2), two_cards);
+    let h = harmed(s, query);
+    if number != 0 {
+        opened(
+            calls::first(&zeros, m),
+            calls::first(&zeros, n),
+            record::asked_in(&h),
+            kind_of(
+                card,
+                field,
+                1,
+                dice::pick(seed, 35, [0, 0, 2, 2, 4, 4, 5, 5]),
+            ),
+            kind_of(
+                card,
+                trim,
+                2,
+                dice::pick(seed, 36, [0, 0, 1, 1, 3, 3, 5, 5]),
+            ),
+            number,
+            tally,
+        );
+    }
 }

@@ -16,7 +16,7 @@ use Rattle.rules.specs.Tables.{Table}
 use Rattle.rules.specs.Session.{lentTable, placeCount, places, twoTables, opened, zeros}
 use Rattle.rules.specs.Calls.{step, openCode, openCall, readCall}
 use Rattle.rules.specs.Query.{wasRead, wasGiven, takeUntilFinished, settledSession, list}
-use Rattle.outcomes.specs.declared.ReadOut.{ReadOut}
+use Rattle.outcomes.specs.declared.ReadEnd.{ReadEnd}
 use Rattle.outcomes.specs.declared.TakenOut.{TakenOut}
 use Rattle.outcomes.specs.declared.Outcome.{Outcome}
 use Rattle.outcomes.specs.Until.{readOn, read-ends, take-ends, settled-on, list-taken}
@@ -31,7 +31,7 @@ refusedBy f t s = refusal (said (readCall f t s .answer))
 abbrev pub readCode : Query → Table → Table → ℕ
 readCode q f t = refusedBy f t (settledSession q f t)
 
-unfoldable pub readEnd : Table → Table → Session → ReadOut
+unfoldable pub readEnd : Table → Table → Session → ReadEnd
 readEnd f t s = record { code = refusedBy f t (readOn f t s); session = readOn f t s }
 
 unfoldable pub takenOut : Table → Table → Session → TakenOut

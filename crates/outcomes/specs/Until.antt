@@ -20,7 +20,8 @@ use Rattle.rules.specs.Query.{takeUntilFinished}
 use Rattle.rules.specs.Query.{settledSession, list}
 use Rattle.session_laws.specs.Calls.{was-given-out}
 use Rattle.session_laws.specs.Read.{unreadRows}
-use Rattle.session_laws.specs.Until.{fewer-unread, reads-end, stillWanted, fewer-wanted, takes-end, list-bound}
+use Rattle.session_laws.specs.Until.{fewer-unread, reads-end, reads-ended, stillWanted, fewer-wanted, takes-end}
+use Rattle.session_laws.specs.Until.{list-bound}
 use Rattle.rules.specs.Tables.{Table}
 
 -- a choice by a test that is known
@@ -49,10 +50,8 @@ module _ (f t : Table) (s : Session) where
       ∙ sym (chosen (readUntilSettled (unreadRows s) f t r) s (wasRead (readCall f t s .answer)) h)
 
   pub read-ends : wasRead (readCall f t s .answer) ≡ false → s ≡ readOn f t s
-  unfolding readOn readUntilSettledBy
-  read-ends h =
-      let r = readCall f t s in
-      sym (other (readUntilSettled (unreadRows s) f t (r .session)) s (wasRead (r .answer)) h)
+  unfolding readOn
+  read-ends h = sym (reads-ended f t (suc (unreadRows s)) s h)
 
 -- from the opening on
 pub settled-on : (q : Query) (f t : Table) → readOn f t (openCall q f t .session) ≡ settledSession q f t

@@ -29,7 +29,7 @@ pub fn asked_code(there: bool, opening: u32, reading: u32, room: bool) -> u32
 }
 
 // A record of which no read reads a block more, and what the read that did not is refused by; 0 where it is settled.
-pub struct ReadOut {
+pub struct ReadEnd {
     pub code: u32,
     pub session: Session,
 }

@@ -1,25 +1,22 @@
 -- The record of a whole query is the last of a sequence of reads, so the row limit holds of its depths. Assumes
 -- nothing.
-use mathlib.Core.Path.{_≡_, refl, sym, ap, ap₂, subst, _∙_}
-use mathlib.Core.Bool.{Bool, true, false, cond}
+use mathlib.Core.Path.{_≡_, refl, ap, ap₂, subst, _∙_}
+use mathlib.Core.Bool.{Bool, true, false}
 use mathlib.Core.List.{List}
 use Prim.Native.Nat.{ℕ, zero, suc, _+_, _-_, max}
-use lib.Dec.{eqb}
 use lib.ListN.{replicate}
 use Rattle.rules.specs.declared.FieldRows.{FieldRows}
 use Rattle.rules.specs.declared.TrimRows.{TrimRows}
 use Rattle.rules.specs.declared.Query.{Query}
 use Rattle.rules.specs.declared.Session.{Session}
 use Rattle.rules.specs.declared.Step.{Step}
-use Rattle.rules.specs.declared.Answer.the-variants.{Refused, Read, Settled}
 use Rattle.rules.specs.Tables.{Table, table, legal}
-use Rattle.rules.specs.Session.{opened, settled}
-use Rattle.rules.specs.Read.{readBlock}
-use Rattle.rules.specs.Calls.{step, queryCode, callCode, newBlockCode, openCall, readCallBy, readCall}
+use Rattle.rules.specs.Session.{opened}
+use Rattle.rules.specs.Calls.{queryCode, openCall, readCall}
 use Rattle.rules.specs.Query.{wasRead, readUntilSettledBy, readUntilSettled, settledSession}
 use Rattle.rules.specs.Sure.{Sure}
-use Rattle.lists.specs.Bools.{of-true}
-use Rattle.session_laws.specs.Calls.{OneCard, legal-opened}
+use Rattle.session_laws.specs.Calls.{OneCard, legal-opened, read-keeps}
+use Rattle.session_laws.specs.Until.{reads-ended}
 use Rattle.session_laws.specs.Cards.{read-tables}
 use Rattle.demand.specs.Demand.{reading, Line, promised, lastRecord}
 use Rattle.demand.specs.Sequences.{DepthsUpTo}
@@ -28,48 +25,17 @@ use Rattle.demand.specs.Ends.{run-sequence}
 use Rattle.demand.specs.Proved.{demand3}
 
 module _ (f t : Table) where
-  -- a read that reads no block gives the same record back
-  read-same : (s : Session) → wasRead (readCall f t s .answer) ≡ false → readCall f t s .session ≡ s
-  unfolding readCallBy
-  read-same s h = go (eqb (callCode f t s) 0) (settled f t s) (eqb (newBlockCode f t s) 0) h
-    where
-      -- what a read gives, by its three tests
-      given : Bool → Bool → Bool → Step
-      given a b c =
-          cond a
-          (cond b (step Settled s) (cond c (step Read (readBlock f t s)) (step (Refused (newBlockCode f t s)) s)))
-          (step (Refused (callCode f t s)) s)
-
-      go : (a b c : Bool) → wasRead (given a b c .answer) ≡ false → given a b c .session ≡ s
-      go true true c e = refl
-      go true false true e = absurd (of-true {b = false} (sym e))
-      go true false false e = refl
-      go false b c e = refl
-
-  -- from then on nothing is read
-  ended : (n : ℕ) (s : Session) → wasRead (readCall f t s .answer) ≡ false → readUntilSettled n f t s ≡ s
-  unfolding readUntilSettledBy
-  ended zero s h = refl
-  ended (suc n) s h = go (wasRead (readCall f t s .answer)) h
-    where
-      next : Session
-      next = readUntilSettled n f t (readCall f t s .session)
-
-      go : (b : Bool) → b ≡ false → _≡_ {A = Session} (elim b [ true ↦ next | false ↦ s ]) s
-      go true e = absurd (of-true {b = false} (sym e))
-      go false e = refl
-
   -- so many reads, one after the other
   abbrev readsFrom : ℕ → Session → List Line
   readsFrom n s = runOf f t s (replicate n reading)
 
   -- a read keeps the tables
-  read-keeps : (s : Session) → readCall f t s .session .rows ≡ s .rows
-  read-keeps s = go (wasRead (readCall f t s .answer)) refl
+  tables-kept : (s : Session) → readCall f t s .session .rows ≡ s .rows
+  tables-kept s = go (wasRead (readCall f t s .answer)) refl
     where
       go : (b : Bool) → wasRead (readCall f t s .answer) ≡ b → readCall f t s .session .rows ≡ s .rows
       go true e = read-tables f t s e
-      go false e = ap (λ (r : Session). r .rows) (read-same s e)
+      go false e = ap (λ (r : Session). r .rows) (read-keeps f t s e)
 
   last-read : (n : ℕ) (s : Session) → f .coordinates ≡ t .coordinates → s .rows .card ≡ f .coordinates
       → lastRecord s (readsFrom n s) ≡ readUntilSettled n f t s
@@ -78,7 +44,7 @@ module _ (f t : Table) where
   last-read (suc n) s cards card =
       ap (λ (x : Step). lastRecord (x .session) (readsFrom n (x .session))) own
       ∙ go (wasRead (readCall f t s .answer)) refl
-      (last-read n (readCall f t s .session) cards (ap (λ x. x .card) (read-keeps s) ∙ card))
+      (last-read n (readCall f t s .session) cards (ap (λ x. x .card) (tables-kept s) ∙ card))
     where
       r : Session
       r = readCall f t s .session
@@ -93,7 +59,7 @@ module _ (f t : Table) where
           → lastRecord r (readsFrom n r) ≡ readUntilSettled n f t r
           → _≡_ {A = Session} (lastRecord r (readsFrom n r)) (elim b [ true ↦ readUntilSettled n f t r | false ↦ s ])
       go true e ih = ih
-      go false e ih = ih ∙ ap (readUntilSettled n f t) (read-same s e) ∙ ended n s e
+      go false e ih = ih ∙ ap (readUntilSettled n f t) (read-keeps f t s e) ∙ reads-ended f t n s e
 
 -- "no more than max(p, q) + block - 1 rows of either table have been read" for every sure reading of p and q rows
 pub settled-within : (q : Query) (f t : Table) → OneCard f t → legal f ≡ true → legal t ≡ true → queryCode q ≡ 0

@@ -1,12 +1,11 @@
 -- A read's answer, of the code that its checks gave, and the record that goes with it. Assumes nothing.
-use mathlib.Core.Path.{_≡_, refl, sym, ap, _∙_}
+use mathlib.Core.Path.{_≡_, refl, ap, _∙_}
 use mathlib.Core.Bool.{Bool, true, false, cond}
 use Prim.Native.Nat.{ℕ}
 use lib.Dec.{eqb}
 use borrow.Author.Tests.{eqb-true}
 use Rattle.lists.specs.Bools.{clash}
 use Rattle.rules.specs.declared.Session.{Session}
-use Rattle.rules.specs.declared.Step.{Step}
 use Rattle.rules.specs.declared.Answer.{Answer}
 use Rattle.rules.specs.declared.Answer.the-variants.{Refused, Read, Settled}
 use Rattle.rules.specs.Session.{settled}
@@ -43,12 +42,6 @@ module _ (f t : Table) (s : Session) where
   pub read-ends : (code : ℕ) (a : Answer) → code ≡ callCode f t s → a ≡ readAnswer code f t s
       → step a (afterRead a) ≡ readCall f t s
   read-ends code a e h = ap (λ (x : Answer). step x (afterRead x)) (h ∙ ap (λ (n : ℕ). readAnswer n f t s) e) ∙ read-is
-
-  -- a read that reads no block leaves the record as it was
-  pub read-keeps : wasRead (readCall f t s .answer) ≡ false → readCall f t s .session ≡ s
-  read-keeps h =
-      sym (ap (λ (x : Step). x .session) read-is)
-      ∙ ap (λ (b : Bool). cond b (readBlock f t s) s) (ap (λ (x : Step). wasRead (x .answer)) read-is ∙ h)
 
 -- a block is read: the checks passed, those of the new block too, and the session was not settled
 module _ (code : ℕ) (f t : Table) (s : Session) where

@@ -1,6 +1,6 @@
 // One whole query over two lent tables, run once: opened, read until settled, taken until finished.
 use outcomes::Outcome;
-use outcomes::ReadOut;
+use outcomes::ReadEnd;
 use outcomes::TakenOut;
 use outcomes::refusal;
 use rules::Answer;
@@ -13,7 +13,7 @@ ghost use Rattle.rules.specs.Session.{lentTable};
 ghost use Rattle.outcomes.specs.Outcomes.{readEnd, takenOut, queryOutcome};
 
 // Reads until settled.
-fn read_on(f: &[i32], t: &[i32], s: Session) -> ReadOut
+fn read_on(f: &[i32], t: &[i32], s: Session) -> ReadEnd
     ensures { λ r. ⌜ r ≡ readEnd (lentTable s (now (f .entry))) (lentTable s (now (t .entry))) s ⌝ }
 {
     let mut at = s;
@@ -21,7 +21,7 @@ fn read_on(f: &[i32], t: &[i32], s: Session) -> ReadOut
         let r = reading::read(f, t, at);
         let answer = r.answer;
         let Answer::Read = answer else {
-            return ReadOut {
+            return ReadEnd {
                 code: refusal(answer),
                 session: at,
             };

@@ -11,6 +11,7 @@ use borrow.Author.Tests.{eqb-true, eq-eqb}
 use Rattle.lists.specs.Bools.{clash, and-out}
 use Rattle.rules.specs.declared.Query.{Query}
 use Rattle.rules.specs.declared.Session.{Session}
+use Rattle.rules.specs.declared.Step.{Step}
 use Rattle.rules.specs.declared.Answer.{Answer}
 use Rattle.rules.specs.declared.Answer.the-variants.{Refused, Opened, Read, Settled, Given, NotYet, Finished}
 use Rattle.rules.specs.Tables.{Table, rowCount, sizeFits, legal}
@@ -310,6 +311,23 @@ module _ (f t : Table) (s : Session) where
       go true false false i j l m = clash m refl
       go false b c i j l m = clash m refl
 
+  -- a read that reads no block gives back its record
+  pub read-keeps : wasRead (readCall f t s .answer) ≡ false → readCall f t s .session ≡ s
+  unfolding readCallBy
+  read-keeps = go (eqb (callCode f t s) 0) (settled f t s) (eqb (newBlockCode f t s) 0)
+    where
+      called : Bool → Bool → Bool → Step
+      called a b c =
+          cond a
+          (cond b (step Settled s) (cond c (step Read (readBlock f t s)) (step (Refused (newBlockCode f t s)) s)))
+          (step (Refused (callCode f t s)) s)
+
+      go : (a b c : Bool) → wasRead (called a b c .answer) ≡ false → called a b c .session ≡ s
+      go true true c h = refl
+      go true false true h = clash refl h
+      go true false false h = refl
+      go false b c h = refl
+
   pub was-given-out : wasGiven (takeCall f t s .answer) ≡ true → Takes f t s
   unfolding takeCallBy
   was-given-out h = go (eqb (callCode f t s) 0) (givesPair f t s) (finished f t s) refl refl h
@@ -329,3 +347,20 @@ module _ (f t : Table) (s : Session) where
       go true false true i j m = clash m refl
       go true false false i j m = clash m refl
       go false b c i j m = clash m refl
+
+  -- a take that answers no pair gives back its record
+  pub take-keeps : wasGiven (takeCall f t s .answer) ≡ false → takeCall f t s .session ≡ s
+  unfolding takeCallBy
+  take-keeps = go (eqb (callCode f t s) 0) (givesPair f t s) (finished f t s)
+    where
+      called : Bool → Bool → Bool → Step
+      called a b c =
+          cond a
+          (cond b (step (Given (firstHeld s)) (movedOut s)) (cond c (step Finished s) (step NotYet s)))
+          (step (Refused (callCode f t s)) s)
+
+      go : (a b c : Bool) → wasGiven (called a b c .answer) ≡ false → called a b c .session ≡ s
+      go true true c h = clash refl h
+      go true false true h = refl
+      go true false false h = refl
+      go false b c h = refl

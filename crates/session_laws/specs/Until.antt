@@ -7,6 +7,7 @@ use Prim.Native.Nat.{ℕ, zero, suc, _+_, _-_, _≤_, _<_}
 use native.Mathlib.Nat.{not-suc-le-zero}
 use native.Mathlib.Omega.{arith}
 use lib.Dec.{eqb}
+use Rattle.lists.specs.Bools.{clash}
 use Rattle.rules.specs.declared.Session.{Session}
 use Rattle.rules.specs.declared.Step.{Step}
 use Rattle.rules.specs.declared.Answer.the-variants.{Refused, Opened}
@@ -57,6 +58,19 @@ module _ (f t : Table) where
           (elim b [ true ↦ readUntilSettled n f t r | false ↦ s ])
       go true e ih = let l = fewer-unread s e in ih (omega arith) (omega arith)
       go false e ih = refl
+
+  -- once no block is read, none is
+  pub reads-ended : (n : ℕ) (s : Session) → wasRead (readCall f t s .answer) ≡ false → readUntilSettled n f t s ≡ s
+  unfolding readUntilSettledBy
+  reads-ended zero s h = refl
+  reads-ended (suc n) s h = go (wasRead (readCall f t s .answer)) h
+    where
+      next : Session
+      next = readUntilSettled n f t (readCall f t s .session)
+
+      go : (b : Bool) → b ≡ false → _≡_ {A = Session} (elim b [ true ↦ next | false ↦ s ]) s
+      go true e = clash refl e
+      go false e = refl
 
   reads-keep-query : (n : ℕ) (s : Session) → readUntilSettled n f t s .query ≡ s .query
   unfolding readUntilSettledBy

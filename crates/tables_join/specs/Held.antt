@@ -19,7 +19,7 @@ use Rattle.rules.specs.declared.Session.{Session}
 use Rattle.rules.specs.Tables.{Table, rowCount, terms, ahead, Block, qualifying, legal}
 use Rattle.rules.specs.Rectangles.{far-qualifying}
 use Rattle.rules.specs.Meaning.{firstScores, skipped-is}
-use Rattle.rules.specs.Session.{heldPairs, noPair, places, firstScore}
+use Rattle.rules.specs.Session.{heldPairs, noPair, places}
 use Rattle.rules.specs.Read.{lowest, skipped, bestHeld, holding, meetBy, meet, rowsBetween, blockCount}
 use Rattle.rules.specs.Read.{meetBlocksBy}
 use Rattle.rules.specs.Read.{meetBlocks}
@@ -222,10 +222,7 @@ module _ (field : Bool) (f t : Table) (g : legal f ≡ true) (h : legal t ≡ tr
           → p .sum ≤ firstScores (after n .query) (cond field x y .rows) (cond field y x .rows)
       under p m =
           subst
-          (λ q.
-          p .sum
-          ≤ firstScore (terms q .field) (cond field x y .rows)
-          + firstScore (terms q .trim) (cond field y x .rows))
+          (λ q. p .sum ≤ firstScores q (cond field x y .rows) (cond field y x .rows))
           (sym (blocks-keep field s x (cond field t f) c n .query))
           (between-low field (s .query) f t a b (n * size) high g h p m)
 

@@ -14,10 +14,10 @@ use Rattle.join.specs.Held.{Rank}
 use Rattle.rules.specs.declared.Pair.{Pair}
 use Rattle.rules.specs.declared.Query.{Query}
 use Rattle.rules.specs.Tables.{Table, rowCount, row, terms, pairSum, legal, part, ahead, Block, pairAt}
+use Rattle.rules.specs.Meaning.{firstScores}
 use Rattle.rules.specs.Tables.{unsatisfiable, qualifying}
 use Rattle.rules.specs.Tolerances.{nothing-near}
 use Rattle.rules.specs.Widths.{has-rows, part-count, part-most}
-use Rattle.rules.specs.Session.{firstScore}
 use Rattle.rules.specs.Read.{rowsBetween}
 use Rattle.rules.specs.Ranking.{Before, before-ahead, ahead-trans, ahead-asym, ahead-tri}
 use Rattle.session_laws.specs.Tables.{row-part}
@@ -224,7 +224,7 @@ module _ (query : Query) (f t : Table) where
 
     -- no sum between is above the first scores of both parts
     low-sums : legal f ≡ true → legal t ≡ true → (p : Pair) → Between true query f t a b c d p
-        → p .sum ≤ firstScore (terms query .field) (x .rows) + firstScore (terms query .trim) (y .rows)
+        → p .sum ≤ firstScores query (x .rows) (y .rows)
     unfolding pairSum
     low-sums g h p m =
         let in-f : (a < p .field) × (p .field ≤ b) = m .own-part in
@@ -263,8 +263,7 @@ mem-between false query f t a b c d hb hd p =
 pub between-low : (field : Bool) (query : Query) (f t : Table) (a b c d : ℕ) → legal f ≡ true → legal t ≡ true
     → (p : Pair) → Between field query f t a b c d p
     → p .sum
-    ≤ firstScore (terms query .field) (fieldPart field f t a b c d .rows)
-    + firstScore (terms query .trim) (trimPart field f t a b c d .rows)
+    ≤ firstScores query (fieldPart field f t a b c d .rows) (trimPart field f t a b c d .rows)
 between-low true query f t a b c d g h p m = low-sums query f t a b c d g h p m
 between-low false query f t a b c d g h p m =
     low-sums query f t c d a b g h p (between-swap query f t a b c d p .1 m)

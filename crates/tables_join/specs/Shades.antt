@@ -12,8 +12,9 @@ use Rattle.rules.specs.declared.Pair.{Pair}
 use Rattle.rules.specs.declared.Query.{Query}
 use Rattle.rules.specs.declared.Session.{Session}
 use Rattle.rules.specs.Tables.{Table, Terms, terms, pairSum, ahead, Block, pairAt, qualifying}
+use Rattle.rules.specs.Meaning.{firstScores}
 use Rattle.rules.specs.Rectangles.{far-qualifying}
-use Rattle.rules.specs.Session.{heldPairs, firstScore}
+use Rattle.rules.specs.Session.{heldPairs}
 use Rattle.rules.specs.Read.{fieldNextBy, fieldNext, rowsBetween, blockCount, blockAt, lowest, skippedBy, bestHeld}
 use Rattle.rules.specs.Read.{holding, meetBy, meet, meetBlocksBy, meetBlocks, readTo, oldDepth, newDepth, readTableBy}
 use Rattle.rules.specs.Read.{readTable, readBlockBy, readBlock}
@@ -66,15 +67,13 @@ module _ (r u : Session) (x y : Block) (h : Fewer r u) (stored : length (heldPai
   abbrev scores : Session → Bool
   scores s =
       eqb (s .out + s .held) (s .query .k)
-      && ltb (firstScore (terms (s .query) .field) (x .rows) + firstScore (terms (s .query) .trim) (y .rows))
-      (lowest (heldPairs s))
+      && ltb (firstScores (s .query) (x .rows) (y .rows)) (lowest (heldPairs s))
 
   scores-same : scores r ≡ scores u
   scores-same =
       λ i.
       eqb (h .out i + h .held i) (h .query i .k)
-      && ltb (firstScore (terms (h .query i) .field) (x .rows) + firstScore (terms (h .query i) .trim) (y .rows))
-      (lowest (h .same i))
+      && ltb (firstScores (h .query i) (x .rows) (y .rows)) (lowest (h .same i))
 
   -- what each holds once the two are joined
   abbrev met : List Pair

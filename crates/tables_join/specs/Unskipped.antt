@@ -15,7 +15,8 @@ use Rattle.rules.specs.declared.Pair.{Pair}
 use Rattle.rules.specs.declared.Query.{Query}
 use Rattle.rules.specs.declared.Session.{Session}
 use Rattle.rules.specs.Tables.{Table, terms, ahead, Block, qualifying, rowCount, legal, firstRows}
-use Rattle.rules.specs.Session.{heldPairs, firstScore}
+use Rattle.rules.specs.Meaning.{firstScores}
+use Rattle.rules.specs.Session.{heldPairs}
 use Rattle.rules.specs.Read.{rowsBetween, blockCount, blockAt, oldDepth, newDepth, fieldNext, bestHeld, meet}
 use Rattle.rules.specs.Read.{meetBlocksBy, meetBlocks, readTo, readTableBy, readTable, readBlock}
 use Rattle.rules.specs.Calls.{pairFits, callCode, newBlockCode}
@@ -120,7 +121,7 @@ module _ (field : Bool) (f t : Table) (g : legal f ≡ true) (h : legal t ≡ tr
       inside p m = mem-between field query f t a b (n * B) (min (n * B + B) c) hb (omega arith) p .0 m
 
       low : (p : Pair) → List·Memᴰ p met
-          → p .sum ≤ firstScore (terms query .field) (x .rows) + firstScore (terms query .trim) (y .rows)
+          → p .sum ≤ firstScores query (x .rows) (y .rows)
       low p m = between-low field query f t a b (n * B) (min (n * B + B) c) g h p (inside p m)
 
       held : heldPairs (meet (after n) x y) ≡ take left (sort ahead (heldPairs (after n) ++ met))

@@ -1,12 +1,11 @@
 -- A take's answer, of the code that its checks gave, and the record that goes with it. Assumes nothing.
-use mathlib.Core.Path.{_≡_, refl, sym, ap, _∙_}
+use mathlib.Core.Path.{_≡_, refl, ap, _∙_}
 use mathlib.Core.Bool.{Bool, true, false, cond}
 use Prim.Native.Nat.{ℕ}
 use lib.Dec.{eqb}
 use borrow.Author.Tests.{eqb-true}
 use Rattle.lists.specs.Bools.{clash}
 use Rattle.rules.specs.declared.Session.{Session}
-use Rattle.rules.specs.declared.Step.{Step}
 use Rattle.rules.specs.declared.Answer.{Answer}
 use Rattle.rules.specs.declared.Answer.the-variants.{Refused, Given, NotYet, Finished}
 use Rattle.rules.specs.Take.{firstHeld, givesPair, movedOut, finished}
@@ -41,12 +40,6 @@ module _ (f t : Table) (s : Session) where
   pub take-ends : (code : ℕ) (a : Answer) → code ≡ callCode f t s → a ≡ takeAnswer code f t s
       → step a (afterTake a) ≡ takeCall f t s
   take-ends code a e h = ap (λ (x : Answer). step x (afterTake x)) (h ∙ ap (λ (n : ℕ). takeAnswer n f t s) e) ∙ take-is
-
-  -- a take that gives no pair leaves the record as it was
-  pub take-keeps : wasGiven (takeCall f t s .answer) ≡ false → takeCall f t s .session ≡ s
-  take-keeps h =
-      sym (ap (λ (x : Step). x .session) take-is)
-      ∙ ap (λ (b : Bool). cond b (movedOut s) s) (ap (λ (x : Step). wasGiven (x .answer)) take-is ∙ h)
 
 -- a pair is given: the checks passed, and the first held pair was secured
 module _ (code : ℕ) (f t : Table) (s : Session) where

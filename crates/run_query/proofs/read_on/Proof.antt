@@ -14,7 +14,7 @@ use Rattle.session_laws.specs.Read.{unreadRows}
 use Rattle.session_laws.specs.Until.{fewer-unread}
 use Rattle.session_laws.specs.Cards.{read-tables}
 use Rattle.checks.proofs.Answers.{not-read}
-use Rattle.outcomes.specs.declared.ReadOut.{ReadOut}
+use Rattle.outcomes.specs.declared.ReadEnd.{ReadEnd}
 use Rattle.outcomes.specs.Until.{readOn, read-more, read-ends}
 use Rattle.outcomes.specs.Outcomes.{refusedBy, readEnd}
 use Rattle.run_query.proofs.read_on.Statement.{statement}
@@ -72,7 +72,7 @@ returns c =
     let ended : at .loop .at ≡ readOn f t (at .before .args .s) = read-ends f t (at .loop .at) none ∙ at .loop .inv .0
     in
     let code = c .refusal .ensures ∙ ap (λ (a : Answer). refusal (said a)) answered in
-    let told : _≡_ {A = ReadOut} (record { code = c .refusal .result; session = at .loop .at })
+    let told : _≡_ {A = ReadEnd} (record { code = c .refusal .result; session = at .loop .at })
     (record { code = refusedBy f t (at .loop .at); session = at .loop .at }) =
     λ i. record { code = code i; session = at .loop .at } in
     told ∙ ap (λ (s : Session). record { code = refusedBy f t s; session = s }) ended

@@ -11,7 +11,7 @@ use Rattle.rules.specs.Numbers.{said, refusal}
 use Rattle.rules.specs.Session.{lentTable, places}
 use Rattle.rules.specs.Calls.{openCall}
 use Rattle.rules.specs.Query.{settledSession, list}
-use Rattle.outcomes.specs.declared.ReadOut.{ReadOut}
+use Rattle.outcomes.specs.declared.ReadEnd.{ReadEnd}
 use Rattle.outcomes.specs.declared.TakenOut.{TakenOut}
 use Rattle.outcomes.specs.Until.{settled-on, list-taken}
 use Rattle.outcomes.specs.Outcomes.{refusedBy, readEnd, takenOut, queryOutcome, opening-code, read-begun}
@@ -21,7 +21,7 @@ use Rattle.run_query.proofs.run.Tie as tie
 use Rattle.rules.specs.Tables.{Table, fieldTable, trimTable}
 
 module _ (q : Query) (f t : Table)
-    (s : Step) (es : s ≡ openCall q f t) (r : ReadOut)
+    (s : Step) (es : s ≡ openCall q f t) (r : ReadEnd)
     (er : r ≡ readEnd (lentTable (s .session) (f .numbers)) (lentTable (s .session) (t .numbers)) (s .session)) where
   read-is : r ≡ record { code = refusedBy f t (settledSession q f t); session = settledSession q f t }
   unfolding readEnd
@@ -41,7 +41,7 @@ module _ (q : Query) (f t : Table)
   taken-is x ex =
       ex
       ∙ ap
-      (λ (y : ReadOut). takenOut (lentTable (y .session) (f .numbers)) (lentTable (y .session) (t .numbers))
+      (λ (y : ReadEnd). takenOut (lentTable (y .session) (f .numbers)) (lentTable (y .session) (t .numbers))
       (y .session))
       read-is
       ∙ take-done q f t

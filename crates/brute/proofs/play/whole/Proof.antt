@@ -21,7 +21,6 @@ whole-spec =
     (search needs)
     (search needs)
     (search needs)
-    (search needs)
     (λ c. omega (arith, c .before .loop-test .taken))
     (λ c. omega (arith, c .before .loop-test .taken))
     (search needs)

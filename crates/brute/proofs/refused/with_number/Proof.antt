@@ -9,8 +9,8 @@ pub with-number-spec : {M : Type 1} → statement M
 with-number-spec =
     tie.close
     (tie.spec
-    (λ t at x r₀ i₀ r i. i ≤ 60)
-    (λ t at x r₀ i₀ r i. 60 - i)
+    (λ t at x r₀ i₀ r i. i ≤ 65)
+    (λ t at x r₀ i₀ r i. 65 - i)
     (search needs)
     (search needs)
     (search needs)
