@@ -29,14 +29,6 @@ module _ (f t : Table) where
   abbrev readsFrom : ℕ → Session → List Line
   readsFrom n s = runOf f t s (replicate n reading)
 
-  -- a read keeps the tables
-  tables-kept : (s : Session) → readCall f t s .session .rows ≡ s .rows
-  tables-kept s = go (wasRead (readCall f t s .answer)) refl
-    where
-      go : (b : Bool) → wasRead (readCall f t s .answer) ≡ b → readCall f t s .session .rows ≡ s .rows
-      go true e = read-tables f t s e
-      go false e = ap (λ (r : Session). r .rows) (read-keeps f t s e)
-
   last-read : (n : ℕ) (s : Session) → f .coordinates ≡ t .coordinates → s .rows .card ≡ f .coordinates
       → lastRecord s (readsFrom n s) ≡ readUntilSettled n f t s
   unfolding runOf readUntilSettledBy
@@ -44,7 +36,7 @@ module _ (f t : Table) where
   last-read (suc n) s cards card =
       ap (λ (x : Step). lastRecord (x .session) (readsFrom n (x .session))) own
       ∙ go (wasRead (readCall f t s .answer)) refl
-      (last-read n (readCall f t s .session) cards (ap (λ x. x .card) (tables-kept s) ∙ card))
+      (last-read n (readCall f t s .session) cards (ap (λ x. x .card) (read-tables f t s) ∙ card))
     where
       r : Session
       r = readCall f t s .session

@@ -25,7 +25,7 @@ use Rattle.rules.specs.Read.{scoreDrop, fieldNextBy, fieldNext, rowsBetween, bl
 use Rattle.rules.specs.Read.{readTo}
 use Rattle.rules.specs.Read.{oldDepth, newDepth, readTableBy, readTable}
 use Rattle.rules.specs.Take.{finished}
-use Rattle.session_laws.specs.Tables.{RowFits, legal-in}
+use Rattle.session_laws.specs.Tables.{range-is, order-first, order-next, RowFits, legal-in}
 
 -- two tables with the same first n rows
 abbrev pub SameRows : ℕ → Table → Table → Type 0
@@ -56,13 +56,18 @@ module _ (n : ℕ) (t u : Table) (same : SameRows n t u) where
       }
 
   same-fits : (i : ℕ) → i < n → RowFits t i → RowFits u i
-  unfolding rowInRange rowInOrder
-  same-fits i h fits =
-      let score = same-num i 1 h (lit≤ tt) in
-      record {
-        range = rw (same-num i 0 h (lit≤ tt), score, same-shade i h) (fits .range);
-        order = rw (score, same-num (i - 1) 1 (omega arith) (lit≤ tt)) (fits .order);
-      }
+  same-fits i h fits = record { range = range; order = order i h (fits .order) }
+    where
+      range : rowInRange u i ≡ true
+      range =
+          range-is u i
+          ∙ rw (same-num i 0 h (lit≤ tt), same-num i 1 h (lit≤ tt), same-shade i h) (sym (range-is t i) ∙ fits .range)
+
+      order : (i : ℕ) → i < n → rowInOrder t i ≡ true → rowInOrder u i ≡ true
+      order zero h e = order-first u
+      order (suc i) h e =
+          order-next u i
+          ∙ rw (same-num (suc i) 1 h (lit≤ tt), same-num i 1 (omega arith) (lit≤ tt)) (sym (order-next t i) ∙ e)
 
   pub same-part : (a b : ℕ) → b ≤ n → rowsBetween u a b ≡ rowsBetween t a b
   same-part a b h = ap (λ l. record { start = a; rows = l }) (go (decLe a b))

@@ -12,18 +12,26 @@ use Rattle.rules.specs.Read.{fieldNext}
 use Rattle.rules.specs.Take.{movedOut}
 use Rattle.rules.specs.Calls.{openCode, openCall, readCall, takeCall}
 use Rattle.rules.specs.Query.{wasRead, wasGiven, readUntilSettledBy, readUntilSettled, settledSession}
-use Rattle.session_laws.specs.Calls.{open-out, was-read-out, was-given-out}
+use Rattle.session_laws.specs.Calls.{open-out, was-read-out, read-keeps, was-given-out, take-keeps}
 use Rattle.session_laws.specs.Read.{read-rows-kept}
 
--- a read that read, and a take that gave
 module _ (f t : Table) where
-  pub read-tables : (s : Session) → wasRead (readCall f t s .answer) ≡ true → readCall f t s .session .rows ≡ s .rows
-  read-tables s h =
-      ap (λ (r : Step). r .session .rows) (was-read-out f t s h .after) ∙ read-rows-kept (fieldNext f t s) f t s
+  -- through a read, whatever it answers, and a take
+  pub read-tables : (s : Session) → readCall f t s .session .rows ≡ s .rows
+  read-tables s = go (wasRead (readCall f t s .answer)) refl
+    where
+      go : (b : Bool) → wasRead (readCall f t s .answer) ≡ b → readCall f t s .session .rows ≡ s .rows
+      go true h =
+          ap (λ (r : Step). r .session .rows) (was-read-out f t s h .after) ∙ read-rows-kept (fieldNext f t s) f t s
+      go false h = ap (λ (r : Session). r .rows) (read-keeps f t s h)
 
-  pub take-tables : (s : Session) → wasGiven (takeCall f t s .answer) ≡ true → takeCall f t s .session .rows ≡ s .rows
+  pub take-tables : (s : Session) → takeCall f t s .session .rows ≡ s .rows
   unfolding movedOut
-  take-tables s h = ap (λ (r : Step). r .session .rows) (was-given-out f t s h .after)
+  take-tables s = go (wasGiven (takeCall f t s .answer)) refl
+    where
+      go : (b : Bool) → wasGiven (takeCall f t s .answer) ≡ b → takeCall f t s .session .rows ≡ s .rows
+      go true h = ap (λ (r : Step). r .session .rows) (was-given-out f t s h .after)
+      go false h = ap (λ (r : Session). r .rows) (take-keeps f t s h)
 
   pub reads-tables : (n : ℕ) (s : Session) → readUntilSettled n f t s .rows ≡ s .rows
   unfolding readUntilSettledBy
@@ -35,7 +43,7 @@ module _ (f t : Table) where
 
       go : (b : Bool) → wasRead (readCall f t s .answer) ≡ b → readUntilSettled n f t r .rows ≡ r .rows
           → (let x : Session = elim b [ true ↦ readUntilSettled n f t r | false ↦ s ] in x .rows) ≡ s .rows
-      go true e ih = ih ∙ read-tables s e
+      go true e ih = ih ∙ read-tables s
       go false e ih = refl
 
 -- from an opening on

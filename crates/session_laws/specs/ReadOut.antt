@@ -12,10 +12,10 @@ use borrow.Author.Tests.{eqb-true, eqb-false, eq-eqb, ne-eqb, ltb-true, lt-ltb, 
 use Rattle.lists.specs.Bools.{clash, and-out, and-in, or-out, or-in-left, or-in-right, or-none-out}
 use Rattle.rules.specs.declared.Meaning.the-variants.{Possibly, Surely}
 use Rattle.rules.specs.declared.Query.{Query}
-use Rattle.rules.specs.Tables.{Table, num, rowCount, rowInOrder, legal, Row, row, qualifies, withdrawn, rowsQualify}
+use Rattle.rules.specs.Tables.{Table, rowCount, legal, Row, row, qualifies, withdrawn, rowsQualify}
 use Rattle.rules.specs.Tolerances.{asking, surely-possibly}
 use Rattle.rules.specs.Session.{withdrawnWithin, readOut, isEmpty}
-use Rattle.session_laws.specs.Tables.{RowFits, score-kept, legal-out}
+use Rattle.session_laws.specs.Tables.{order-next, RowFits, score-kept, legal-out}
 
 -- ---- Rows that qualify are not withdrawn
 
@@ -112,17 +112,10 @@ module _ (t : Table) where
 
 module _ (t : Table) (n : ℕ) (fits : (i : ℕ) → i < n → RowFits t i) where
   score-falls : (i : ℕ) → suc i < n → row t (suc i) .score ≤ row t i .score
-  unfolding rowInOrder
   score-falls i h =
-      let below = leZ (num t (suc i) 1) (num t (suc i - 1) 1) in
-      let a : below ≡ true =
-      ⊎-elim (λ e. absurd (omega (arith, eqb-true (suc i) 0 e))) (λ e. e)
-      (or-out (eqb (suc i) 0) below (fits (suc i) h .order)) in
-      let b : suc i - 1 ≡ i = omega arith in
-      let c : leZ (num t (suc i) 1) (num t i 1) ≡ true = ap (λ j. leZ (num t (suc i) 1) (num t j 1)) (sym b) ∙ a in
       leb-true (row t (suc i) .score) (row t i .score)
       (subst₂ (λ x y. leZ x y ≡ true) (sym (score-kept t (suc i) (fits (suc i) h .range)))
-      (sym (score-kept t i (fits i (omega arith) .range))) c)
+      (sym (score-kept t i (fits i (omega arith) .range))) (sym (order-next t i) ∙ fits (suc i) h .order))
 
   pub scores-fall : (i j : ℕ) → i ≤ j → j < n → row t j .score ≤ row t i .score
   scores-fall i j h =

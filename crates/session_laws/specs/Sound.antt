@@ -144,8 +144,8 @@ sound-open q tables = record {
 -- ---- Read
 
 -- s with the pairs held and the block pairs joined of r
-abbrev heldOf : Session → Session → Session
-heldOf s r = record {
+abbrev pub heldFrom : Session → Session → Session
+heldFrom s r = record {
   query = s .query;
   rows = s .rows;
   depth = s .depth;
@@ -156,7 +156,7 @@ heldOf s r = record {
   joined = r .joined;
 }
 
-same-held : (s r : Session) → Kept s r → r ≡ heldOf s r
+pub same-held : (s r : Session) → Kept s r → r ≡ heldFrom s r
 same-held s r e =
     λ i.
     record {
@@ -177,7 +177,7 @@ module _ (s r : Session) (h : Sound s) (size : 1 ≤ s .query .block) (cleared :
 
   sound-raised : (field : Bool) → oldDepth field s < newDepth field s
       → r .joined ≤ s .joined + counted (cond field (s .depth .trim .0) (s .depth .field .0))
-      → Sound (readTo field (newDepth field s) (heldOf s r))
+      → Sound (readTo field (newDepth field s) (heldFrom s r))
   unfolding readTo
   sound-raised true k j =
       let block = s .query .block in

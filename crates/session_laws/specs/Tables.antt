@@ -1,8 +1,8 @@
 -- What 4, 6 and 7 say of a table: its size, its rows, and what a legal table is. Assumes nothing.
-use mathlib.Core.Path.{_≡_, refl, sym, subst}
+use mathlib.Core.Path.{_≡_, refl, sym, ap, subst, _∙_}
 use mathlib.Core.Bool.{Bool, true, _&&_}
 use mathlib.Core.List.{List, [], _∷_}
-use Prim.Native.Nat.{ℕ, zero, suc, _+_, _*_, _≤_, _<_, _%_}
+use Prim.Native.Nat.{ℕ, zero, suc, _+_, _*_, _-_, _≤_, _<_, _%_}
 use native.Mathlib.Nat.{mul-le-mul}
 use native.Mathlib.Omega.{arith}
 use native.Mathlib.Decide.{decLe}
@@ -10,7 +10,7 @@ use lib.Dec.{eqb, leb}
 use lib.IntN.{ℤ, pos, negsuc}
 use lib.Signed.{leZ}
 use lib.ListN.{length, getD}
-use borrow.Author.Tests.{eqb-true, eq-eqb, leb-true, le-leb}
+use borrow.Author.Tests.{eqb-true, eq-eqb, ne-eqb, leb-true, le-leb}
 use Rattle.lists.specs.Lists.{every, range}
 use Rattle.lists.specs.Bools.{clash, and-out, and-in}
 use Rattle.lists.specs.Parts.{mem-range, every-at, every-of}
@@ -66,6 +66,22 @@ pub shade-out : (z : List ℤ) → shadeFits z ≡ true → (k : ℕ) → k < le
 unfolding shadeFits fitsAt
 shade-out z h k l = every-at (fitsAt z) k h (mem-range k 0 (length z) .1 (omega arith))
 
+-- what 6 asks of row i + 1, and 7: that its score is not above the one before, if there is one
+module _ (t : Table) where
+  pub range-is : (i : ℕ) → rowInRange t i ≡ inRange (num t i 0) (num t i 1) (shadeAt t i)
+  unfolding rowInRange
+  range-is i = refl
+
+  pub order-first : rowInOrder t 0 ≡ true
+  unfolding rowInOrder
+  order-first = refl
+
+  pub order-next : (i : ℕ) → rowInOrder t (suc i) ≡ leZ (num t (suc i) 1) (num t i 1)
+  unfolding rowInOrder
+  order-next i =
+      let before : suc i - 1 ≡ i = omega arith in
+      rw (ne-eqb (suc i) 0 (λ z. omega arith)) (ap (λ j. leZ (num t (suc i) 1) (num t j 1)) before)
+
 -- a number that is not below 0
 pos-nat : (low n : ℕ) (x : ℤ) → within (pos low) (pos n) x ≡ true → pos (natOf x) ≡ x
 unfolding within
@@ -75,8 +91,7 @@ pos-nat low n (negsuc m) h = clash h refl
 -- row i + 1 as the rules look at it has the table's numbers
 module _ (t : Table) (i : ℕ) (h : rowInRange t i ≡ true) where
   abbrev pub ranges : InRange (num t i 0) (num t i 1) (shadeAt t i)
-  unfolding rowInRange
-  ranges = range-out (num t i 0) (num t i 1) (shadeAt t i) h
+  ranges = range-out (num t i 0) (num t i 1) (shadeAt t i) (sym (range-is t i) ∙ h)
 
   pub pattern-kept : pos (row t i .pattern) ≡ num t i 0
   unfolding row
@@ -110,10 +125,11 @@ module _ (t : Table) (a n i : ℕ) (h : i < n) where
       }
 
   pub range-part : rowInRange (part t a n) i ≡ rowInRange t (a + i)
-  unfolding rowInRange
   range-part =
-      λ k.
-      inRange (part-num t a n i 0 h (omega arith) k) (part-num t a n i 1 h (omega arith) k) (part-shade t a n i h k)
+      range-is (part t a n) i
+      ∙ (λ k.
+      inRange (part-num t a n i 0 h (omega arith) k) (part-num t a n i 1 h (omega arith) k) (part-shade t a n i h k))
+      ∙ sym (range-is t (a + i))
 
 -- ---- 6 and 7: rows
 

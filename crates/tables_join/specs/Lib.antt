@@ -10,3 +10,4 @@ pub mod Withdrawn
 pub mod Unsatisfiable
 pub mod Unskipped
 pub mod Shades
+pub mod Stays

@@ -20,7 +20,9 @@ use Rattle.rules.specs.Tolerances.{nothing-near}
 use Rattle.rules.specs.Widths.{has-rows, part-count, part-most}
 use Rattle.rules.specs.Read.{rowsBetween}
 use Rattle.rules.specs.Ranking.{Before, before-ahead, ahead-trans, ahead-asym, ahead-tri}
-use Rattle.session_laws.specs.Tables.{row-part}
+use Rattle.rules.specs.Calls.{mostSum}
+use Rattle.session_laws.specs.Record.{QueryFits}
+use Rattle.session_laws.specs.Tables.{row-part, weighted-most, legal-out}
 use Rattle.tables_join.specs.Rows.{near, field-up, trim-up, legal-fall}
 
 -- rows of the tables that qualify, with their own sum
@@ -39,6 +41,20 @@ pair-satisfiable query f t cards p h =
     clash (h .near)
     (nothing-near query f t cards u (p .field - 1) (p .trim - 1) (omega (arith, h .field-row))
     (omega (arith, h .trim-row))))
+
+-- of legal tables, by a query that fits, its sum is one that 5 lets pass
+pub sum-most : (query : Query) (f t : Table) → QueryFits query → legal f ≡ true → legal t ≡ true → (p : Pair)
+    → QualifyingPair query f t p → p .sum ≤ mostSum
+unfolding pairSum
+sum-most query f t light g h p k =
+    let first = legal-out f g .rows (p .field - 1) (omega (arith, k .field-row)) .range in
+    let second = legal-out t h .rows (p .trim - 1) (omega (arith, k .trim-row)) .range in
+    omega (
+      arith,
+      k .own-sum,
+      weighted-most f (p .field - 1) first (query .weights .field .0) (light .field-weight .1),
+      weighted-most t (p .trim - 1) second (query .weights .trim .0) (light .trim-weight .1),
+    )
 
 -- a pair's row in the table that is read, and in the other one; the flag says whether the field table is read
 abbrev pub ownRow : Bool → Pair → ℕ

@@ -19,7 +19,7 @@ use Rattle.rules.specs.declared.Pair.{Pair}
 use Rattle.rules.specs.declared.Query.{Query}
 use Rattle.rules.specs.declared.Session.{Session}
 use Rattle.rules.specs.declared.Counts.{Counts}
-use Rattle.rules.specs.Tables.{Table, rowCount, unsatisfiable, row, ahead, legal, pairSum}
+use Rattle.rules.specs.Tables.{Table, rowCount, unsatisfiable, row, ahead, legal}
 use Rattle.rules.specs.Session.{isEmpty, heldPairs, opened, bothReadOut, aTableIsEmpty, fieldReadOut, trimReadOut}
 use Rattle.rules.specs.Session.{twoTables, nothingQualifies, settled}
 use Rattle.rules.specs.Read.{readTo, newDepth, readTableBy, readTable, readBlock}
@@ -27,14 +27,14 @@ use Rattle.rules.specs.Take.{firstHeld, movedOut, finished}
 use Rattle.rules.specs.Calls.{queryCode, isCard, pairFits, recordFits}
 use Rattle.session_laws.specs.Calls.{OneCard}
 use Rattle.session_laws.specs.ReadOut.{rows-qualify-out, live-above, live-never}
-use Rattle.session_laws.specs.Tables.{weighted-most, legal-out}
+use Rattle.session_laws.specs.Tables.{legal-out}
 use Rattle.session_laws.specs.Record.{query-out, pair-in, record-in}
 use Rattle.session_laws.specs.Read.{new-grows, new-within, own-within, Kept, metAll, met-all-keeps, rowsRead}
 use Rattle.session_laws.specs.Read.{read-deeper}
 use Rattle.session_laws.specs.Take.{held-first}
 use Rattle.session_laws.specs.Sound.{Sound, sound-read, sound-take}
 use Rattle.tables_join.specs.Pairs.{QualifyingPair, ownRow, Between, Region, pair-rank, region-between}
-use Rattle.tables_join.specs.Pairs.{pair-satisfiable, region-read}
+use Rattle.tables_join.specs.Pairs.{pair-satisfiable, sum-most, region-read}
 use Rattle.tables_join.specs.Held.{Keeping, keeping-same, all-blocks-hold}
 
 -- a record of a session over tables f and t, the pairs of `out` being out
@@ -301,22 +301,12 @@ module _ {q : Query} {f t : Table} {out : List Pair} {s : Session} (a : Reached 
   take-sound b some = sound-take s b (a .keeping .stored) some
 
   pairs-fit : legal f ≡ true → legal t ≡ true → (p : Pair) → R p → pairFits s p ≡ true
-  unfolding pairSum
   pairs-fit x y p m =
       pair-in s p
       (record {
         field-row = (m .fits .field-row .0, m .own-part .1);
         trim-row = (m .fits .trim-row .0, m .other-part .1);
-        low-sum =
-            let light = query-out q (a .accepted) in
-            let first = legal-out f x .rows (p .field - 1) (omega (arith, m .fits .field-row)) .range in
-            let second = legal-out t y .rows (p .trim - 1) (omega (arith, m .fits .trim-row)) .range in
-            omega (
-              arith,
-              m .fits .own-sum,
-              weighted-most f (p .field - 1) first (q .weights .field .0) (light .field-weight .1),
-              weighted-most t (p .trim - 1) second (q .weights .trim .0) (light .trim-weight .1),
-            );
+        low-sum = sum-most q f t (query-out q (a .accepted)) x y p (m .fits);
       })
 
   -- every ground of 5

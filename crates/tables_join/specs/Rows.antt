@@ -3,7 +3,7 @@
 use mathlib.Core.Path.{_≡_, refl, sym, ap, ap₂, subst, subst₂, _∙_}
 use mathlib.Core.Bool.{Bool, true, false, _&&_, _||_, not}
 use mathlib.Core.List.{List, [], _∷_, _++_, map}
-use Prim.Native.Nat.{ℕ, zero, suc, _+_, _*_, _-_, _/_, _%_, _≤_, _<_}
+use Prim.Native.Nat.{ℕ, zero, suc, _+_, _*_, _/_, _%_, _≤_, _<_}
 use native.Mathlib.Omega.{arith}
 use native.Mathlib.Decide.{decLe}
 use native.Mathlib.Nat.{mul-le-mul-left, mul-suc, mul-zero, div-add-mod, mod-lt}
@@ -34,7 +34,8 @@ use Rattle.rules.specs.declared.Query.{Query}
 use Rattle.rules.specs.Calls.{queryCode}
 use Rattle.session_laws.specs.ReadOut.{rows-qualify-in, scores-fall}
 use Rattle.session_laws.specs.Record.{query-out}
-use Rattle.session_laws.specs.Tables.{pattern-kept, score-kept, range-out, range-in, legal-out, legal-in}
+use Rattle.session_laws.specs.Tables.{range-is, order-first, order-next, pattern-kept, score-kept, range-out}
+use Rattle.session_laws.specs.Tables.{range-in, legal-out, legal-in}
 
 -- ---- Definitions
 
@@ -146,13 +147,13 @@ unfolding rowsOf
 rows-at t i h = map-range-at (row t) 0 (rowCount t) i blankRow h ∙ ap (row t) (omega arith)
 
 row-good : (t : Table) (i : ℕ) → i < rowCount t → rowInRange t i ≡ true → GoodRow (t .coordinates) (row t i)
-unfolding rowInRange row
+unfolding row
 row-good t i k h =
     record {
       wide = shade-length t i (has-row t i k);
       range =
           subst (λ p. inRange p (pos (natOf (num t i 1))) (shadeAt t i) ≡ true) (sym (pattern-kept t i h))
-          (subst (λ s. inRange (num t i 0) s (shadeAt t i) ≡ true) (sym (score-kept t i h)) h);
+          (subst (λ s. inRange (num t i 0) s (shadeAt t i) ≡ true) (sym (score-kept t i h)) (sym (range-is t i) ∙ h));
     }
 
 module _ (t : Table) (g : legal t ≡ true) where
@@ -326,17 +327,16 @@ module _ {n : ℕ} {weight : Row → ℕ} (rises : Rises weight) (l : List Row) 
   w = legal-wide l g
 
   flat-order : (i : ℕ) → i < length l → rowInOrder (flat n l) i ≡ true
-  unfolding rowInOrder cell
-  flat-order zero h = refl
+  unfolding cell
+  flat-order zero h = order-first (flat n l)
   flat-order (suc i) h =
-      let e : suc i - 1 ≡ i = omega arith in
-      let before = ap (λ j. num (flat n l) j 1) e ∙ num-flat n l w i 1 (omega arith) in
-      rw (ne-eqb (suc i) 0 (λ z. omega arith), num-flat n l w (suc i) 1 (omega arith), before)
+      order-next (flat n l) i
+      ∙ rw (num-flat n l w (suc i) 1 (omega arith), num-flat n l w i 1 (omega arith))
       (le-leb (getD l (suc i) blankRow .score) (getD l i blankRow .score)
       (rises .down (getD l (suc i) blankRow) (getD l i blankRow) (g .falls i h)))
 
   pub flat-legal : legal (flat n l) ≡ true
-  unfolding rowInRange cell
+  unfolding cell
   flat-legal =
       legal-in (flat n l)
       (record {
@@ -350,7 +350,9 @@ module _ {n : ℕ} {weight : Row → ℕ} (rises : Rises weight) (l : List Row) 
             let k : i < length l = omega (arith, count-flat n l w) in
             let cells = num-flat n l w i in
             record {
-              range = rw (cells 0 (omega arith), cells 1 (omega arith), shade-flat n l w i) (g .good i k .range);
+              range =
+                  range-is (flat n l) i
+                  ∙ rw (cells 0 (omega arith), cells 1 (omega arith), shade-flat n l w i) (g .good i k .range);
               order = flat-order i k;
             };
       })

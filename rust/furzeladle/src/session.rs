@@ -40,8 +40,8 @@ pub enum Taken {
 /// A join session over the two tables that it borrows: the same two in every call.
 ///
 /// Opening may be refused. After it nothing is: both tables were checked whole, and over such tables the library is
-/// proved to refuse no call (`gets-there` in crates/demand/specs/Ends.antt). Of a record that no session made and that
-/// is taken up ([`Session::from_record`]) this is tested, not proved: a later call that were refused would panic.
+/// proved to refuse no call (`gets-there` in crates/demand/specs/Ends.antt), nor one with a record that is taken up
+/// ([`Session::from_record`]), whoever made it (`read-passes`, `take-passes` in crates/tables_join/specs/Stays.antt).
 ///
 /// ```
 /// use furzeladle::{Card, FieldTable, Pair, Progress, Query, Refusal, Session, Taken, TrimTable};
@@ -109,7 +109,7 @@ impl<'a> Session<'a> {
         if calls.card().is_some_and(is_other) {
             return Err(Refusal::Cards);
         }
-        // what a take of it accepts over checked tables, every later call has in all tests
+        // once a take of it is not refused over checked tables, no later call is
         calls.clone().take(field.numbers(), trim.numbers())?;
         Ok(Session { calls, field, trim })
     }

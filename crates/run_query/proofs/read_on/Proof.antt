@@ -100,7 +100,7 @@ loop-again c =
           ∙ read-more f t (at .loop .at) (read-so (c .before))
           ∙ at .loop .inv .0,
       ap (λ (x : Step). x .session .rows) (called call)
-          ∙ read-tables f t (at .loop .at) (read-so (c .before))
+          ∙ read-tables f t (at .loop .at)
           ∙ at .loop .inv .1,
     )
 

@@ -4,7 +4,6 @@ use Prim.Native.Nat.{_-_, _<_}
 use native.Mathlib.Omega.{arith}
 use borrow.Author.Needs.{needs}
 use Rattle.rules.specs.declared.Step.{Step}
-use Rattle.rules.specs.declared.Answer.{Answer}
 use Rattle.rules.specs.Tables.{Table, table}
 use Rattle.rules.specs.Session.{lentTable, placeCount}
 use Rattle.rules.specs.Calls.{takeCall}
@@ -77,12 +76,10 @@ loop-again c =
     let l = at .before .before .loop in
     let told = c .before .before .answer .given in
     let more : l .n < placeCount = omega (arith, at .before .loop-test .taken) in
-    let s = at .before .before .before in
-    let gave =
-    ap (λ (x : Step). wasGiven (x .answer)) (sym (called at)) ∙ ap (λ (a : Answer). wasGiven a) (told .1) in (
+    let s = at .before .before .before in (
       taking-on (l .inv .0) more (at .take .result) (told .0 .0) (called at) (told .1),
       ap (λ (x : Step). x .session .rows) (called at)
-          ∙ take-tables (fields s) (trims s) (l .left) gave
+          ∙ take-tables (fields s) (trims s) (l .left)
           ∙ l .inv .1,
     )
 
