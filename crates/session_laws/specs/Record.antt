@@ -224,11 +224,12 @@ card-other n h e = ⊎-elim (λ k. absurd (e k)) (λ k. k) (card-out n h)
 
 -- ---- 5: nothing is read for a query that nothing can meet
 
-abbrev pub NothingRead : Session → Type 0
-NothingRead s = nothingQualifies s ≡ true → (s .depth .field .0 ≡ 0) × (s .depth .trim .0 ≡ 0)
+-- no row is read where none can qualify
+abbrev pub UnreadIfNone : Session → Type 0
+UnreadIfNone s = nothingQualifies s ≡ true → (s .depth .field .0 ≡ 0) × (s .depth .trim .0 ≡ 0)
 
 module _ (s : Session) where
-  pub depths-out : depthsFit s ≡ true → NothingRead s
+  pub depths-out : depthsFit s ≡ true → UnreadIfNone s
   unfolding depthsFit
   depths-out h u =
       let none = eqb (s .depth .field .0) 0 && eqb (s .depth .trim .0) 0 in
@@ -236,7 +237,7 @@ module _ (s : Session) where
       let both = and-out (eqb (s .depth .field .0) 0) (eqb (s .depth .trim .0) 0) e in
       (eqb-true (s .depth .field .0) 0 (both .0), eqb-true (s .depth .trim .0) 0 (both .1))
 
-  pub depths-in : NothingRead s → depthsFit s ≡ true
+  pub depths-in : UnreadIfNone s → depthsFit s ≡ true
   unfolding depthsFit
   depths-in h = go (nothingQualifies s) refl
     where
@@ -263,7 +264,7 @@ pub record RecordFits (s : Session) : Type 0 where
   pub zeros : every isZeros (drop (s .held) (s .pairs)) ≡ true
   pub joined : s .joined ≤ mostJoined s
   pub card : isCard (s .rows .card) ≡ true
-  pub depths : NothingRead s
+  pub depths : UnreadIfNone s
 
 module _ (s : Session) where
   pub record-out : recordFits s ≡ true → RecordFits s

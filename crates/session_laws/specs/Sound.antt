@@ -24,7 +24,7 @@ use Rattle.rules.specs.Read.{meetBlocks}
 use Rattle.rules.specs.Read.{readTo, oldDepth, newDepth, readTableBy, readBlock}
 use Rattle.rules.specs.Take.{movedOut}
 use Rattle.rules.specs.Calls.{isZeros}
-use Rattle.session_laws.specs.Record.{WholeBlocks, MarkFits, NothingRead, mostJoined}
+use Rattle.session_laws.specs.Record.{WholeBlocks, MarkFits, UnreadIfNone, mostJoined}
 use Rattle.session_laws.specs.Read.{Kept, metAll, met-all-keeps, blocks-joined, unsettled-out, read-raises}
 
 pub record Sound (s : Session) : Type 0 where
@@ -33,7 +33,7 @@ pub record Sound (s : Session) : Type 0 where
   pub mark : MarkFits s
   pub cleared : every isZeros (drop (s .held) (s .pairs)) ≡ true
   pub joined : s .joined ≤ mostJoined s
-  pub depths : NothingRead s
+  pub depths : UnreadIfNone s
 
 -- ---- Counting blocks
 

@@ -50,7 +50,7 @@ module _ (f t : Table) (s : Session) (places : length (s .pairs) ≡ 64) (a : Ac
   abbrev fits : RecordFits s
   fits = a .lent .fits
 
-  -- the record once the new block has met all others, and what is known of it
+  -- the record once the new block has met all others
   abbrev met : Session
   met = metAll field f t s
 
