@@ -1,4 +1,6 @@
 // What a call of the session answers, as one signed number.
+#![tactic(auto)]
+
 ghost use Rattle.std.specs.Prelude.{◌≡◌, ◌<◌, ◌^◌, pos, neg_ℤ};
 ghost use Rattle.rules.specs.declared.Answer.TheVariants.{Refused};
 ghost use Rattle.rules.specs.Numbers.{short_slice, IsRefusal, said, refusal, signed};

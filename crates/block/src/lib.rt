@@ -1,5 +1,7 @@
 // The block join: the qualifying pairs of a field block and a trim block, each a part of its table, are put among the
 // pairs held. Both tables' shades have n coordinates.
+#![tactic(auto)]
+
 ghost use Rattle.std.specs.Prelude.{◌≡◌, true, ◌≤◌, length};
 ghost use Rattle.rules.specs.Tables.{table, terms};
 ghost use Rattle.rules.specs.Calls.{is_card};

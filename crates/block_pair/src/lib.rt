@@ -1,4 +1,6 @@
 // One block pair, rows of the field table and rows of the trim table, is met: skipped, or joined and counted.
+#![tactic(auto)]
+
 ghost use Rattle.std.specs.Prelude.{◌≡◌, true, cond, ◌≤◌, ◌<◌, ◌^◌, length};
 ghost use Rattle.rules.specs.Tables.{table, rectangle, terms};
 ghost use Rattle.rules.specs.Calls.{is_card};
@@ -12,7 +14,7 @@ ghost use Rattle.block_pair.specs.Stands.{Meets};
 use rules::Query;
 
 // Some rows of a table: those after row `from`, down to row `to`.
-#[derive(Drop)]
+#[derive(Clone, Copy)]
 pub struct Span {
     pub from: usize,
     pub to: usize,
@@ -67,7 +69,7 @@ fn effect_parts(
 }
 
 // How many pairs are held and how many block pairs are joined.
-#[derive(Drop)]
+#[derive(Clone, Copy)]
 pub struct Met {
     pub held: usize,
     pub joined: u64,

@@ -1,5 +1,7 @@
 // Rows of blocks, each a part of its table: the pair of two of them, and how many of a block are not withdrawn. Shades
 // have n coordinates.
+#![tactic(auto)]
+
 ghost use Rattle.std.specs.Prelude.{◌≡◌, true, ◌+◌, ◌<◌};
 ghost use Rattle.rules.specs.Tables.{table, most_rows, row_in_range, terms, pair_at, HasRow};
 ghost use Rattle.session_laws.specs.Record.{QueryFits};

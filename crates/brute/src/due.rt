@@ -32,7 +32,7 @@ pub fn number(a: Answer) -> u32 {
 
 // What is asked of two tables in short, whether no shades can meet it, how many rows the tables have and how many of
 // these stand above a withdrawn one, and the most rows that may be read of one.
-#[derive(Drop)]
+#[derive(Clone, Copy)]
 pub struct Case {
     pub k: u32,
     pub block: u32,

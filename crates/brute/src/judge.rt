@@ -38,7 +38,7 @@ pub const SHOWN: u32 = 14;
 pub const REFUSAL: u32 = 15;
 
 // A session as its caller sees it after a call.
-#[derive(Drop)]
+#[derive(Clone, Copy)]
 pub struct Seen {
     // The pairs brought out, in order.
     pub given: [Pair; 64],

@@ -5,7 +5,7 @@ use crate::{dice, plain};
 use std::num::wrapping_add_u32;
 
 // How scores and shades are spread.
-#[derive(Drop)]
+#[derive(Clone, Copy)]
 pub struct Spread {
     pub top: u32,
     // The most that a score falls from row to row, and where it stops.

@@ -1,5 +1,7 @@
 // The session, and the whole query at once, against a plain double loop, over tables made from seeds. Prints totals;
 // the comparer is tried first.
+#![tactic(auto)]
+
 use crate::due::{Case, when};
 use crate::plain::{Asked, Sums};
 use libc::STDOUT_FILENO;

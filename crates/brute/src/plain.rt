@@ -7,7 +7,7 @@ use std::num::{wrapping_add_u32, wrapping_add_u64, wrapping_sub_u32};
 pub type Table = [i32; 60];
 
 // What is asked of two tables on a card of so many coordinates.
-#[derive(Drop)]
+#[derive(Clone, Copy)]
 pub struct Asked {
     pub card: u32,
     pub k: u32,
@@ -79,7 +79,7 @@ fn number(t: &Table, row: u32, c: u32) -> u32 {
 }
 
 // A row's score and shade, raised.
-#[derive(Drop)]
+#[derive(Clone, Copy)]
 struct Row {
     pub score: u32,
     pub a: u32,
@@ -192,7 +192,7 @@ pub fn none_qualify(asked: Asked) -> bool {
 }
 
 // The lowest and the highest of some numbers, raised.
-#[derive(Drop)]
+#[derive(Clone, Copy)]
 struct Ends {
     pub low: u32,
     pub high: u32,
@@ -223,7 +223,7 @@ fn between(d: Ends, e: Ends) -> u32 {
 }
 
 // The rows that a block of each table begins with, and those that it ends with.
-#[derive(Drop)]
+#[derive(Clone, Copy)]
 struct Blocks {
     pub field: u32,
     pub field_end: u32,
@@ -352,7 +352,7 @@ fn ahead(x: Pair, y: Pair) -> bool {
 }
 
 // The ranked list of a reading's qualifying pairs, cut after a rank.
-#[derive(Drop)]
+#[derive(Clone, Copy)]
 pub struct Cut {
     // How many rank no lower.
     pub count: u32,

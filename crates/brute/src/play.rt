@@ -8,7 +8,7 @@ use rules::{Answer, Pair, Session};
 use std::num::{wrapping_add_u32, wrapping_add_u64, wrapping_sub_u32};
 
 // A session, and what its caller has seen of it.
-#[derive(Drop)]
+#[derive(Clone, Copy)]
 pub struct Played {
     pub session: Session,
     pub seen: Seen,

@@ -1,4 +1,6 @@
 // The two cards: how many coordinates a shade has, by the card, by a kind, and by the two tables' kinds.
+#![tactic(auto)]
+
 ghost use Rattle.std.specs.Prelude.{◌≡◌, []};
 ghost use Rattle.rules.specs.Tables.{coordinates, kind_coordinates, field_table, trim_table};
 ghost use Rattle.rules.specs.Calls.{is_card};

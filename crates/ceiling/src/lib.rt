@@ -1,4 +1,6 @@
 // The ceiling: the threshold of the rules' sessions.
+#![tactic(auto)]
+
 ghost use Rattle.std.specs.Prelude.{◌≡◌, cond, max};
 ghost use Rattle.rules.specs.Session.{ceiling};
 ghost use Rattle.rules.specs.Tables.{table};

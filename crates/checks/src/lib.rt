@@ -1,4 +1,6 @@
 // What calls are refused by: 5 of a record, 4 of the lent slices, then 6 and 7 of the rows read.
+#![tactic(auto)]
+
 ghost use Rattle.std.specs.Prelude.{◌≡◌, true};
 ghost use Rattle.rules.specs.Tables.{table};
 ghost use Rattle.rules.specs.Calls.{same_size_code};

@@ -1,4 +1,6 @@
 // Which table an unsettled session reads next, and what 6 and 7 say of its new block.
+#![tactic(auto)]
+
 ghost use Rattle.std.specs.Prelude.{◌≡◌, false, cond, ◌+◌, ◌-◌, ◌≤◌, ◌<◌};
 ghost use Rattle.rules.specs.Tables.{table, most_rows, weighted, HasRows};
 ghost use Rattle.rules.specs.Session.{lent_table, settled};

@@ -1,4 +1,6 @@
 // A code is the number of the first of a list of checks that refuses: 0 where none does.
+#![tactic(auto)]
+
 ghost use Rattle.std.specs.Prelude.{◌≡◌, [], ◌∷◌};
 ghost use Rattle.rules.specs.Numbers.{unless, first};
 

@@ -1,4 +1,6 @@
 // One column of a strict file, the rules' "A number is right-justified": whether it is formed so, and its number.
+#![tactic(auto)]
+
 ghost use Rattle.std.specs.Prelude.{◌≡◌, true, ◌+◌, ◌≤◌, ◌<◌, length};
 ghost use Rattle.rules.specs.File.{columns, column_fits, column_number};
 ghost use Rattle.column.specs.Column.{column_held};
@@ -7,7 +9,7 @@ ghost use Rattle.column.specs.Held.{least_of, signed_worth, held_of};
 use column_scan::{Scan, scan_from};
 
 // What a column holds: whether it is formed as a number, and the number (0 where it isn't).
-#[derive(Drop)]
+#[derive(Clone, Copy)]
 pub struct Column {
     pub fits: bool,
     pub number: i32,

@@ -1,10 +1,12 @@
 // The bytes of one column of a strict file, gone through one after the other: what is known of them at the end.
+#![tactic(auto)]
+
 ghost use Rattle.std.specs.Prelude.{◌≡◌, ◌+◌, ◌≤◌, ◌<◌, length};
 ghost use Rattle.file_laws.specs.Places.{place_value_at};
 ghost use Rattle.column_scan.specs.Scan.{up_to, byte_worth, stepped, start, scanned};
 
 // What is known of a column's bytes up to a place.
-#[derive(Drop)]
+#[derive(Clone, Copy)]
 pub struct Scan {
     // The last byte is no blank.
     pub seen: bool,

@@ -1,1 +1,2 @@
 // What wrong rules break of demand 3. No code.
+#![tactic(auto)]

@@ -1,5 +1,7 @@
 // Grounds of 5 that look at depths: a table's row count and depth, the last-read mark, how many blocks were read, a
 // query that nothing can meet.
+#![tactic(auto)]
+
 ghost use Rattle.std.specs.Prelude.{◌≡◌, ◌≤◌, ◌<◌};
 ghost use Rattle.rules.specs.Tables.{most_rows};
 ghost use Rattle.rules.specs.Read.{block_count};

@@ -1,5 +1,7 @@
 // The distance of two shades, lists of their coordinates of one length, for all 32-bit numbers: no sum wraps, whatever
 // a table holds. At the end whether two small shades, as legal rows have them, count as within a radius, at 32 bits.
+#![tactic(auto)]
+
 ghost use Rattle.std.specs.Prelude.{◌≡◌, false, ◌+◌, ◌*◌, ◌<◌, ◌≤◌, ◌^◌, ◌-◌, min, leb, pos, length};
 ghost use Rattle.std.specs.Int.Signed.{mag};
 ghost use Rattle.rules.specs.Tables.{gap, squares, squared_distance};

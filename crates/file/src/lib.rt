@@ -1,4 +1,6 @@
 // A strict file read: its rows into lent numbers.
+#![tactic(auto)]
+
 ghost use Rattle.std.specs.Prelude.{◌≡◌, ◌++◌, ◌+◌, ◌≤◌, length};
 ghost use Rattle.rules.specs.Tables.{table, width, HasRows, after_rows, most_rows};
 ghost use Rattle.rules.specs.File.{row_bytes, row_start, file_table, and_slice, load_answer, load_numbers};

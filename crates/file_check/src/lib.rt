@@ -1,4 +1,6 @@
 // A strict file checked: its header, then its rows.
+#![tactic(auto)]
+
 ghost use Rattle.std.specs.Prelude.{◌≡◌};
 ghost use Rattle.rules.specs.File.{check_file};
 

@@ -1,4 +1,6 @@
 // The header of a strict file: what is read of it, and what a file is refused by for it.
+#![tactic(auto)]
+
 ghost use Rattle.std.specs.Prelude.{◌≡◌};
 ghost use Rattle.rules.specs.File.{wanted};
 ghost use Rattle.file_header.specs.Held.{header_held, held_head_code};
@@ -8,7 +10,7 @@ use column::column_at;
 use row_columns::row_bytes;
 
 // The header's numbers, and whether its columns and LF are formed as they must be.
-#[derive(Drop)]
+#[derive(Clone, Copy)]
 pub struct Header {
     pub fits: bool,
     pub count: u32,

@@ -1,1 +1,2 @@
 // What holds of the strict file's definitions. No code: see specs/.
+#![tactic(auto)]

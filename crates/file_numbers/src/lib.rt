@@ -1,4 +1,6 @@
 // A strict file checked alone, or its rows read into lent numbers: what is answered, as one signed number.
+#![tactic(auto)]
+
 ghost use Rattle.std.specs.Prelude.{◌≡◌, ◌≤◌};
 ghost use Rattle.rules.specs.Tables.{most_rows};
 ghost use Rattle.rules.specs.File.{check_alone, load_numbers};

@@ -1,4 +1,6 @@
 // A row of a strict file: read, and the checks of what was read.
+#![tactic(auto)]
+
 ghost use Rattle.std.specs.Prelude.{◌≡◌, ◌+◌, ◌≤◌, length};
 ghost use Rattle.rules.specs.Tables.{width};
 ghost use Rattle.rules.specs.File.{column_start, row_bytes};
@@ -9,7 +11,7 @@ use column::column_at;
 use row_ranges::coordinate_fits;
 
 // A row's score, whether its columns and LF are formed as they must be, and whether its numbers keep their ranges.
-#[derive(Drop)]
+#[derive(Clone, Copy)]
 pub struct Row {
     pub fits: bool,
     pub inside: bool,

@@ -1,4 +1,6 @@
 // The rows of a strict file, checked one after the other.
+#![tactic(auto)]
+
 ghost use Rattle.std.specs.Prelude.{◌≡◌, ◌≤◌, length};
 ghost use Rattle.rules.specs.Tables.{most_rows};
 ghost use Rattle.rules.specs.File.{row_start, file_table, rows_loaded};

@@ -1,4 +1,6 @@
 // Opening, of a session whose record is laid out flat in a lent slice. Refused, it leaves each number as it stood.
+#![tactic(auto)]
+
 ghost use Rattle.std.specs.Prelude.{◌≡◌};
 ghost use Rattle.flat_calls.specs.Calls.{open_number, open_leaves};
 

@@ -1,4 +1,6 @@
 // Read, of a session whose record is laid out flat in a lent slice.
+#![tactic(auto)]
+
 ghost use Rattle.std.specs.Prelude.{◌≡◌};
 ghost use Rattle.flat_calls.specs.Calls.{read_number, read_leaves};
 

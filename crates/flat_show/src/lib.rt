@@ -1,4 +1,6 @@
 // Show, of a session whose record is laid out flat in a lent slice: as three numbers.
+#![tactic(auto)]
+
 ghost use Rattle.std.specs.Prelude.{◌≡◌, ◌≤◌, ◌<◌, length};
 ghost use Rattle.rules.specs.Tables.{most_rows};
 ghost use Rattle.rules.specs.Session.{lent_table};

@@ -1,4 +1,6 @@
 // Take, of a session whose record is laid out flat in a lent slice.
+#![tactic(auto)]
+
 ghost use Rattle.std.specs.Prelude.{◌≡◌, ◌≤◌, length};
 ghost use Rattle.rules.specs.Numbers.{said};
 ghost use Rattle.record_layout.specs.Flat.{pair_size};

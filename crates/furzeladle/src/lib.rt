@@ -1,5 +1,7 @@
 // What libfurzeladle.a exports, each function one line over the crate that proves it. include/furzeladle.h is its C
 // header.
+#![tactic(auto)]
+
 mod calls; // calls.rt: the join session
 mod queries; // queries.rt: one whole query
 mod roots; // roots.rt: a squared distance as a distance

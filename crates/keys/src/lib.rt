@@ -1,5 +1,7 @@
 // The pairs held, ranked, each as one number, its key, in 64 places that the caller lends: a pair is put at its place,
 // and what passes the room there is falls off.
+#![tactic(auto)]
+
 ghost use Rattle.std.specs.Prelude.{◌≡◌, ◌+◌, ◌<◌, ◌≤◌, length, take};
 ghost use Rattle.keys.specs.Held.{Narrow, Put, key_of, pair_of, place_at, place_of, insert_at};
 

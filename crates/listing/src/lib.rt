@@ -1,4 +1,6 @@
 // What is told of a pair, and a whole query's listing as bytes.
+#![tactic(auto)]
+
 ghost use Rattle.std.specs.Prelude.{◌≡◌, ◌+◌, ◌*◌, ◌-◌, ◌≤◌, ◌<◌, length};
 ghost use Rattle.rules.specs.Tables.{table, row};
 ghost use Rattle.rules.specs.Session.{place_count};

@@ -30,6 +30,7 @@ module _ {A : Type 0} where
 
   -- what stands in the one part of a list without repeats does not stand in the other
   pub append_apart : (l m : List A) → Distinct (l ++ m) → (x : A) → Memᴰ x l → Memᴰ x m → ⊥
+  append_apart [] m d x i k = elim i [ ]
   append_apart (y ∷ l) m d x (Memᴰ.head e) k = d.0 (Memᴰ.append_right l (Memᴰ.cast (sym e) k))
   append_apart (y ∷ l) m d x (Memᴰ.tail i) k = append_apart l m d.1 x i k
 

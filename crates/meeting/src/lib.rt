@@ -1,4 +1,6 @@
 // A new block of one table meets the blocks already read of the other, in their order.
+#![tactic(auto)]
+
 ghost use Rattle.std.specs.Prelude.{◌≡◌, cond, ◌+◌, ◌*◌, ◌≤◌, ◌<◌, ◌^◌};
 ghost use Rattle.rules.specs.Tables.{most_rows, rectangle, HasRows};
 ghost use Rattle.rules.specs.Session.{lent_table};

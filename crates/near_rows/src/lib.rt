@@ -1,4 +1,6 @@
 // Which rows of two blocks lie near each other, asked of many at once and of one pair. Shades have n coordinates.
+#![tactic(auto)]
+
 ghost use Rattle.std.specs.Prelude.{◌≡◌, true, false, ◌≤◌, min};
 ghost use Rattle.rules.specs.Tables.{table, row, withdrawn, terms, HasRow, HasRows};
 ghost use Rattle.rules.specs.Calls.{is_card};

@@ -1,5 +1,7 @@
 // One block of the table that is next is read: its rectangle is found, it meets the other table's blocks, and the table
 // is read down to its end.
+#![tactic(auto)]
+
 ghost use Rattle.std.specs.Prelude.{◌≡◌, true, false, cond, ◌+◌, ◌*◌, ◌≤◌, ◌<◌, ◌^◌, length};
 ghost use Rattle.rules.specs.Tables.{table, most_rows, rectangle, HasRows};
 ghost use Rattle.rules.specs.Session.{lent_table, settled};
@@ -72,7 +74,7 @@ fn down_to(field: bool, e: u32, depth: Counts) -> Counts
 }
 
 // What a read changes of a record's numbers; the pairs held stand beside it as keys.
-#[derive(Drop)]
+#[derive(Clone, Copy)]
 pub struct After {
     pub depth: Counts,
     pub last: u32,

@@ -1,4 +1,6 @@
 // The grounds of 5 that look at numbers, together: all but those of the pair places.
+#![tactic(auto)]
+
 ghost use Rattle.std.specs.Prelude.{◌≡◌};
 ghost use Rattle.number_checks.specs.Grounds.{numbers_fit};
 

@@ -1,4 +1,6 @@
 // Opening: a query and two lent tables in, a record with nothing read out, or the number that refuses them.
+#![tactic(auto)]
+
 ghost use Rattle.std.specs.Prelude.{◌≡◌};
 ghost use Rattle.rules.specs.Session.{opened, zeros};
 ghost use Rattle.rules.specs.Tables.{field_table, trim_table};

@@ -1,4 +1,6 @@
 // The checks of an opening, in their order: the query's, then those of the two tables.
+#![tactic(auto)]
+
 ghost use Rattle.std.specs.Prelude.{◌≡◌};
 ghost use Rattle.rules.specs.Tables.{table};
 ghost use Rattle.rules.specs.Calls.{open_code};

@@ -1,4 +1,6 @@
 // The line of a refusal, and a listing's first and last, written as bytes into a lent slice, from a place on.
+#![tactic(auto)]
+
 ghost use Rattle.std.specs.Prelude.{◌≡◌, ◌+◌, ◌≤◌, length};
 ghost use Rattle.rules.specs.Query.{input_length, query_line, last_line, refusal_line};
 ghost use Rattle.printing.specs.Put.{put_at};

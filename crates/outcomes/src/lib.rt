@@ -1,5 +1,7 @@
 // What a whole query comes to: what its opening and its reading are refused by, the record when its reading ended, and
 // its list.
+#![tactic(auto)]
+
 ghost use Rattle.std.specs.Prelude.{◌≡◌, [], ◌∷◌};
 ghost use Rattle.rules.specs.Numbers.{said, refusal, short_slice, first, unless};
 
@@ -26,21 +28,21 @@ pub fn asked_code(there: bool, opening: u32, reading: u32, room: bool) -> u32
 }
 
 // A record of which no read reads a block more, and what the read that did not is refused by; 0 where it is settled.
-#[derive(Drop)]
+#[derive(Clone, Copy)]
 pub struct ReadEnd {
     pub code: u32,
     pub session: Session,
 }
 
 // Pairs, from the front, in a record's 64 places, and how many they are.
-#[derive(Drop)]
+#[derive(Clone, Copy)]
 pub struct TakenOut {
     pub pairs: [Pair; rules::PLACES],
     pub count: usize,
 }
 
 // All that a whole query comes to.
-#[derive(Drop)]
+#[derive(Clone, Copy)]
 pub struct Outcome {
     pub query: Query,
     // What the opening is refused by, and what the last read is; 0 where neither is.

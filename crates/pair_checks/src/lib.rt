@@ -1,4 +1,6 @@
 // Grounds of 5 that look at a record's pair places, and whether a record is refused by 5 (any record may come in).
+#![tactic(auto)]
+
 ghost use Rattle.std.specs.Prelude.{◌≡◌, cond};
 ghost use Rattle.rules.specs.Calls.{is_zeros, record_fits};
 ghost use Rattle.pair_checks.specs.Grounds.{Shallow, pair_within, place_key};

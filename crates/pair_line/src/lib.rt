@@ -1,4 +1,6 @@
 // A pair's line of a listing, written as bytes into a lent slice, from a place on.
+#![tactic(auto)]
+
 ghost use Rattle.std.specs.Prelude.{◌≡◌, ◌+◌, ◌≤◌, ◌++◌, length};
 ghost use Rattle.rules.specs.Query.{decimal};
 ghost use Rattle.printing.specs.Put.{put_at};
@@ -10,7 +12,7 @@ use printing::{put_feed, put_number};
 pub const LINE_LENGTH: usize = 41;
 
 // What is told of a pair.
-#[derive(Drop)]
+#[derive(Clone, Copy)]
 pub struct Line {
     pub rank: u32,
     pub sum: u32,

@@ -1,5 +1,7 @@
 // The pairing program: FIELD.TAB and TRIM.TAB of the working folder and the query on standard input, to the listing or
 // a refusal's number on standard output. What it prints is program::whole_query's; here bytes are only moved.
+#![tactic(auto)]
+
 ghost use Rattle.io.specs.Counts.{IsPrefixLen};
 
 use libc::{STDIN_FILENO, STDOUT_FILENO};

@@ -1,4 +1,6 @@
 // Numbers, and the end of a line, written as bytes into a lent slice, from a place on.
+#![tactic(auto)]
+
 ghost use Rattle.std.specs.Prelude.{◌≡◌, ◌+◌, ◌≤◌, ◌<◌, [], ◌∷◌, length};
 ghost use Rattle.rules.specs.File.{line_feed};
 ghost use Rattle.rules.specs.Query.{decimal};

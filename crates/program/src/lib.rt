@@ -1,4 +1,6 @@
 // The pairing program's answer: from the bytes of its two files and its input to the bytes that it prints.
+#![tactic(auto)]
+
 ghost use Rattle.std.specs.Prelude.{◌≡◌, ◌++◌, ◌≤◌, length, drop};
 ghost use Rattle.rules.specs.Tables.{table, kind_coordinates, HasRows, first_rows, field_table, trim_table};
 ghost use Rattle.rules.specs.Numbers.{said_of, refusal};

@@ -1,4 +1,6 @@
 // A file that the pairing program is given: the kind that its bytes are read as, and its table of at most 512 rows.
+#![tactic(auto)]
+
 ghost use Rattle.std.specs.Prelude.{◌≡◌, ◌≤◌, length, eqb};
 ghost use Rattle.lists.specs.Lists.{every};
 ghost use Rattle.rules.specs.Tables.{kind_coordinates};

@@ -1,4 +1,6 @@
 // What the pairing program is asked: its input's bytes, read as a query.
+#![tactic(auto)]
+
 ghost use Rattle.std.specs.Prelude.{◌≡◌};
 ghost use Rattle.program_input.specs.Given.{evenly, input_held};
 
@@ -29,7 +31,7 @@ fn evenly(k: u32, block: u32, radius: u32, weight: u32) -> Query
 }
 
 // What standard input asks for: the refusal's number, or 0 and the query, of weights 1 and 1.
-#[derive(Drop)]
+#[derive(Clone, Copy)]
 pub struct Input {
     pub code: u32,
     pub query: Query,

@@ -1,1 +1,2 @@
 // Laws of the whole query. No code.
+#![tactic(auto)]

@@ -1,5 +1,7 @@
 // How long what the pairing program is given may be: room for a file, its table and the input; and a file's most bytes,
 // by the kind that it is read as.
+#![tactic(auto)]
+
 ghost use Rattle.std.specs.Prelude.{◌≡◌, ◌+◌};
 ghost use Rattle.rules.specs.declared.Card.TheVariants.{New};
 ghost use Rattle.rules.specs.Tables.{coordinates};

@@ -1,4 +1,6 @@
 // What a query's numbers are refused by: 1 to 3, 12 and 16.
+#![tactic(auto)]
+
 ghost use Rattle.std.specs.Prelude.{◌≡◌, leb};
 ghost use Rattle.rules.specs.Numbers.{weight_range, tolerance_range, unless};
 ghost use Rattle.rules.specs.Calls.{between, most_tolerance, query_code};

@@ -1,4 +1,6 @@
 // The answer of a whole query as numbers, written into a lent slice.
+#![tactic(auto)]
+
 ghost use Rattle.std.specs.Prelude.{◌≡◌, [], ◌∷◌, ◌+◌, ◌*◌, ◌≤◌, ◌<◌, length};
 ghost use Rattle.rules.specs.Tables.{table};
 ghost use Rattle.rules.specs.Session.{place_count};

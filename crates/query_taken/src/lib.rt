@@ -1,4 +1,6 @@
 // A query taken from the numbers that a caller in C or Rust lends.
+#![tactic(auto)]
+
 ghost use Rattle.std.specs.Prelude.{◌≡◌, get_or};
 ghost use Rattle.record_layout.specs.Flat.{meaning_of, query_with, query_in, kinds_in};
 

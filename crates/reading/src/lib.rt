@@ -1,5 +1,7 @@
 // Read: one block more of two lent tables. The record is a value that goes in and comes back; whatever comes in is
 // checked.
+#![tactic(auto)]
+
 ghost use Rattle.std.specs.Prelude.{◌≡◌, ◌+◌, ◌-◌, ◌≤◌, ◌<◌};
 ghost use Rattle.rules.specs.Calls.{read_call};
 ghost use Rattle.session_laws.specs.Calls.{Accepted};

@@ -1,5 +1,7 @@
 // The session's record laid out flat in a lent slice of numbers, but for its pairs: the numbers in front of the pair
 // places and behind them.
+#![tactic(auto)]
+
 ghost use Rattle.std.specs.Prelude.{◌≡◌, ◌≤◌, length};
 ghost use Rattle.record_layout.specs.Flat.{field_weight_at, flat_size, laid_at, flat_head, meaning_number, flat_tail};
 

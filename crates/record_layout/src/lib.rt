@@ -1,4 +1,6 @@
 // How the session's record is laid out flat in a lent slice of numbers, for callers in C and Rust; a pair laid out so.
+#![tactic(auto)]
+
 ghost use Rattle.std.specs.Prelude.{◌≡◌, [], ◌∷◌, ◌+◌, ◌≤◌, length};
 ghost use Rattle.record_layout.specs.Flat.{pair_size, laid_at, flat_pair};
 

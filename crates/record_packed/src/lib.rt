@@ -1,4 +1,6 @@
 // The session's whole record laid out flat in a lent slice of numbers.
+#![tactic(auto)]
+
 ghost use Rattle.std.specs.Prelude.{◌≡◌, ◌≤◌, length};
 ghost use Rattle.record_layout.specs.Flat.{flat_size, laid_in};
 

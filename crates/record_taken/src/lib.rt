@@ -1,4 +1,6 @@
 // A session's record taken from the numbers that a caller in C or Rust lends.
+#![tactic(auto)]
+
 ghost use Rattle.std.specs.Prelude.{◌≡◌, ◌≤◌, ◌<◌, length, replicate};
 ghost use Rattle.rules.specs.Session.{no_pair, place_count};
 ghost use Rattle.record_layout.specs.Flat.{flat_size, pair_in, with_pairs, unflatten};

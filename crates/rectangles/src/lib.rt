@@ -1,5 +1,7 @@
 // Whether a block's rectangle lies farther than the radius from one in lent numbers, by the query's tolerances. Shades
 // have n coordinates.
+#![tactic(auto)]
+
 ghost use Rattle.std.specs.Prelude.{◌≡◌, true, false, ◌*◌, ◌≤◌, ltb};
 ghost use Rattle.rules.specs.Tables.{Table, table, HasRow, HasRows, squares, rectangle, lowered_gap, far_apart};
 ghost use Rattle.tolerances.specs.Counted.{TolerancesFit};

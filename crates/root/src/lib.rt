@@ -1,11 +1,13 @@
 // The root of a number and what is left of it, for every u64. The method is P. Zimmermann's (Karatsuba Square Root,
 // 1999): the root of the top eight bits is tried out, and each step doubles the bits of the root by one division.
+#![tactic(auto)]
+
 ghost use Rattle.std.specs.Prelude.{◌≡◌, ◌+◌, ◌*◌, ◌-◌, ◌≤◌, ◌<◌, ◌^◌};
 ghost use Rattle.rules.specs.Root.{root, remainder};
 ghost use Rattle.root.specs.Parts.{IsRoot, Parted, StepReady};
 
 // The greatest whole number whose square is not above n, and what is left of n without that square.
-#[derive(Drop)]
+#[derive(Clone, Copy)]
 pub struct Root {
     pub root: u64,
     pub rest: u64,
@@ -96,7 +98,7 @@ fn root_64(m: u64) -> Root
 }
 
 // A number moved up by twice as many bits as `by` says, so that its root is moved up by that many.
-#[derive(Drop)]
+#[derive(Clone, Copy)]
 struct Moved {
     number: u64,
     by: u32,

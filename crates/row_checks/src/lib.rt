@@ -1,4 +1,6 @@
 // The rules' checks 6 and 7 of a table's rows. Shades have n coordinates.
+#![tactic(auto)]
+
 ghost use Rattle.std.specs.Prelude.{◌≡◌, ◌+◌, ◌≤◌, ◌<◌};
 ghost use Rattle.rules.specs.Tables.{table, HasRow, HasRows, most_rows, row_in_range, row_in_order};
 ghost use Rattle.rules.specs.Calls.{row_code, rows_code};

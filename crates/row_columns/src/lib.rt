@@ -1,5 +1,7 @@
 // How the columns of a strict file's row stand, by their numbers from 0 on: how many bytes each has, and the row; the
 // number in one.
+#![tactic(auto)]
+
 ghost use Rattle.std.specs.Prelude.{◌≡◌, true, ◌+◌, ◌≤◌, length};
 ghost use Rattle.rules.specs.File.{columns, column_fits, column_number, is_signed, column_bytes, row_bytes};
 

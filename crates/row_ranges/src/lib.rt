@@ -1,4 +1,6 @@
 // The ranges that 6 asks of a row's numbers: what the session and file reading share.
+#![tactic(auto)]
+
 ghost use Rattle.std.specs.Prelude.{◌≡◌, ◌&&◌, pos};
 ghost use Rattle.rules.specs.Tables.{within, coordinate_fits, shade_fits};
 

@@ -1,7 +1,7 @@
 -- A session's record has 64 pair places: that is its array's type. Assumes nothing.
-use mathlib.Core.Path.{◌≡◌, sym, ◌∙◌}
+use mathlib.Core.Path.{◌≡◌}
 use mathlib.Core.List.{List}
-use lib.ListN.{length, length-map}
+use lib.ListN.{length}
 use mir.Val.{Val}
 use denote.Laws.{Is}
 use denote.Struct.Declared.{row}
@@ -15,4 +15,4 @@ pairs_long s v good =
     let fields = good.1.1 in
     let counts = fields.1.1.1 in
     let pairs = counts.1.1.1.0 in
-    sym (length-map s.pairs _) ∙ pairs.1.0.1
+    pairs.1.0.1

@@ -1,5 +1,6 @@
 // The values that the rules speak of: query, pair, record, answers. No code.
 // What they mean stands in specs/, in the rules' order.
+#![tactic(auto)]
 
 // The numbers of the table of refusals; 0 is no refusal.
 pub const LIST_LENGTH: u32 = 1;
@@ -51,7 +52,7 @@ pub const PROGRAM_ROWS: usize = 512;
 pub const INPUT_LENGTH: usize = 19;
 
 // What a shade is measured by, in hundredths: a* and b*; or a*, b* and L*.
-#[derive(Drop)]
+#[derive(Clone, Copy)]
 pub enum Card {
     Old,
     New,
@@ -59,35 +60,35 @@ pub enum Card {
 
 // A count of field rows: the field table's row count, or its depth (d_R in Qi, Bouros and Mamoulis, Top-k Spatial
 // Distance Joins, 2020).
-#[derive(Drop)]
+#[derive(Clone, Copy)]
 pub struct FieldRows(pub u32);
 
 // A count of trim rows: the trim table's row count, or its depth (d_S there).
-#[derive(Drop)]
+#[derive(Clone, Copy)]
 pub struct TrimRows(pub u32);
 
 // One count of each table.
-#[derive(Drop)]
+#[derive(Clone, Copy)]
 pub struct Counts {
     pub field: FieldRows,
     pub trim: TrimRows,
 }
 
 // The kind of a field table, 1 or 3, and of a trim table, 2 or 4: the lower one is on the old card.
-#[derive(Drop)]
+#[derive(Clone, Copy)]
 pub struct FieldKind(pub u32);
 
-#[derive(Drop)]
+#[derive(Clone, Copy)]
 pub struct TrimKind(pub u32);
 
-#[derive(Drop)]
+#[derive(Clone, Copy)]
 pub struct Kinds {
     pub field: FieldKind,
     pub trim: TrimKind,
 }
 
 // What opening fixes of the two tables: their row counts, and their card, by the number of its coordinates.
-#[derive(Drop)]
+#[derive(Clone, Copy)]
 pub struct TwoTables {
     pub field: FieldRows,
     pub trim: TrimRows,
@@ -95,30 +96,30 @@ pub struct TwoTables {
 }
 
 // What a field row's score counts for, 1 to 9 times.
-#[derive(Drop)]
+#[derive(Clone, Copy)]
 pub struct FieldWeight(pub u32);
 
 // What a trim row's score counts for.
-#[derive(Drop)]
+#[derive(Clone, Copy)]
 pub struct TrimWeight(pub u32);
 
 // One weight of each table.
-#[derive(Drop)]
+#[derive(Clone, Copy)]
 pub struct Weights {
     pub field: FieldWeight,
     pub trim: TrimWeight,
 }
 
 // How far a field row's shade may lie from where its table has it, in every coordinate.
-#[derive(Drop)]
+#[derive(Clone, Copy)]
 pub struct FieldTolerance(pub u32);
 
 // How far a trim row's may.
-#[derive(Drop)]
+#[derive(Clone, Copy)]
 pub struct TrimTolerance(pub u32);
 
 // One tolerance of each table.
-#[derive(Drop)]
+#[derive(Clone, Copy)]
 pub struct Tolerances {
     pub field: FieldTolerance,
     pub trim: TrimTolerance,
@@ -126,7 +127,7 @@ pub struct Tolerances {
 
 // Whether a pair qualifies if it does for some places of its shades within their tolerances, or only if it does for all
 // of them.
-#[derive(Drop)]
+#[derive(Clone, Copy)]
 pub enum Meaning {
     Possibly,
     Surely,
@@ -134,7 +135,7 @@ pub enum Meaning {
 
 // What a list is asked for: its length k, the block size in rows, the radius, the weights, the tolerances and what is
 // made of them.
-#[derive(Drop)]
+#[derive(Clone, Copy)]
 pub struct Query {
     pub k: u32,
     pub block: u32,
@@ -145,14 +146,14 @@ pub struct Query {
 }
 
 // The lowest and the highest of one coordinate of some rows: a side of their rectangle.
-#[derive(Drop)]
+#[derive(Clone, Copy)]
 pub struct Side {
     pub low: i32,
     pub high: i32,
 }
 
 // A field row and a trim row, numbered from 1, and their sum.
-#[derive(Drop)]
+#[derive(Clone, Copy)]
 pub struct Pair {
     pub sum: u32,
     pub field: u32,
@@ -167,7 +168,7 @@ pub const NO_PAIR: Pair = Pair {
 };
 
 // The session's record: a value that goes in and comes back.
-#[derive(Drop)]
+#[derive(Clone, Copy)]
 pub struct Session {
     pub query: Query,
     // The tables' row counts, and their card.
@@ -186,7 +187,7 @@ pub struct Session {
 }
 
 // What a call of the session answers.
-#[derive(Drop)]
+#[derive(Clone, Copy)]
 pub enum Answer {
     // The number of the rules' table.
     Refused(u32),
@@ -205,14 +206,14 @@ pub enum Answer {
 }
 
 // What opening, read and take give back.
-#[derive(Drop)]
+#[derive(Clone, Copy)]
 pub struct Step {
     pub answer: Answer,
     pub session: Session,
 }
 
 // What reading a strict file answers.
-#[derive(Drop)]
+#[derive(Clone, Copy)]
 pub enum Loaded {
     // The row count.
     Rows(u32),

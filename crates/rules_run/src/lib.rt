@@ -1,1 +1,2 @@
 // The rules, run on all tiny tables. No code.
+#![tactic(auto)]

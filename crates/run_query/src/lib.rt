@@ -1,4 +1,6 @@
 // One whole query over two lent tables, run once: opened, read until settled, taken until finished.
+#![tactic(auto)]
+
 ghost use Rattle.std.specs.Prelude.{◌≡◌};
 ghost use Rattle.rules.specs.Tables.{field_table, trim_table};
 ghost use Rattle.rules.specs.Session.{lent_table};

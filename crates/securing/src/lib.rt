@@ -1,4 +1,6 @@
 // Whether a held pair is secured: no unread pair can beat it.
+#![tactic(auto)]
+
 ghost use Rattle.std.specs.Prelude.{◌≡◌};
 ghost use Rattle.rules.specs.Session.{secured};
 ghost use Rattle.rules.specs.Tables.{table};

@@ -1,4 +1,6 @@
 // Whether a session is settled.
+#![tactic(auto)]
+
 ghost use Rattle.std.specs.Prelude.{◌≡◌};
 ghost use Rattle.rules.specs.Session.{lent_table, settled};
 ghost use Rattle.session_laws.specs.Calls.{Accepted};

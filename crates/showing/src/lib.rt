@@ -1,4 +1,6 @@
 // Show: the rows last read, as a part of the table that they came from.
+#![tactic(auto)]
+
 ghost use Rattle.std.specs.Prelude.{◌≡◌, ◌*◌, ◌-◌, ◌≤◌, ◌<◌, ◌/◌};
 ghost use Rattle.rules.specs.Tables.{table, most_rows, part, width, HasRows};
 ghost use Rattle.rules.specs.Session.{lent_table};

@@ -1,5 +1,7 @@
 // The rectangle of a block's rows: the lowest and the highest of each coordinate, its sides; and the gap of two sides,
 // lowered by the tolerances. Shades have n coordinates.
+#![tactic(auto)]
+
 ghost use Rattle.std.specs.Prelude.{◌≡◌, ◌+◌, ◌*◌, ◌-◌, ◌≤◌, ◌<◌, ◌^◌, length};
 ghost use Rattle.rules.specs.Tables.{table, HasRow, HasRows, side, rectangle, side_gap};
 ghost use Rattle.sides.specs.Sides.{widened, with_side, sides_in};

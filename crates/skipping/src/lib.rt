@@ -1,4 +1,6 @@
 // What a block pair comes to, before its pairs are looked at one by one. Shades have n coordinates.
+#![tactic(auto)]
+
 ghost use Rattle.std.specs.Prelude.{◌≡◌, true, cond};
 ghost use Rattle.rules.specs.Tables.{table, rectangle, far_apart, HasRow};
 ghost use Rattle.rules.specs.Calls.{is_card};

@@ -1,4 +1,6 @@
 // What the ceiling asks of a table: whether it is read out; whether it is empty.
+#![tactic(auto)]
+
 ghost use Rattle.std.specs.Prelude.{◌≡◌};
 ghost use Rattle.rules.specs.Session.{read_out, is_empty};
 ghost use Rattle.rules.specs.Tables.{table, HasRows};

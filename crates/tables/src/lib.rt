@@ -1,5 +1,7 @@
 // The rows of a table and the rules' check 4 of them: what the session and file reading share. Others see rows through
 // these functions, and not how many numbers a row has; n is how many of them are the coordinates of its shade.
+#![tactic(auto)]
+
 ghost use Rattle.std.specs.Prelude.{◌≡◌, ◌+◌, ◌*◌, ◌-◌, ◌≤◌, ◌<◌, ◌^◌, length};
 ghost use Rattle.rules.specs.Tables.{table, width, num, row_count, HasRow, HasRows, first_rows, part, size_fits};
 ghost use Rattle.rules.specs.Tables.{nat_of, row, withdrawn, weighted};

@@ -1,4 +1,6 @@
 // What a take answers: the first held pair, finished, or not yet.
+#![tactic(auto)]
+
 ghost use Rattle.std.specs.Prelude.{◌≡◌};
 ghost use Rattle.rules.specs.Take.{gives_pair, finished};
 ghost use Rattle.session_laws.specs.Calls.{Accepted};

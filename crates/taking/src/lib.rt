@@ -1,5 +1,7 @@
 // Take: the next pair out of a session over two lent tables. The record is a value that goes in and comes back;
 // whatever comes in is checked.
+#![tactic(auto)]
+
 ghost use Rattle.std.specs.Prelude.{◌≡◌};
 ghost use Rattle.rules.specs.Calls.{take_call};
 ghost use Rattle.rules.specs.Session.{lent_table};

@@ -1,5 +1,7 @@
 // What a query's tolerances come to: both together, how a gap counts by the query's meaning, how far apart shades that
 // qualify may lie, and whether any two can.
+#![tactic(auto)]
+
 ghost use Rattle.std.specs.Prelude.{◌≡◌, ◌≤◌};
 ghost use Rattle.rules.specs.Tables.{tolerance, unsatisfiable};
 ghost use Rattle.tolerances.specs.Counted.{TolerancesFit, more, less, reach, wide};

@@ -1,4 +1,6 @@
 // The library's version. FURZELADLE_VERSION of include/furzeladle.h is the same number.
+#![tactic(auto)]
+
 ghost use Rattle.std.specs.Prelude.{◌≡◌};
 ghost use Rattle.version.specs.Version.{version};
 

@@ -1,4 +1,6 @@
 // One whole query over two lent tables, its answer written as numbers, or as the listing's bytes.
+#![tactic(auto)]
+
 ghost use Rattle.std.specs.Prelude.{◌≡◌};
 ghost use Rattle.whole_query.specs.Asked.{lent_query_answer, lent_query_numbers, lent_listing_answer, lent_listing_bytes};
 
