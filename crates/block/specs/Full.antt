@@ -7,7 +7,7 @@ use Rattle.lists.specs.Sorts as Sorts
 use Rattle.rules.specs.declared.Pair.{Pair}
 use borrow.Author.Tests.{ltb-true, lt-ltb}
 use Rattle.rules.specs.Tables.{Terms, Block, row, row_count, pair_sum, pair_at, ahead}
-use Rattle.rules.specs.Ranking.{ahead_strict}
+use Rattle.rules.proofs.Ranking.{ahead_strict}
 use Rattle.rules.specs.Session.{no_pair}
 use Rattle.keys.specs.Held.{key_of, Narrow, Keyed}
 use Rattle.keys.specs.Keys.{all_get_d, key_order, key_at, keyed_length}

@@ -17,7 +17,7 @@ use Rattle.lists.specs.Appends.{keep_append, each_append, range_end}
 use Rattle.lists.specs.Sorts as Sorts
 use Rattle.rules.specs.declared.Pair.{Pair}
 use Rattle.rules.specs.Tables.{Terms, Block, row, row_count, pair_at, qualifying, ahead}
-use Rattle.rules.specs.Ranking.{ahead_strict}
+use Rattle.rules.proofs.Ranking.{ahead_strict}
 use Rattle.block.specs.Block.{put_if, met_row, met_rows}
 
 -- pairs put one after the other

@@ -8,7 +8,7 @@ use Rattle.rules.specs.declared.Pair.{Pair}
 use Rattle.rules.specs.declared.Session.{Session}
 use Rattle.rules.specs.Tables.{Table, most_rows, ahead, HasRows}
 use Rattle.rules.specs.Widths.{rows_less, has_rows}
-use Rattle.rules.specs.Ranking.{ahead_strict}
+use Rattle.rules.proofs.Ranking.{ahead_strict}
 use Rattle.rules.specs.Session.{no_pair, places, held_pairs, settled}
 use Rattle.rules.specs.Read.{field_next, old_depth, new_depth}
 use Rattle.rules.specs.Calls.{is_zeros, rows_code, new_block_code_by, new_block_code}

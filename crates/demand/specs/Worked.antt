@@ -14,7 +14,7 @@ use Rattle.rules.specs.Session.{weights, exact_query}
 use Rattle.rules.specs.Sure.{Sure, qualifying_sums}
 use Rattle.rules.specs.Calls.{open_call}
 use Rattle.rules.specs.Run.{run}
-use Rattle.rules.specs.Example as Example
+use Rattle.rules.proofs.Example as Example
 use Rattle.tables_join.specs.Sure.{is_sure, read_out_by, empty_by, ceiling_at, sure_is_test}
 use Rattle.demand.specs.Demand.{reading, taking, Line, Sequence, Qualifying, sum_of, outs, IsIn, Out, last_record}
 use Rattle.demand.specs.Demand.{by_rules, over, answers_over, Alike, Brought, Demand3}

@@ -7,7 +7,7 @@ use Rattle.lists.specs.Sorts as Sorts
 use Rattle.rules.specs.declared.Pair.{Pair}
 use Rattle.rules.specs.Tables.{ahead}
 use Rattle.rules.specs.Session.{no_pair}
-use Rattle.rules.specs.Ranking.{Before, ahead_before, ahead_tri}
+use Rattle.rules.proofs.Ranking.{Before, ahead_before, ahead_tri}
 use Rattle.keys.specs.Held.{key_of, pair_of, Narrow, Keyed}
 
 -- One pair

@@ -7,7 +7,7 @@ use Rattle.lists.specs.Sorts.{sort_ordered, take_ordered}
 use Rattle.rules.specs.declared.Pair.{Pair}
 use Rattle.rules.specs.declared.Session.{Session}
 use Rattle.rules.specs.Tables.{Table, terms, Block, qualifying, ahead}
-use Rattle.rules.specs.Ranking.{ahead_strict}
+use Rattle.rules.proofs.Ranking.{ahead_strict}
 use Rattle.rules.specs.Session.{places, held_pairs}
 use Rattle.rules.specs.Read.{skipped, best_held, holding, meet_by, meet, rows_between, meet_blocks_by, meet_blocks}
 use Rattle.keys.specs.Places.{list_of_places}

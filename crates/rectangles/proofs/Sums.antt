@@ -16,7 +16,7 @@ use Rattle.rules.specs.Tables.{Table, row_count, first_rows, squares, side, rect
 use Rattle.rules.specs.Tables.{tolerance, lowered_gap, far_apart}
 use Rattle.rules.specs.Widths.{has_rows}
 use Rattle.rules.specs.Squares.{square_at, squares_more, squares_first, squares_all}
-use Rattle.rules.specs.Rectangles.{no_side, apart_square, far_first}
+use Rattle.rules.proofs.Rectangles.{no_side, apart_square, far_first}
 use Rattle.sides.specs.Sides.{side_in, sides_in, first_sides}
 use Rattle.sides.specs.SideLaws.{in_length, in_at, first_length, first_at, first_rectangle, all_first}
 

@@ -3,8 +3,6 @@ pub mod Widths
 pub mod Squares
 pub mod Whole
 pub mod Qualifying
-pub mod Tolerances
-pub mod Rectangles
 pub mod Session
 pub mod Read
 pub mod Take
@@ -15,11 +13,5 @@ pub mod Calls
 pub mod File
 pub mod Root
 pub mod Query
-pub mod Ranking
 pub mod Meaning
 pub mod Run
-pub mod Example
-pub mod Small
-pub mod OldCard
-pub mod CardCases
-pub mod ToleranceCases

@@ -11,7 +11,7 @@ use Rattle.lists.specs.Sorts.{all_map, ranked_ordered}
 use Rattle.rules.specs.declared.Pair.{Pair}
 use Rattle.rules.specs.declared.Session.{Session}
 use Rattle.rules.specs.Tables.{Table, ahead}
-use Rattle.rules.specs.Ranking.{Before, before_ahead, ahead_strict}
+use Rattle.rules.proofs.Ranking.{Before, before_ahead, ahead_strict}
 use Rattle.rules.specs.Session.{no_pair, held_pairs, both_read_out, a_depth_is_zero, a_table_is_empty, ceiling, secured_by}
 use Rattle.rules.specs.Session.{secured}
 use Rattle.rules.specs.Read.{lowest}

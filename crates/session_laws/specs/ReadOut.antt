@@ -14,7 +14,7 @@ use Rattle.lists.specs.Bools.{clash, and_out, and_in, or_out, or_in_left, or_in_
 use Rattle.rules.specs.declared.Meaning.TheVariants.{Possibly, Surely}
 use Rattle.rules.specs.declared.Query.{Query}
 use Rattle.rules.specs.Tables.{Table, row_count, legal, Row, row, qualifies, withdrawn, rows_qualify}
-use Rattle.rules.specs.Tolerances.{asking, surely_possibly}
+use Rattle.rules.proofs.ToleranceLaws.{asking, surely_possibly}
 use Rattle.rules.specs.Session.{withdrawn_within, read_out, is_empty}
 use Rattle.session_laws.specs.Tables.{order_next, RowFits, score_kept, legal_out}
 

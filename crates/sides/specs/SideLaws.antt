@@ -5,7 +5,7 @@ use Rattle.std.proofs.Math.Path.{ap}
 use native.Mathlib.Omega.{arith}
 use Rattle.lists.specs.Parts.{length_map_range, map_range_at}
 use Rattle.rules.specs.Tables.{Table, row_count, HasRows, first_rows, side, rectangle}
-use Rattle.rules.specs.Rectangles.{no_side, rectangle_length, first_side}
+use Rattle.rules.proofs.Rectangles.{no_side, rectangle_length, first_side}
 use Rattle.sides.specs.Sides.{side_in, sides_in, first_sides}
 
 module _ (n : ℕ) (l : List ℤ) where

@@ -18,7 +18,7 @@ use Rattle.rules.specs.declared.Pair.{Pair}
 use Rattle.rules.specs.declared.Query.{Query}
 use Rattle.rules.specs.declared.Session.{Session}
 use Rattle.rules.specs.Tables.{Table, row_count, terms, ahead, Block, qualifying, legal}
-use Rattle.rules.specs.Rectangles.{far_qualifying}
+use Rattle.rules.proofs.Rectangles.{far_qualifying}
 use Rattle.rules.specs.Meaning.{first_scores, skipped_is}
 use Rattle.rules.specs.Session.{held_pairs, no_pair, places}
 use Rattle.rules.specs.Read.{lowest, skipped, best_held, holding, meet_by, meet, rows_between, block_count}

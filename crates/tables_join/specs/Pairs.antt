@@ -16,10 +16,10 @@ use Rattle.rules.specs.declared.Query.{Query}
 use Rattle.rules.specs.Tables.{Table, row_count, row, terms, pair_sum, legal, part, ahead, Block, pair_at}
 use Rattle.rules.specs.Meaning.{first_scores}
 use Rattle.rules.specs.Tables.{unsatisfiable, qualifying}
-use Rattle.rules.specs.Tolerances.{nothing_near}
+use Rattle.rules.proofs.ToleranceLaws.{nothing_near}
 use Rattle.rules.specs.Widths.{has_rows, part_count, part_most}
 use Rattle.rules.specs.Read.{rows_between}
-use Rattle.rules.specs.Ranking.{Before, before_ahead, ahead_trans, ahead_asym, ahead_tri}
+use Rattle.rules.proofs.Ranking.{Before, before_ahead, ahead_trans, ahead_asym, ahead_tri}
 use Rattle.rules.specs.Calls.{most_sum}
 use Rattle.session_laws.specs.Record.{QueryFits}
 use Rattle.session_laws.specs.Tables.{row_part, weighted_most, legal_out}

@@ -26,7 +26,7 @@ use Rattle.rules.specs.Tables.{most_rows, row_count, in_range, Row, row, num, wi
 use Rattle.rules.specs.Tables.{unsatisfiable, withdrawn, rows_qualify, weighted, terms}
 use Rattle.rules.specs.Session.{withdrawn_within, is_empty}
 use Rattle.rules.specs.Tables.{legal, width, first_rows}
-use Rattle.rules.specs.Tolerances.{like_qualifies}
+use Rattle.rules.proofs.ToleranceLaws.{like_qualifies}
 use Rattle.rules.specs.Widths.{rows_count, has_row, shade_length}
 use Rattle.rules.specs.Tables.{nat_of, table, shade_at, coordinate_fits, fits_at, shade_fits}
 use Rattle.rules.specs.declared.Query.{Query}

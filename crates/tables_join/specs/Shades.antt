@@ -12,7 +12,7 @@ use Rattle.rules.specs.declared.Query.{Query}
 use Rattle.rules.specs.declared.Session.{Session}
 use Rattle.rules.specs.Tables.{Table, Terms, terms, pair_sum, ahead, Block, pair_at, qualifying}
 use Rattle.rules.specs.Meaning.{first_scores}
-use Rattle.rules.specs.Rectangles.{far_qualifying}
+use Rattle.rules.proofs.Rectangles.{far_qualifying}
 use Rattle.rules.specs.Session.{held_pairs}
 use Rattle.rules.specs.Read.{field_next_by, field_next, rows_between, block_count, block_at, lowest, skipped_by, best_held}
 use Rattle.rules.specs.Read.{holding, meet_by, meet, meet_blocks_by, meet_blocks, read_to, old_depth, new_depth, read_table_by}

@@ -19,7 +19,7 @@ use Rattle.rules.specs.declared.Query.{Query}
 use Rattle.rules.specs.Tables.{Table}
 use Rattle.rules.specs.Tables.{row_count, legal, Row, row, withdrawn, Terms, terms, pair_sum, Block, pair_at, qualifying}
 use Rattle.rules.specs.Tables.{first_rows, unsatisfiable}
-use Rattle.rules.specs.Tolerances.{nothing_listed}
+use Rattle.rules.proofs.ToleranceLaws.{nothing_listed}
 use Rattle.rules.specs.Session.{withdrawn_within, first_score, last_score}
 use Rattle.rules.specs.Calls.{query_code}
 use Rattle.rules.specs.Sure.{qualifying_sums, whole, Begins, Sure}

@@ -14,7 +14,7 @@ use Rattle.rules.specs.declared.Meaning.TheVariants.{Possibly, Surely}
 use Rattle.rules.specs.declared.Query.{Query}
 use Rattle.rules.specs.Tables.{gap, squares, squared_distance, tolerance, meant, qualifies}
 use Rattle.rules.specs.Squares.{square_at, squares_each, squares_place}
-use Rattle.rules.specs.Tolerances.{qualifies_exact}
+use Rattle.rules.proofs.ToleranceLaws.{qualifies_exact}
 use Rattle.tolerances.specs.Counted.{more_by, less_by, more, less, counted, reach, wide, Beyond}
 
 counted_by : (m : Meaning) (t : ℕ) (x y : ℤ) → counted (more_by m t) (less_by m t) x y ≡ meant m t x y

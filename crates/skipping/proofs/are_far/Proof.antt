@@ -2,7 +2,7 @@
 use mathlib.Core.Path.{◌≡◌, sym, subst, ◌∙◌}
 use mathlib.Core.Bool.{cond}
 use Rattle.rules.specs.Tables.{table, rectangle}
-use Rattle.rules.specs.Rectangles.{far_turned}
+use Rattle.rules.proofs.Rectangles.{far_turned}
 use Rattle.session_laws.specs.Record.{card_least, card_small}
 use Rattle.sides.specs.Sides.{sides_in}
 use Rattle.skipping.proofs.are_far.Statement.{statement}

@@ -2,7 +2,7 @@
 use Prim.Native.Nat.{ℕ, ◌*◌, ◌≤◌}
 use native.Mathlib.Nat.{mul-le-mul}
 use native.Mathlib.Omega.{arith}
-use Rattle.rules.specs.Tolerances.{unsatisfiable_is}
+use Rattle.rules.proofs.ToleranceLaws.{unsatisfiable_is}
 use borrow.Author.Rules.{rules}
 use Rattle.tolerances.proofs.unsatisfiable.Statement.{statement}
 use Rattle.tolerances.proofs.unsatisfiable.Tie as tie

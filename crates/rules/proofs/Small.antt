@@ -14,7 +14,7 @@ use Rattle.rules.specs.File.{load_answer, load_numbers}
 use Rattle.rules.specs.Root.{root, remainder}
 use Rattle.rules.specs.Query.{read_until_settled, settled_session, list, pair_line, whole_query, refusal_line}
 use Rattle.rules.specs.Run.{run}
-use Rattle.rules.specs.Example.{bytes, field_file, fields, trims, query, after_reads}
+use Rattle.rules.proofs.Example.{bytes, field_file, fields, trims, query, after_reads}
 
 -- ---- Where the last block begins: a whole one, and a short one
 

@@ -11,8 +11,8 @@ use Rattle.rules.specs.Numbers.{said}
 use Rattle.rules.specs.Calls.{query_code, record_code, open_code, open_call, read_call, take_call}
 use Rattle.rules.specs.Query.{settled_session, list}
 use Rattle.rules.specs.Run.{run}
-use Rattle.rules.specs.Example.{query, after_reads}
-use Rattle.rules.specs.Small.{asked, weighing, with_query}
+use Rattle.rules.proofs.Example.{query, after_reads}
+use Rattle.rules.proofs.Small.{asked, weighing, with_query}
 
 -- a query with these tolerances, and this made of them
 abbrev pub faded : ℕ → ℕ → Meaning → Query → Query

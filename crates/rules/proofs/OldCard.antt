@@ -12,7 +12,7 @@ use Rattle.rules.specs.Tables.{row_in_range, shade_at, gap, squares, squared_dis
 use Rattle.rules.specs.File.{columns, column_fits, column_number, ends_line, column_start, row_bytes}
 use Rattle.rules.specs.File.{column_fits_at, number_at, row_columns_fit, row_numbers}
 use Rattle.rules.specs.Query.{most_file_bytes}
-use Rattle.rules.specs.Tolerances.{qualifies_exact}
+use Rattle.rules.proofs.ToleranceLaws.{qualifies_exact}
 
 -- ---- Distance
 

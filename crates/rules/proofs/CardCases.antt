@@ -6,8 +6,8 @@ use Rattle.rules.specs.Tables.{Table, table, row_count, field_table, trim_table,
 use Rattle.rules.specs.Calls.{rows_code, record_code, open_code}
 use Rattle.rules.specs.Query.{field_file_kind, trim_file_kind, whole_query, refusal_line}
 use Rattle.rules.specs.Run.{run}
-use Rattle.rules.specs.Example.{bytes, text, field_file, input, after_reads}
-use Rattle.rules.specs.Small.{asked, joined_at5}
+use Rattle.rules.proofs.Example.{bytes, text, field_file, input, after_reads}
+use Rattle.rules.proofs.Small.{asked, joined_at5}
 
 -- ---- Lightness counts in the distance, as a and b do
 
