@@ -8,7 +8,3 @@ pub mod Proved
 pub mod GetsThere
 pub mod Ends
 pub mod Transcript
-pub mod Uses
-pub mod FinishedBest
-pub mod Worked
-pub mod Edge

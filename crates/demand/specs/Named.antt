@@ -2,7 +2,7 @@
 use Rattle.std.specs.Prelude.{◌≡◌, refl, ℕ}
 use Rattle.std.proofs.Common.{sym, ap, ◌∙◌, inl, inr}
 use mathlib.Core.List.Memᴰ
-use mathlib.Core.List.{List, ◌∷◌, Memᴰ}
+use mathlib.Core.List.{List, [], ◌∷◌, Memᴰ}
 use Rattle.rules.specs.declared.Pair.{Pair}
 use Rattle.rules.specs.declared.Query.{Query}
 use Rattle.tables_join.specs.Pairs.{QualifyingPair}
@@ -11,6 +11,7 @@ use Rattle.rules.specs.Tables.{Table}
 
 -- a pair that is in a list is there by its rows
 pub mem_in : (p : Pair) (l : List Pair) → Memᴰ p l → IsIn l p.field p.trim
+mem_in p [] m = elim m [ ]
 mem_in p (x ∷ l) (Memᴰ.head e) = inl (ap (λ p. p.field) (sym e), ap (λ p. p.trim) (sym e))
 mem_in p (x ∷ l) (Memᴰ.tail m) = inr (mem_in p l m)
 
@@ -31,6 +32,7 @@ module _ (q : Query) (f t : Table) where
   -- of pairs that all fit, the one with these rows is there with its own sum
   named_mem : (i j : ℕ) (l : List Pair) → ((p : Pair) → Memᴰ p l → QualifyingPair q f t p) → IsIn l i j
       → Memᴰ (named i j) l
+  named_mem i j [] h m = elim m [ ]
   named_mem i j (x ∷ l) h (inl e) =
       Memᴰ.head (sym (fits_named x (h x (Memᴰ.head refl)) ∙ λ z. named (e.0 z) (e.1 z)))
   named_mem i j (x ∷ l) h (inr m) = Memᴰ.tail (named_mem i j l (λ p k. h p (Memᴰ.tail k)) m)

@@ -97,6 +97,7 @@ module _ (q : Query) (f t : Table) where
 module _ {q : Query} {f t : Table} {opening : Step} {lines : List Line} (d : Demand3 q f t opening lines) where
   rest_fits : (before rest after : List Line) → lines ≡ before ++ (rest ++ after) → (p : Pair) → Memᴰ p (outs rest)
       → QualifyingPair q f t p
+  rest_fits before [] after e p m = elim m [ ]
   rest_fits before (l ∷ rest) after e p m =
       go (one_or_none l.gave.answer)
       (rest_fits (before ++ l ∷ []) rest after (e ∙ sym (append_assoc before (l ∷ []) (rest ++ after))) p)

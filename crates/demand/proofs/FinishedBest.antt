@@ -11,7 +11,7 @@ use Rattle.rules.specs.Sure.{qualifying_sums}
 use Rattle.demand.specs.Demand.{Line, Sequence, outs}
 use Rattle.demand.specs.Sequences.{reached_before}
 use Rattle.demand.specs.Proved.{demand3}
-use Rattle.demand.specs.Uses.{finished_highest}
+use Rattle.demand.proofs.Uses.{finished_highest}
 use Rattle.rules.specs.Tables.{Table}
 
 module _ {q : Query} {f t : Table} {opening : Step} {lines : List Line} (w : Sequence q f t opening lines)

@@ -19,7 +19,7 @@ use Rattle.tables_join.specs.Sure.{is_sure, read_out_by, empty_by, ceiling_at, s
 use Rattle.demand.specs.Demand.{reading, taking, Line, Sequence, Qualifying, sum_of, outs, IsIn, Out, last_record}
 use Rattle.demand.specs.Demand.{by_rules, over, answers_over, Alike, Brought, Demand3}
 use Rattle.demand.specs.Proved.{demand3}
-use Rattle.demand.specs.Uses.{finished_highest}
+use Rattle.demand.proofs.Uses.{finished_highest}
 use Rattle.demand.specs.Transcript.{field_rows, trim_rows, Asked, own, astray, ruled_line, transcript, lending}
 use Rattle.demand.specs.Transcript.{lent, follows}
 
@@ -165,6 +165,7 @@ third = record { field_row = (lit≤ tt, lit≤ tt); trim_row = (lit≤ tt, lit�
 third_left : IsIn (first ∷ second ∷ []) 3 4 → ⊥
 third_left (inl e) = omega (arith, e.0)
 third_left (inr (inl e)) = omega (arith, e.0)
+third_left (inr (inr m)) = elim m [ ]
 
 pub wanted_out : length (outs (first_lines 11)) ≡ 2
 unfolding run

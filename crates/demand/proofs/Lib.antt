@@ -1,0 +1,4 @@
+pub mod Uses
+pub mod FinishedBest
+pub mod Worked
+pub mod Edge
