@@ -4,7 +4,8 @@
 
 use crate::due::{Case, when};
 use crate::plain::{Asked, Sums};
-use libc::STDOUT_FILENO;
+use std::io;
+use std::io::Print;
 
 mod calls;
 mod dice;
@@ -101,78 +102,95 @@ fn all_cases(tally: &mut [u64; 48]) {
     }
 }
 
-fn line(tally: &[u64; 48], i: u32, name: &[u8]) {
-    io::write_all(STDOUT_FILENO, name);
-    io::print_decimal(STDOUT_FILENO, tally[(i % 48) as usize]);
-    io::write_all(STDOUT_FILENO, b"\n");
+fn line<R: Print>(rt: &R, tally: &[u64; 48], i: u32, name: &str) -> io::Result<()> {
+    let number = tally[(i % 48) as usize];
+    println!(rt; "{name}{number}")
 }
 
 // The cases, by kind.
-fn cases(a: &[u64; 48]) {
-    line(a, tally::CASES, b"cases: ");
-    line(a, tally::BY_LIGHT, b"with pairs that L alone keeps apart: ");
+fn cases<R: Print>(rt: &R, a: &[u64; 48]) -> io::Result<()> {
+    line(rt, a, tally::CASES, "cases: ")?;
     line(
+        rt,
+        a,
+        tally::BY_LIGHT,
+        "with pairs that L alone keeps apart: ",
+    )?;
+    line(
+        rt,
         a,
         tally::BY_TOLERANCE,
-        b"with pairs that tolerances decide: ",
-    );
+        "with pairs that tolerances decide: ",
+    )?;
     line(
+        rt,
         a,
         tally::UNSATISFIABLE,
-        b"with a query that nothing can meet: ",
-    );
+        "with a query that nothing can meet: ",
+    )?;
+    Ok(())
 }
 
-fn blocks(a: &[u64; 48]) {
-    line(a, tally::FAR, b"with block pairs too far apart: ");
+fn blocks<R: Print>(rt: &R, a: &[u64; 48]) -> io::Result<()> {
+    line(rt, a, tally::FAR, "with block pairs too far apart: ")?;
     line(
+        rt,
         a,
         tally::FAR_AND_JOINED,
-        b"and with others that are joined: ",
-    );
-    line(a, tally::EMPTY, b"with an empty table: ");
-    line(a, tally::WITHDRAWN, b"with a withdrawn row: ");
-    line(a, due::READ, b"blocks read: ");
+        "and with others that are joined: ",
+    )?;
+    line(rt, a, tally::EMPTY, "with an empty table: ")?;
+    line(rt, a, tally::WITHDRAWN, "with a withdrawn row: ")?;
+    line(rt, a, due::READ, "blocks read: ")?;
+    Ok(())
 }
 
 // The calls, by answer.
-fn answers(a: &[u64; 48]) {
-    line(a, due::SETTLED, b"settled: ");
-    line(a, due::GIVEN, b"pairs: ");
-    line(a, tally::TIES, b"ties: ");
-    line(a, due::NOT_YET, b"not yet: ");
-    line(a, due::FINISHED, b"finished: ");
+fn answers<R: Print>(rt: &R, a: &[u64; 48]) -> io::Result<()> {
+    line(rt, a, due::SETTLED, "settled: ")?;
+    line(rt, a, due::GIVEN, "pairs: ")?;
+    line(rt, a, tally::TIES, "ties: ")?;
+    line(rt, a, due::NOT_YET, "not yet: ")?;
+    line(rt, a, due::FINISHED, "finished: ")?;
+    Ok(())
+}
+
+fn refusal<R: Print>(rt: &R, tally: &[u64; 48], i: u32) -> io::Result<()> {
+    let number = tally[(i % 48) as usize];
+    println!(rt; "refused by {i}: {number}")
 }
 
 // The refused calls, by number.
-fn refusals(a: &[u64; 48]) {
+fn refusals<R: Print>(rt: &R, a: &[u64; 48]) -> io::Result<()> {
     for i in 1u32..20 {
         if a[i as usize] != 0 {
-            io::write_all(STDOUT_FILENO, b"refused by ");
-            io::print_decimal(STDOUT_FILENO, i as u64);
-            line(a, i, b": ");
+            refusal(rt, a, i)?;
         }
     }
+    Ok(())
 }
 
 // How often the row limit was met, and what went wrong.
-fn ends(a: &[u64; 48]) {
-    line(a, tally::EXACT, b"limits reached exactly: ");
+fn ends<R: Print>(rt: &R, a: &[u64; 48]) -> io::Result<()> {
+    line(rt, a, tally::EXACT, "limits reached exactly: ")?;
     line(
+        rt,
         a,
         tally::EXACT_BLOCKS,
-        b"limits reached exactly by blocks of 2 rows or more: ",
-    );
-    line(a, tally::MISMATCHES, b"mismatches: ");
+        "limits reached exactly by blocks of 2 rows or more: ",
+    )?;
+    line(rt, a, tally::MISMATCHES, "mismatches: ")?;
+    Ok(())
 }
 
-fn main() {
-    wrong::all();
+fn main(rt: HostRuntime) -> io::Result<()> {
+    wrong::all(&rt)?;
     let mut tally = [0u64; 48];
     all_cases(&mut tally);
-    cases(&tally);
-    blocks(&tally);
-    answers(&tally);
-    refusals(&tally);
-    ends(&tally);
+    cases(&rt, &tally)?;
+    blocks(&rt, &tally)?;
+    answers(&rt, &tally)?;
+    refusals(&rt, &tally)?;
+    ends(&rt, &tally)?;
+    Ok(())
 }

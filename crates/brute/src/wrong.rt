@@ -4,17 +4,14 @@ use crate::judge::Seen;
 use crate::plain::{Asked, Sums, Table, pair};
 use crate::record::Record;
 use crate::{calls, due, judge, plain, play, record, refused};
-use libc::STDOUT_FILENO;
 use rules::Pair;
+use std::io;
+use std::io::Print;
 use std::num::wrapping_add_u32;
 
-fn line(name: &[u8], reported: bool) {
-    io::write_all(STDOUT_FILENO, name);
-    if reported {
-        io::write_all(STDOUT_FILENO, b": reported\n");
-    } else {
-        io::write_all(STDOUT_FILENO, b": NOT REPORTED\n");
-    }
+fn line<R: Print>(rt: &R, name: &str, reported: bool) -> io::Result<()> {
+    let found = if reported { "reported" } else { "NOT REPORTED" };
+    println!(rt; "{name}: {found}")
 }
 
 // Three rows of these scores, the third far from the others by its last coordinate.
@@ -84,9 +81,10 @@ fn right() -> Seen {
 }
 
 // Says whether the comparer finds this fault.
-fn finds(name: &[u8], a: Asked, s: Seen, fault: u32) {
+fn finds<R: Print>(rt: &R, name: &str, a: Asked, s: Seen, fault: u32) -> io::Result<()> {
     let m = sums(a);
-    line(name, judge::fault(case(a, &m), &m, s) == fault);
+    line(rt, name, judge::fault(case(a, &m), &m, s) == fault)?;
+    Ok(())
 }
 
 // The right list with another pair at a place.
@@ -97,73 +95,108 @@ fn with_pair(i: u32, p: Pair) -> Seen {
     s
 }
 
-fn listed(name: &[u8], i: u32, p: Pair, fault: u32) {
-    finds(name, three(), with_pair(i, p), fault);
+fn listed<R: Print>(rt: &R, name: &str, i: u32, p: Pair, fault: u32) -> io::Result<()> {
+    finds(rt, name, three(), with_pair(i, p), fault)?;
+    Ok(())
 }
 
-fn wrong_pairs() {
-    listed(b"no such field row", 0, pair(16, 4, 1), judge::NO_ROW);
-    listed(b"no such trim row", 0, pair(16, 1, 0), judge::NO_ROW);
-    listed(b"too far apart", 1, pair(11, 1, 3), judge::TOO_FAR);
-    listed(b"another sum than its own", 0, pair(17, 1, 1), judge::SUM);
-    listed(b"a pair twice", 1, pair(16, 1, 1), judge::TWICE);
+fn wrong_pairs<R: Print>(rt: &R) -> io::Result<()> {
+    listed(rt, "no such field row", 0, pair(16, 4, 1), judge::NO_ROW)?;
+    listed(rt, "no such trim row", 0, pair(16, 1, 0), judge::NO_ROW)?;
+    listed(rt, "too far apart", 1, pair(11, 1, 3), judge::TOO_FAR)?;
+    listed(
+        rt,
+        "another sum than its own",
+        0,
+        pair(17, 1, 1),
+        judge::SUM,
+    )?;
+    listed(rt, "a pair twice", 1, pair(16, 1, 1), judge::TWICE)?;
+    Ok(())
 }
 
-fn wrong_order() {
-    listed(b"the best pair left out", 0, pair(13, 2, 2), judge::ORDER);
+fn wrong_order<R: Print>(rt: &R) -> io::Result<()> {
+    listed(
+        rt,
+        "the best pair left out",
+        0,
+        pair(13, 2, 2),
+        judge::ORDER,
+    )?;
     let mut swapped = with_pair(1, pair(14, 1, 2));
     swapped.given[2] = pair(15, 2, 1);
-    finds(b"sums out of order", three(), swapped, judge::ORDER);
-    listed(b"a pair too many", 3, pair(13, 2, 2), judge::ORDER);
+    finds(rt, "sums out of order", three(), swapped, judge::ORDER)?;
+    listed(rt, "a pair too many", 3, pair(13, 2, 2), judge::ORDER)?;
+    Ok(())
 }
 
 // On the new card, where the third rows are far from the others by L alone.
-fn wrong_light() {
+fn wrong_light<R: Print>(rt: &R) -> io::Result<()> {
     let a = asked(3, 3, 0, 0);
-    finds(b"a right list on the new card, no fault", a, right(), 0);
+    finds(rt, "a right list on the new card, no fault", a, right(), 0)?;
     let s = with_pair(1, pair(11, 1, 3));
-    finds(b"too far apart by L alone", a, s, judge::TOO_FAR);
+    finds(rt, "too far apart by L alone", a, s, judge::TOO_FAR)?;
+    Ok(())
 }
 
 // With tolerances 1 and 2, where equal shades may lie 3 and 3 apart, and with 2 and 2: 4 and 4.
-fn wrong_tolerance() {
+fn wrong_tolerance<R: Print>(rt: &R) -> io::Result<()> {
     let a = asked(2, 3, 1, 2);
-    finds(b"a right list of sure pairs, no fault", a, right(), 0);
+    finds(rt, "a right list of sure pairs, no fault", a, right(), 0)?;
     let none = asked(2, 3, 2, 2);
     let fault = judge::TOO_FAR;
-    finds(b"too far apart by the tolerances", none, right(), fault);
+    finds(rt, "too far apart by the tolerances", none, right(), fault)?;
+    Ok(())
 }
 
 // The first n pairs of the right list, an answer, and the one that was due.
-fn answered(name: &[u8], n: u32, said: u32, due: u32, fault: u32) {
+fn answered<R: Print>(
+    rt: &R,
+    name: &str,
+    n: u32,
+    said: u32,
+    due: u32,
+    fault: u32,
+) -> io::Result<()> {
     let mut s = right();
     s.count = n;
     s.said = said;
     s.due = due;
-    finds(name, three(), s, fault);
+    finds(rt, name, three(), s, fault)?;
+    Ok(())
 }
 
-fn wrong_answers() {
-    answered(b"finished too early", 2, FINISHED, GIVEN, judge::EARLY);
-    answered(b"finished too late", 3, NOT_YET, FINISHED, judge::LATE);
-    answered(b"given too early", 1, GIVEN, NOT_YET, judge::ANSWER);
-    answered(b"held back", 0, NOT_YET, GIVEN, judge::ANSWER);
-    answered(b"settled too early", 0, SETTLED, READ, judge::ANSWER);
-    answered(b"read on though settled", 0, READ, SETTLED, judge::ANSWER);
+fn wrong_answers<R: Print>(rt: &R) -> io::Result<()> {
+    answered(rt, "finished too early", 2, FINISHED, GIVEN, judge::EARLY)?;
+    answered(rt, "finished too late", 3, NOT_YET, FINISHED, judge::LATE)?;
+    answered(rt, "given too early", 1, GIVEN, NOT_YET, judge::ANSWER)?;
+    answered(rt, "held back", 0, NOT_YET, GIVEN, judge::ANSWER)?;
+    answered(rt, "settled too early", 0, SETTLED, READ, judge::ANSWER)?;
+    answered(
+        rt,
+        "read on though settled",
+        0,
+        READ,
+        SETTLED,
+        judge::ANSWER,
+    )?;
+    Ok(())
 }
 
-fn wrong_session() {
+fn wrong_session<R: Print>(rt: &R) -> io::Result<()> {
     let mut deep = right();
     deep.depth = 5;
-    finds(b"read too deep", three(), deep, judge::DEEP);
+    finds(rt, "read too deep", three(), deep, judge::DEEP)?;
     let mut other = right();
     other.record = judge::CHANGED;
     finds(
-        b"a record that is not as it should be",
+        rt,
+        "a record that is not as it should be",
         three(),
         other,
         judge::CHANGED,
-    );
+    )?;
+    Ok(())
 }
 
 // The record after n reads of these tables.
@@ -185,7 +218,14 @@ fn reads(n: u32) -> Record {
 
 // Says whether this fault is found in what the third read is to have given back: the record after n reads, with another
 // number at a place.
-fn third_read(name: &[u8], n: u32, at: usize, x: u32, fault: u32) {
+fn third_read<R: Print>(
+    rt: &R,
+    name: &str,
+    n: u32,
+    at: usize,
+    x: u32,
+    fault: u32,
+) -> io::Result<()> {
     let a = three();
     let m = sums(a);
     let s = reads(2);
@@ -193,52 +233,79 @@ fn third_read(name: &[u8], n: u32, at: usize, x: u32, fault: u32) {
     r[at % 209] = x;
     let z = pair(0, 0, 0);
     let found = judge::record_fault(case(a, &m), &m, &s, &r, READ, [z; 64]);
-    line(name, found == fault);
+    line(rt, name, found == fault)?;
+    Ok(())
 }
 
-fn wrong_records() {
-    third_read(b"a right record, no fault", 3, record::OUT, 0, 0);
+fn wrong_records<R: Print>(rt: &R) -> io::Result<()> {
+    third_read(rt, "a right record, no fault", 3, record::OUT, 0, 0)?;
     third_read(
-        b"a record with another count of pairs out",
+        rt,
+        "a record with another count of pairs out",
         3,
         record::OUT,
         1,
         judge::CHANGED,
-    );
+    )?;
     third_read(
-        b"a read that reads nothing",
+        rt,
+        "a read that reads nothing",
         2,
         record::OUT,
         0,
         judge::BLOCK,
-    );
-    third_read(b"another joined count", 3, record::JOINED, 9, judge::JOINED);
-    third_read(b"a held pair lost", 3, record::HELD, 2, judge::HELD);
-    third_read(b"another pair held", 3, record::PAIRS + 8, 1, judge::HELD);
+    )?;
+    third_read(
+        rt,
+        "another joined count",
+        3,
+        record::JOINED,
+        9,
+        judge::JOINED,
+    )?;
+    third_read(rt, "a held pair lost", 3, record::HELD, 2, judge::HELD)?;
+    third_read(
+        rt,
+        "another pair held",
+        3,
+        record::PAIRS + 8,
+        1,
+        judge::HELD,
+    )?;
+    Ok(())
 }
 
 // A query run whole, and one that asks for a pair less than it is judged by.
-fn wrong_query() {
+fn wrong_query<R: Print>(rt: &R) -> io::Result<()> {
     let f = field();
     let t = trim();
     let a = three();
     let right = play::at_once(calls::first(&f, 12), calls::first(&t, 12), a);
-    finds(b"a query run whole, no fault", a, right, 0);
+    finds(rt, "a query run whole, no fault", a, right, 0)?;
     let other = play::at_once(
         calls::first(&f, 12),
         calls::first(&t, 12),
         asked(2, 2, 0, 0),
     );
     finds(
-        b"a query run whole that lists too few",
+        rt,
+        "a query run whole that lists too few",
         a,
         other,
         judge::EARLY,
-    );
+    )?;
+    Ok(())
 }
 
 // Says whether this fault is found in an opening that is to be refused by a number and to give back this record.
-fn refusal(name: &[u8], k: u32, s: &Record, number: u32, fault: u32) {
+fn refusal<R: Print>(
+    rt: &R,
+    name: &str,
+    k: u32,
+    s: &Record,
+    number: u32,
+    fault: u32,
+) -> io::Result<()> {
     let f = field();
     let t = trim();
     let step = calls::open(
@@ -246,20 +313,36 @@ fn refusal(name: &[u8], k: u32, s: &Record, number: u32, fault: u32) {
         calls::first(&t, 12),
         asked(2, k, 0, 0),
     );
-    line(name, refused::kept(step, s, number) == fault);
+    line(rt, name, refused::kept(step, s, number) == fault)?;
+    Ok(())
 }
 
-fn wrong_refusals() {
+fn wrong_refusals<R: Print>(rt: &R) -> io::Result<()> {
     let zeros = [0u32; 209];
     let open = reads(0);
-    refusal(b"a right refusal, no fault", 0, &zeros, 1, 0);
-    refusal(b"refused by another number", 0, &zeros, 2, judge::REFUSAL);
-    refusal(b"not refused", 3, &open, 1, judge::REFUSAL);
-    refusal(b"refused, with another record", 0, &open, 1, judge::CHANGED);
+    refusal(rt, "a right refusal, no fault", 0, &zeros, 1, 0)?;
+    refusal(
+        rt,
+        "refused by another number",
+        0,
+        &zeros,
+        2,
+        judge::REFUSAL,
+    )?;
+    refusal(rt, "not refused", 3, &open, 1, judge::REFUSAL)?;
+    refusal(
+        rt,
+        "refused, with another record",
+        0,
+        &open,
+        1,
+        judge::CHANGED,
+    )?;
+    Ok(())
 }
 
 // As if the last of three reads had read nothing.
-fn wrong_shown() {
+fn wrong_shown<R: Print>(rt: &R) -> io::Result<()> {
     let f = field();
     let t = trim();
     let r = reads(3);
@@ -271,19 +354,21 @@ fn wrong_shown() {
         &r,
         READ,
     );
-    line(b"rows shown that were not read", found == judge::SHOWN);
+    line(rt, "rows shown that were not read", found == judge::SHOWN)?;
+    Ok(())
 }
 
-pub fn all() {
-    finds(b"a right list, no fault", three(), right(), 0);
-    wrong_pairs();
-    wrong_order();
-    wrong_light();
-    wrong_tolerance();
-    wrong_answers();
-    wrong_session();
-    wrong_records();
-    wrong_query();
-    wrong_refusals();
-    wrong_shown();
+pub fn all<R: Print>(rt: &R) -> io::Result<()> {
+    finds(rt, "a right list, no fault", three(), right(), 0)?;
+    wrong_pairs(rt)?;
+    wrong_order(rt)?;
+    wrong_light(rt)?;
+    wrong_tolerance(rt)?;
+    wrong_answers(rt)?;
+    wrong_session(rt)?;
+    wrong_records(rt)?;
+    wrong_query(rt)?;
+    wrong_refusals(rt)?;
+    wrong_shown(rt)?;
+    Ok(())
 }

@@ -16,11 +16,6 @@ use Rattle.rules.specs.File.{file_table, wanted, check_file, and_slice, loaded_i
 use Rattle.rules.specs.Tables.{table, width, HasRows, after_rows}
 use Rattle.file_laws.specs.Accepted.{unfit_rows}
 
-pub unfit_stays : (n room : ℕ) (x : Loaded) → IsUnfit x → x ≡ and_slice n room x
-unfolding and_slice
-unfit_stays n room (Rows m) h = not_rows m h
-unfit_stays n room (Unfit code row) h = refl
-
 module _ (bytes : List ℕ) (kind : ℤ) (lent : List ℤ) where
   ends : (x : Loaded) → x ≡ and_slice (wanted kind) (length lent) (check_file bytes kind) →
       (x ≡ load_answer bytes kind lent) × (loaded_into (wanted kind) bytes lent x ≡ load_numbers bytes kind lent)
