@@ -12,8 +12,10 @@ use Rattle.rules.specs.Take.{first_held, moved_out, gives_pair, finished}
 use Rattle.rules.specs.Numbers.{list_length, block_size, radius_range, weight_range, table_size, bad_record, row_limit}
 use Rattle.rules.specs.Numbers.{row_order, wrong_kind, other_card, tolerance_range, IsRefusal, first, said, refusal}
 use Rattle.rules.specs.Calls.{step, between, most_tolerance, is_card, query_code, size_code, same_size_code, row_code}
-use Rattle.rules.specs.Calls.{rows_code, record_fits, record_code, lent_code, call_code, new_block_code_by, new_block_code}
-use Rattle.rules.specs.Calls.{kind_code, cards_code, open_code, open_call, read_call_by, read_call, take_call_by, take_call}
+use Rattle.rules.specs.Calls.{rows_code, record_fits, record_code, lent_code, call_code, new_block_code_by}
+use Rattle.rules.specs.Calls.{new_block_code}
+use Rattle.rules.specs.Calls.{kind_code, cards_code, open_code, open_call, read_call_by, read_call, take_call_by}
+use Rattle.rules.specs.Calls.{take_call}
 use Rattle.rules.specs.Checks.{unless_refusal, first_refusal}
 
 -- ---- The codes
@@ -125,7 +127,8 @@ pub open_refusal : (q : Query) (f t : Table) → Numbered (open_call q f t)
 unfolding open_call
 open_refusal q f t =
     let accepted = step Opened (opened q (two_tables f t)) in
-    either (eqb (open_code q f t) 0) accepted (step (Refused (open_code q f t)) zeros) (omega arith) (open_code_lem q f t)
+    either (eqb (open_code q f t) 0) accepted (step (Refused (open_code q f t)) zeros) (omega arith)
+    (open_code_lem q f t)
 
 pub read_refusal : (f t : Table) (s : Session) → Numbered (read_call f t s)
 unfolding read_call_by

@@ -41,7 +41,8 @@ put_all_sort room l [] o h =
 put_all_sort room l (p ∷ m) o h =
     let next = take room (ins ahead p l) in
     let sorted : sort ahead (p ∷ l) ≡ ins ahead p l = ap (ins ahead p) (Sorts.ordered_sort ahead l o) in
-    put_all_sort room next m (Sorts.take_ordered ahead room (ins ahead p l) (Sorts.ins_ordered ahead ahead_strict p l o))
+    put_all_sort room next m
+    (Sorts.take_ordered ahead room (ins ahead p l) (Sorts.ins_ordered ahead ahead_strict p l o))
     (few room (ins ahead p l))
     ∙ ap (λ (r : List Pair). take room (sort ahead (take room r ++ m))) (sym sorted)
     ∙ Sorts.take_sort_append ahead ahead_strict room (p ∷ l) m

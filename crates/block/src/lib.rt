@@ -27,7 +27,8 @@ pub fn join(
     held: usize,
 ) -> usize
     requires held_le_room { (held ≤ room) × (room ≤ 64) × (length keys.old ≡ 64) }
-    requires query_fits { QueryFits q × (is_card n ≡ true) × RowsPassed a (table n x.now) × RowsPassed c (table n y.now) }
+    requires query_fits { QueryFits q × (is_card n ≡ true) × RowsPassed a (table n x.now)
+        × RowsPassed c (table n y.now) }
     ensures { Joined (terms q) room (at a (table n x.now)) (at c (table n y.now)) held
         keys.old result keys.new }
 {

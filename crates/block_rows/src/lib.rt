@@ -23,7 +23,8 @@ pub fn pair_at(
     c: usize,
     j: usize,
 ) -> Pair
-    requires query_fits { QueryFits q × (row_in_range (table n x.now) i ≡ true) × (row_in_range (table n y.now) j ≡ true) }
+    requires query_fits { QueryFits q × (row_in_range (table n x.now) i ≡ true)
+        × (row_in_range (table n y.now) j ≡ true) }
     requires has_row { HasRow (table n x.now) i × HasRow (table n y.now) j
         × (a + i < most_rows) × (c + j < most_rows) }
     ensures { (result ≡ pair_at (terms q) (at a (table n x.now)) (at c (table n y.now)) i j)

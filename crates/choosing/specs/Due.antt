@@ -1,6 +1,8 @@
 -- What an unsettled read knows once its checks have passed. Assumes nothing.
-use Rattle.std.specs.Prelude.{◌≡◌, refl, Bool, true, false, cond, ◌&&◌, List, [], ◌∷◌, ◌++◌, ℕ, ◌+◌, ◌-◌, ◌/◌, ◌≤◌, ◌<◌, eqb, length, drop, replicate}
-use Rattle.std.proofs.Common.{sym, ap₂, subst, ◌∙◌, div-lt_iff_lt-mul, mul-le-mul, arith, length-drop, take-append-drop, length-take-le, eqb-true}
+use Rattle.std.specs.Prelude.{◌≡◌, refl, Bool, true, false, cond, ◌&&◌, List, [], ◌∷◌, ◌++◌, ℕ, ◌+◌, ◌-◌, ◌/◌, ◌≤◌, ◌<◌}
+use Rattle.std.specs.Prelude.{eqb, length, drop, replicate}
+use Rattle.std.proofs.Common.{sym, ap₂, subst, ◌∙◌, div-lt_iff_lt-mul, mul-le-mul, arith, length-drop, take-append-drop}
+use Rattle.std.proofs.Common.{length-take-le, eqb-true}
 use Rattle.std.proofs.Math.Path.{ap}
 use Rattle.lists.specs.Lists.{every}
 use Rattle.lists.specs.Sorts.{ranked_ordered}
@@ -138,7 +140,8 @@ module _ (f t : Table) (s : Session) (b : Bool) where
       (omega (arith, d.left), omega (arith, d.few), rows_less (cond b f t) (new_depth b s) (own_rows b s) low d.rows)
 
   -- what 6 and 7 say of it is the rule's
-  pub code_is : b ≡ field_next f t s → (own : Table) (d e : ℕ) → own ≡ cond b f t → d ≡ old_depth b s → e ≡ new_depth b s
+  pub code_is : b ≡ field_next f t s → (own : Table) (d e : ℕ) → own ≡ cond b f t → d ≡ old_depth b s → e
+      ≡ new_depth b s
       → rows_code own d (e - d) ≡ new_block_code f t s
   unfolding new_block_code_by
   code_is next own d e x y z =

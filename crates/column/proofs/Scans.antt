@@ -93,7 +93,8 @@ module _ (b : ℕ) (l : List ℕ) (d : is_digit b ≡ true) (short : length l �
 
 -- where all are digits, what they are worth tells whether the first is 0
 told : (m : Bool) (b : ℕ) (l : List ℕ) → is_digit b ≡ true → length l ≤ 6 →
-    cond (every is_digit l) (digits_held m (suc (length l)) (place_value_at (length l) * (b - 48) + by_places l)) unfit ≡
+    cond (every is_digit l) (digits_held m (suc (length l)) (place_value_at (length l) * (b - 48) + by_places l)) unfit
+    ≡
     number_held m (b ∷ l)
 unfolding number_held by_places digits_fit every
 told m b [] d h =
@@ -198,7 +199,8 @@ module _ (signed : Bool) where
       p : ℕ
       p = place_value_at (length l)
 
-      go : (t : Bool) → is_digit b ≡ t → held_of (scanned signed (stepped signed p at_minus b) l) ≡ number_held true (b ∷ l)
+      go : (t : Bool) → is_digit b ≡ t → held_of (scanned signed (stepped signed p at_minus b) l)
+          ≡ number_held true (b ∷ l)
       go true d =
           let same : 0 + p * (b - 48) ≡ p * (b - 48) = omega arith in
           ap (λ (s : Scan). held_of (scanned signed s l)) (digit_step p at_minus b d refl ∙ ap (in_digits true 1) same)

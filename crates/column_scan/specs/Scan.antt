@@ -1,5 +1,6 @@
 -- How a column's bytes are gone through, one after the other. Definitions only. Assumes nothing.
-use Rattle.std.specs.Prelude.{ℕ, ◌+◌, ◌*◌, ◌-◌, ◌%◌, Bool, false, cond, ◌&&◌, ◌||◌, not, List, [], ◌∷◌, eqb, length, take, drop}
+use Rattle.std.specs.Prelude.{ℕ, ◌+◌, ◌*◌, ◌-◌, ◌%◌, Bool, false, cond, ◌&&◌, ◌||◌, not, List, [], ◌∷◌, eqb, length}
+use Rattle.std.specs.Prelude.{take, drop}
 use mir.Val.{bool_byte}
 use Rattle.rules.specs.File.{blank, minus_sign, is_digit}
 use Rattle.file_laws.specs.Places.{place_value_at}

@@ -19,7 +19,8 @@ use Rattle.rules.specs.Session.{two_tables, settled}
 use Rattle.rules.specs.Read.{read_block}
 use Rattle.rules.specs.Take.{first_held, gives_pair, moved_out, finished}
 use Rattle.rules.specs.Numbers.{said}
-use Rattle.rules.specs.Calls.{query_code, call_code, new_block_code, step, open_call, read_call_by, read_call, take_call_by}
+use Rattle.rules.specs.Calls.{query_code, call_code, new_block_code, step, open_call, read_call_by, read_call}
+use Rattle.rules.specs.Calls.{take_call_by}
 use Rattle.rules.specs.Calls.{take_call}
 use Rattle.session_laws.specs.Calls.{OneCard, legal_opened, call_accepted, new_block_accepted}
 use Rattle.session_laws.specs.Read.{rows_read}

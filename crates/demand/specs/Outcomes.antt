@@ -49,7 +49,8 @@ module _ (f t : Table) (s : Session) where
           (cond x (cond y (step Settled s) (cond z (step Read (read_block f t s)) (refused_by (new_block_code f t s))))
           (refused_by (call_code f t s)))
       go true true z a b c = settling refl (eqb-true (call_code f t s) 0 a) b refl
-      go true false true a b c = going refl (eqb-true (call_code f t s) 0 a) b (eqb-true (new_block_code f t s) 0 c) refl
+      go true false true a b c = going refl (eqb-true (call_code f t s) 0 a) b (eqb-true (new_block_code f t s) 0 c)
+          refl
       go true false false a b c = refused (new_block_code f t s) refl
       go false y z a b c = refused (call_code f t s) refl
 

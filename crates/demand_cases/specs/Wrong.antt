@@ -1,6 +1,7 @@
 -- Wrong rules, each a twin of the right one, and the part of demand 3 that it breaks on tables of a few rows. Assumes
 -- nothing.
-use Rattle.std.specs.Prelude.{◌≡◌, refl, Bool, true, false, cond, [], ℕ, zero, suc, ◌+◌, ◌-◌, ◌≤◌, ◌<◌, max, eqb, ltb, leb, pos}
+use Rattle.std.specs.Prelude.{◌≡◌, refl, Bool, true, false, cond, [], ℕ, zero, suc, ◌+◌, ◌-◌, ◌≤◌, ◌<◌, max, eqb, ltb}
+use Rattle.std.specs.Prelude.{leb, pos}
 use Rattle.std.proofs.Common.{arith, lit<, lit≤}
 use Rattle.lists.specs.Lists.{at_least}
 use Rattle.rules.specs.declared.Query.{Query}
@@ -62,7 +63,8 @@ rows_by rule q f t =
 -- the pair that matters is field row 1 with trim row 2, and trim scores lie below all field scores
 abbrev high_fields : Table
 high_fields =
-    row_then (pos 100) (pos 0) (row_then (pos 90) (pos 7) (row_then (pos 80) (pos 7) (row_then (pos 70) (pos 7) no_rows)))
+    row_then (pos 100) (pos 0)
+    (row_then (pos 90) (pos 7) (row_then (pos 80) (pos 7) (row_then (pos 70) (pos 7) no_rows)))
 
 abbrev low_trims : Table
 low_trims = row_then (pos 10) (pos 9) (row_then (pos 9) (pos 0) (row_then (pos 8) (pos 9) no_rows))
@@ -80,7 +82,8 @@ last_score_breaks_limit = (sure_low, lit< tt, refl)
 
 -- a plateau of equal scores in the field table
 abbrev plateau : Table
-plateau = row_then (pos 5) (pos 0) (row_then (pos 5) (pos 7) (row_then (pos 5) (pos 7) (row_then (pos 5) (pos 7) no_rows)))
+plateau = row_then (pos 5) (pos 0)
+    (row_then (pos 5) (pos 7) (row_then (pos 5) (pos 7) (row_then (pos 5) (pos 7) no_rows)))
 
 abbrev level : Table
 level = row_then (pos 5) (pos 9) (row_then (pos 5) (pos 0) (row_then (pos 5) (pos 9) no_rows))

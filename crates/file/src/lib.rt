@@ -60,7 +60,8 @@ fn put_row(n: u32, bytes: &[u8], o: usize, out: &mut [i32], p: usize)
 
 // The first `count` rows, which fit, written from the front of `out`.
 fn put_rows(n: u32, bytes: &[u8], count: usize, out: &mut [i32])
-    requires count_le_most_rows { (count ≤ most_rows) × (row_start n count ≤ length bytes.now) × HasRows (table n out.old) count }
+    requires count_le_most_rows { (count ≤ most_rows) × (row_start n count ≤ length bytes.now)
+        × HasRows (table n out.old) count }
     requires rows_fit { RowsFit n bytes.now count }
     ensures { out.new
         ≡ (file_table n bytes.now count).numbers ++ (after_rows count (table n out.old)).numbers }

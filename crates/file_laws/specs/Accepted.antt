@@ -65,9 +65,11 @@ pub record RowPassed (bytes : List ℕ) (t : Table) (i : ℕ) : Type 0 where
 pub row_passed : (bytes : List ℕ) (t : Table) (i : ℕ) → file_row_code bytes t i ≡ 0 → RowPassed bytes t i
 unfolding file_row_code row_code
 row_passed bytes t i e =
-    let passed : (j : ℕ) → get_or (unless (row_columns_fit t.coordinates bytes i) bad_column ∷ row_code t i ∷ []) j 0 ≡ 0 =
+    let passed : (j : ℕ) → get_or (unless (row_columns_fit t.coordinates bytes i) bad_column ∷ row_code t i ∷ []) j 0
+    ≡ 0 =
     first_out (unless (row_columns_fit t.coordinates bytes i) bad_column ∷ row_code t i ∷ []) e in
-    let row : (j : ℕ) → get_or (unless (row_in_range t i) row_limit ∷ unless (row_in_order t i) row_order ∷ []) j 0 ≡ 0 =
+    let row : (j : ℕ) → get_or (unless (row_in_range t i) row_limit ∷ unless (row_in_order t i) row_order ∷ []) j 0
+    ≡ 0 =
     first_out (unless (row_in_range t i) row_limit ∷ unless (row_in_order t i) row_order ∷ []) (passed 1) in
     record {
       columns = unless_out (row_columns_fit t.coordinates bytes i) bad_column (omega arith) (passed 0);

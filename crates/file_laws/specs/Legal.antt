@@ -1,6 +1,7 @@
 -- An accepted file's rows are legal; a file is accepted for at most one kind; the check alone and the
 -- reading with a long enough slice agree. Assumes nothing.
-use Rattle.std.specs.Prelude.{◌≡◌, refl, Bool, true, false, ◌&&◌, List, ℕ, zero, suc, ◌+◌, ◌*◌, ◌%◌, ◌≤◌, ◌<◌, leb, ltb, eqb, ℤ, pos, negsuc, length}
+use Rattle.std.specs.Prelude.{◌≡◌, refl, Bool, true, false, ◌&&◌, List, ℕ, zero, suc, ◌+◌, ◌*◌, ◌%◌, ◌≤◌, ◌<◌, leb, ltb}
+use Rattle.std.specs.Prelude.{eqb, ℤ, pos, negsuc, length}
 use Rattle.std.proofs.Common.{sym, ap, ◌∙◌, arith, le-leb, le-ltb, leb-true, eqb-true}
 use Rattle.lists.specs.Lists.{every, range}
 use Rattle.rules.specs.declared.Loaded.{Loaded}
@@ -51,10 +52,12 @@ one_kind bytes j k n m h l =
         let some = and_left (leb 1 (nat_of x)) (leb (nat_of x) 4)
         (and_left (between 1 4 (nat_of x)) (eqb (file_kind bytes) (nat_of x)) f) in (
           leb-true 1 (nat_of x) some,
-          eqb-true (file_kind bytes) (nat_of x) (and_right (between 1 4 (nat_of x)) (eqb (file_kind bytes) (nat_of x)) f),
+          eqb-true (file_kind bytes) (nat_of x)
+              (and_right (between 1 4 (nat_of x)) (eqb (file_kind bytes) (nat_of x)) f),
         )
 
-    same : (x y : ℤ) → (1 ≤ nat_of x) × (file_kind bytes ≡ nat_of x) → (1 ≤ nat_of y) × (file_kind bytes ≡ nat_of y) → x ≡ y
+    same : (x y : ℤ) → (1 ≤ nat_of x) × (file_kind bytes ≡ nat_of x) → (1 ≤ nat_of y) × (file_kind bytes ≡ nat_of y)
+        → x ≡ y
     same (pos a) (pos b) p q = ap pos (omega arith)
     same (pos a) (negsuc b) p q = absurd (omega arith)
     same (negsuc a) y p q = absurd (omega arith)

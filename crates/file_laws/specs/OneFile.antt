@@ -1,6 +1,8 @@
 -- Two different accepted files of the same kind give different rows. Assumes nothing.
-use Rattle.std.specs.Prelude.{◌≡◌, refl, Bool, true, false, cond, List, [], ◌∷◌, ◌++◌, eqb, ℤ, pos, neg_ℤ, length, get_or}
-use Rattle.std.proofs.Common.{sym, ap₂, ◌∙◌, add-zero, take-append-drop, length-drop, drop_of_length-le, drop-drop, drop-cons, length-take-le, eqb-true}
+use Rattle.std.specs.Prelude.{◌≡◌, refl, Bool, true, false, cond, List, [], ◌∷◌, ◌++◌, eqb, ℤ, pos, neg_ℤ, length}
+use Rattle.std.specs.Prelude.{get_or}
+use Rattle.std.proofs.Common.{sym, ap₂, ◌∙◌, add-zero, take-append-drop, length-drop, drop_of_length-le, drop-drop}
+use Rattle.std.proofs.Common.{drop-cons, length-take-le, eqb-true}
 use Rattle.std.proofs.Math.Path.{ap}
 use Prim.Native.Nat.{ℕ, zero, suc, ◌+◌, ◌≤◌, ◌<◌}
 use native.Mathlib.Omega.{arith}
@@ -84,7 +86,8 @@ module _ (l k : List ℕ) where
   same_rows n m h g fit same zero i e =
       let end : i ≡ m = omega arith in
       let all : row_start n i ≡ row_start n m = ap (row_start n) end in
-      drop_of_length-le l {i = row_start n i} (omega arith) ∙ sym (drop_of_length-le k {i = row_start n i} (omega arith))
+      drop_of_length-le l {i = row_start n i} (omega arith)
+      ∙ sym (drop_of_length-le k {i = row_start n i} (omega arith))
   same_rows n m h g fit same (suc left) i e =
       let s : i < m = omega arith in
       let row = fit i s in

@@ -27,7 +27,8 @@ pub record RowBytesFit (n : ℕ) (bytes : List ℕ) (o : ℕ) : Type 0 where
   pub column : (j : ℕ) → j < width n → column_fits_at bytes o j ≡ true
   pub end : ends_line bytes (o + column_start (width n)) ≡ true
 
-pub row_parts : (n : ℕ) (bytes : List ℕ) (i : ℕ) → row_columns_fit n bytes i ≡ true → RowBytesFit n bytes (row_start n i)
+pub row_parts : (n : ℕ) (bytes : List ℕ) (i : ℕ) → row_columns_fit n bytes i ≡ true
+    → RowBytesFit n bytes (row_start n i)
 unfolding row_columns_fit
 row_parts n bytes i f =
     let o = row_start n i in

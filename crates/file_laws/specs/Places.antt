@@ -1,6 +1,7 @@
 -- Place values, in a table: 1 to 1,000,000. Each is ten times the one before, and a column's number is the sum of its
 -- digits times their entries, the last digit times entry 0, negative after a minus. Assumes nothing.
-use Rattle.std.specs.Prelude.{◌≡◌, refl, Bool, true, false, cond, List, [], ◌∷◌, ℕ, zero, suc, ◌+◌, ◌*◌, ◌-◌, ◌^◌, ◌≤◌, ◌<◌, eqb, pos, neg_ℤ, length, get_or}
+use Rattle.std.specs.Prelude.{◌≡◌, refl, Bool, true, false, cond, List, [], ◌∷◌, ℕ, zero, suc, ◌+◌, ◌*◌, ◌-◌, ◌^◌, ◌≤◌}
+use Rattle.std.specs.Prelude.{◌<◌, eqb, pos, neg_ℤ, length, get_or}
 use Rattle.std.proofs.Common.{◌∙◌, pow-suc, arith, eqb-true}
 use Rattle.lists.specs.Lists.{every, range}
 use Rattle.lists.specs.Parts.{every_at, mem_range}

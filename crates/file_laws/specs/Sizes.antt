@@ -1,5 +1,6 @@
 -- What numbers an answer can have. Assumes nothing.
-use Rattle.std.specs.Prelude.{◌≡◌, refl, Bool, true, false, cond, List, [], ◌∷◌, ℕ, zero, suc, ◌+◌, ◌*◌, ◌≤◌, leb, ltb, eqb, ℤ, length, drop}
+use Rattle.std.specs.Prelude.{◌≡◌, refl, Bool, true, false, cond, List, [], ◌∷◌, ℕ, zero, suc, ◌+◌, ◌*◌, ◌≤◌, leb, ltb}
+use Rattle.std.specs.Prelude.{eqb, ℤ, length, drop}
 use Rattle.std.proofs.Common.{subst, arith, eqb-true}
 use Rattle.std.proofs.lemmas.Bool.{eqb-false}
 use Rattle.rules.specs.declared.Loaded.{Loaded}
@@ -32,7 +33,8 @@ head_refusal : (bytes : List ℕ) (kind : ℤ) → IsRefusal (head_code bytes ki
 unfolding head_code
 head_refusal bytes kind =
     let rest : ℕ → List ℕ = λ i. drop i (head_checks bytes kind) in
-    let size = unless_refusal (eqb (length bytes) (row_start (wanted kind) (file_count bytes))) cut_file (omega arith) in
+    let size = unless_refusal (eqb (length bytes) (row_start (wanted kind) (file_count bytes))) cut_file (omega arith)
+    in
     let count = check_refusal (leb (file_count bytes) most_rows) table_size (rest 4) (omega arith) size in
     let kinds = check_refusal (kind_fits bytes kind) wrong_kind (rest 3) (omega arith) count in
     let columns = check_refusal (header_fits bytes) bad_column (rest 2) (omega arith) kinds in
@@ -42,7 +44,8 @@ row_refusal : (bytes : List ℕ) (t : Table) (i : ℕ) → IsRefusal (file_row_c
 unfolding file_row_code row_code
 row_refusal bytes t i =
     let order = unless_refusal (row_in_order t i) row_order (omega arith) in
-    let row = check_refusal (row_in_range t i) row_limit (unless (row_in_order t i) row_order ∷ []) (omega arith) order in
+    let row = check_refusal (row_in_range t i) row_limit (unless (row_in_order t i) row_order ∷ []) (omega arith) order
+    in
     check_refusal (row_columns_fit t.coordinates bytes i) bad_column (row_code t i ∷ []) (omega arith) row
 
 -- ---- What is told of the rows, of a file, and of a file with a slice
@@ -53,7 +56,8 @@ refused_told n code row h l e = let some = eqb-false code 0 e in (h, l, omega ar
 row_told : (bytes : List ℕ) (t : Table) (n : ℕ) (x : Loaded) → Told n x → Told (suc n) (and_row bytes t n x)
 unfolding and_row
 row_told bytes t n (Unfit code row) h = told_more n (suc n) (Unfit code row) (omega arith) h
-row_told bytes t n (Rows m) h = go (file_row_code bytes t n) (row_refusal bytes t n) (eqb (file_row_code bytes t n) 0) refl
+row_told bytes t n (Rows m) h = go (file_row_code bytes t n) (row_refusal bytes t n) (eqb (file_row_code bytes t n) 0)
+    refl
   where
     go : (code : ℕ) → IsRefusal code → (b : Bool) → eqb code 0 ≡ b →
         Told (suc n) (cond b (Rows (n + 1)) (Unfit code (n + 1)))

@@ -43,7 +43,8 @@ module _ (n : ℕ) (bytes : List ℕ) where
   row_length i = length_map_range (number_at bytes (row_start n i)) 0 (width n)
 
   -- number j of a row
-  pub row_number : (i j : ℕ) → j < width n → get_or (row_numbers n bytes i) j (pos 0) ≡ number_at bytes (row_start n i) j
+  pub row_number : (i j : ℕ) → j < width n → get_or (row_numbers n bytes i) j (pos 0)
+      ≡ number_at bytes (row_start n i) j
   unfolding row_numbers
   row_number i j h =
       map_range_at (number_at bytes (row_start n i)) 0 (width n) j (pos 0) h

@@ -67,7 +67,8 @@ order_is : (t : Table) (i : ℕ) (before : ℤ) → ((i ≡ 0 → ⊥) → befor
 unfolding row_in_order
 order_is t i before known = go (eqb i 0) refl
   where
-    go : (f : Bool) → eqb i 0 ≡ f → (eqb i 0 || le_z (num t i 1) before) ≡ (eqb i 0 || le_z (num t i 1) (num t (i - 1) 1))
+    go : (f : Bool) → eqb i 0 ≡ f → (eqb i 0 || le_z (num t i 1) before)
+        ≡ (eqb i 0 || le_z (num t i 1) (num t (i - 1) 1))
     go true f = simp f
     go false f = ap (λ (z : ℤ). eqb i 0 || le_z (num t i 1) z) (known (eqb-false i 0 f))
 

@@ -1,6 +1,7 @@
 // One whole query over two lent tables of up to 65,535 rows.
 ghost use Rattle.std.specs.Prelude.{◌≡◌};
-ghost use Rattle.whole_query.specs.Asked.{lent_query_answer, lent_query_numbers, lent_listing_answer, lent_listing_bytes};
+ghost use Rattle.whole_query.specs.Asked.{lent_query_answer, lent_query_numbers, lent_listing_answer};
+ghost use Rattle.whole_query.specs.Asked.{lent_listing_bytes};
 
 // `query` holds k, block and radius; then, if they are lent, the two weights, the two kinds, the two tolerances and the
 // meaning, 0 possibly and any other number surely. From the front `out` gets the field rows read, the trim rows read,

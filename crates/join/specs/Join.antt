@@ -1,6 +1,7 @@
 -- Two tables read from the top, a test on their rows, and what a reading of p and q rows says of the highest sums.
 -- Definitions only. Assumes nothing.
-use Rattle.std.specs.Prelude.{ℕ, suc, ◌+◌, ◌-◌, ◌≤◌, ◌<◌, max, ◌≡◌, Bool, true, false, cond, ◌&&◌, ◌||◌, List, [], ◌∷◌, ◌++◌, map, ◌⊎◌, leb, length, take, get_or}
+use Rattle.std.specs.Prelude.{ℕ, suc, ◌+◌, ◌-◌, ◌≤◌, ◌<◌, max, ◌≡◌, Bool, true, false, cond, ◌&&◌, ◌||◌, List, [], ◌∷◌}
+use Rattle.std.specs.Prelude.{◌++◌, map, ◌⊎◌, leb, length, take, get_or}
 use Rattle.lists.specs.Lists.{keep, each, at_least, best}
 
 -- what the join knows of one of its tables, whose rows are of type A

@@ -1,7 +1,9 @@
 -- The laws of the join hold of plain tables. Assumes that a row may stand in each, and that each good row has its like
 -- at the other table's places.
-use Rattle.std.specs.Prelude.{◌≡◌, refl, Bool, true, false, List, [], ◌∷◌, ◌++◌, ℕ, zero, suc, ◌-◌, ◌≤◌, ◌<◌, min, ltb, length, take}
-use Rattle.std.proofs.Common.{sym, ap, subst, subst₂, ◌∙◌, arith, length-append, length-take, get_or-take, length-take-le}
+use Rattle.std.specs.Prelude.{◌≡◌, refl, Bool, true, false, List, [], ◌∷◌, ◌++◌, ℕ, zero, suc, ◌-◌, ◌≤◌, ◌<◌, min, ltb}
+use Rattle.std.specs.Prelude.{length, take}
+use Rattle.std.proofs.Common.{sym, ap, subst, subst₂, ◌∙◌, arith, length-append, length-take, get_or-take}
+use Rattle.std.proofs.Common.{length-take-le}
 use Rattle.std.proofs.Math.ListN.{get_or, get_or-append}
 use Rattle.std.proofs.lemmas.List.{get_or_at}
 use borrow.Author.Tests.{leb-true, leb-false, le-leb, ltb-true, ltb-false}

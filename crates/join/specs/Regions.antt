@@ -96,7 +96,8 @@ module _ {A B : Type 0} (S : Side A) (U : Side B) (qual : A → B → Bool) wher
 
 module _ {A B : Type 0} (S : Side A) (U : Side B) (qual : A → B → Bool) (c : ℕ) where
   -- the order of the tables does not count
-  pub count_swap : (F : List A) (T : List B) → at_least c (sums_of U S (flip qual) T F) ≡ at_least c (sums_of S U qual F T)
+  pub count_swap : (F : List A) (T : List B) → at_least c (sums_of U S (flip qual) T F)
+      ≡ at_least c (sums_of S U qual F T)
   unfolding hit
   count_swap F T =
       count_hits U S (flip qual) c T F

@@ -165,7 +165,8 @@ module _ {A B : Type 0} (S : Side A) (U : Side B) (qual : A → B → Bool) (law
   -- fewer than k are there
   row_tells : (k c : ℕ) (F : List A) (p : ℕ) (T T' : List B) (q : ℕ) (x : A) → S.Legal F → Begins U q T T'
       → S.ended F p ≡ false → S.Legal (take p F ++ x ∷ []) → 1 ≤ length T' → qual x (row_at U T' 0) ≡ true
-      → c ≤ S.weight x + first_weight U T' → at_least c (sums_of S U qual (take p F) T') < k → Sure S U qual k F p T q → ⊥
+      → c ≤ S.weight x + first_weight U T' → at_least c (sums_of S U qual (take p F) T') < k → Sure S U qual k F p T q
+      → ⊥
   row_tells k c F p T T' q x f d e g r y h n s =
       let alone = begins_take p p F f (omega arith) in
       let more = begins_more p F x e g in

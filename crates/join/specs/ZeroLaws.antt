@@ -174,7 +174,8 @@ module _ {A B : Type 0} (R : Rows A) (Q : Rows B) (qual : A → B → Bool) (mat
       ap (λ i. R.weight (get_or l i R.blank)) e
 
   partner : (l : List A) (n : ℕ) (m : List B) (j : ℕ) → PlainLegal R l → PlainLegal Q m
-      → (falling R).ended l n ≡ false → 1 ≤ j → (falling Q).empty m j ≡ false → Partner (falling R) (falling Q) qual l n m
+      → (falling R).ended l n ≡ false → 1 ≤ j → (falling Q).empty m j ≡ false
+      → Partner (falling R) (falling Q) qual l n m
   unfolding weight_at
   partner l n m j g g' e h k =
       let x : A = mate l n in

@@ -44,7 +44,8 @@ module _ (n room : ℕ) (p : Pair) (a : List ℕ) (asked : Narrow p × (n ≤ ro
       by_keys (n + 1) b (omega arith) g
       (e ∙ ap (λ (j : ℕ). insert_at j k (take n a)) found ∙ sym (all_kept room k (take n a) (omega (arith, held_long))))
 
-  pub replaced : (b : List ℕ) → length b ≡ 64 → room ≤ n → i < room → take (n - 1 + 1) b ≡ insert_at i k (take (n - 1) a)
+  pub replaced : (b : List ℕ) → length b ≡ 64 → room ≤ n → i < room → take (n - 1 + 1) b
+      ≡ insert_at i k (take (n - 1) a)
       → Put n room p a n b
   replaced b g h j e =
       let m = n - 1 in

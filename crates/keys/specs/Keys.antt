@@ -1,5 +1,6 @@
 -- A pair is read off its number, and numbers stand in the order of their pairs. Assumes nothing.
-use Rattle.std.specs.Prelude.{ℕ, zero, suc, ◌+◌, ◌*◌, ◌-◌, ◌/◌, ◌%◌, ◌<◌, ◌≡◌, refl, Bool, true, false, cond, List, [], ◌∷◌, map, ltb, length, get_or, take}
+use Rattle.std.specs.Prelude.{ℕ, zero, suc, ◌+◌, ◌*◌, ◌-◌, ◌/◌, ◌%◌, ◌<◌, ◌≡◌, refl, Bool, true, false, cond, List, []}
+use Rattle.std.specs.Prelude.{◌∷◌, map, ltb, length, get_or, take}
 use Rattle.std.proofs.Common.{sym, ap, ◌∙◌, ⊎_elim, arith, lt-ltb, le-ltb}
 use Rattle.lists.specs.Lists.{ins}
 use Rattle.lists.specs.Words.{All}
@@ -102,7 +103,8 @@ map_at (p ∷ l) zero h = refl
 map_at (p ∷ l) (suc i) h = map_at l i (omega arith)
 
 -- the key at i, and its pair
-pub key_at : (l : List Pair) (ks : List ℕ) (i : ℕ) → Keyed l ks → i < length l → get_or ks i 0 ≡ key_of (get_or l i no_pair)
+pub key_at : (l : List Pair) (ks : List ℕ) (i : ℕ) → Keyed l ks → i < length l → get_or ks i 0
+    ≡ key_of (get_or l i no_pair)
 key_at l ks i h k = ap (λ (r : List ℕ). get_or r i 0) h.keys ∙ map_at l i k
 
 pub keyed_at : (l : List Pair) (ks : List ℕ) (i : ℕ) → Keyed l ks → i < length l

@@ -1,6 +1,8 @@
 -- A record's pair places read off the numbers of the pairs held. Assumes nothing.
-use Rattle.std.specs.Prelude.{ℕ, zero, suc, ◌+◌, ◌-◌, ◌≤◌, ◌<◌, ◌≡◌, refl, Bool, true, false, cond, List, [], ◌∷◌, ◌++◌, map, ltb, length, get_or, take, drop, set, replicate}
-use Rattle.std.proofs.Common.{sym, ap, ◌∙◌, arith, add-one, length-append, take-suc, length-take-le, drop-cons, lt-ltb, le-ltb, ltb-true, ltb-false}
+use Rattle.std.specs.Prelude.{ℕ, zero, suc, ◌+◌, ◌-◌, ◌≤◌, ◌<◌, ◌≡◌, refl, Bool, true, false, cond, List, [], ◌∷◌, ◌++◌}
+use Rattle.std.specs.Prelude.{map, ltb, length, get_or, take, drop, set, replicate}
+use Rattle.std.proofs.Common.{sym, ap, ◌∙◌, arith, add-one, length-append, take-suc, length-take-le, drop-cons, lt-ltb}
+use Rattle.std.proofs.Common.{le-ltb, ltb-true, ltb-false}
 use Rattle.std.proofs.lemmas.List.{length-map, length-replicate, set_at}
 use Rattle.std.proofs.Math.Seq.{take-append_seam, append_snoc}
 use Rattle.rules.specs.declared.Pair.{Pair}
@@ -56,7 +58,8 @@ module _ {A : Type 0} (l a : List A) where
   abbrev pub filled : ℕ → List A
   filled j = take j l ++ drop j a
 
-  pub one_filled : (d : A) (j : ℕ) → length a ≡ length l → j < length l → set (filled j) j (get_or l j d) ≡ filled (j + 1)
+  pub one_filled : (d : A) (j : ℕ) → length a ≡ length l → j < length l → set (filled j) j (get_or l j d)
+      ≡ filled (j + 1)
   one_filled d j same h =
       ap (λ (r : List A). set (take j l ++ r) j (get_or l j d)) (drop-cons a j d (omega arith))
       ∙ set_at (take j l) (get_or a j d) (drop (suc j) a) (get_or l j d) j (length-take-le j l (omega arith))

@@ -5,7 +5,8 @@ use Prim.Native.Nat.{ℕ, ◌+◌, ◌*◌}
 use native.Mathlib.Omega.{arith}
 use lib.ListN.{length, length-append}
 use Rattle.rules.specs.declared.Pair.{Pair}
-use Rattle.rules.specs.Query.{input_length, settled_session, list, pair_line, pair_lines, query_line, last_line, listing}
+use Rattle.rules.specs.Query.{input_length, settled_session, list, pair_line, pair_lines, query_line, last_line}
+use Rattle.rules.specs.Query.{listing}
 use Rattle.printing.specs.Put.{put_at, put_on}
 use Rattle.printing.specs.Laid.{laid, laid_length}
 use Rattle.pair_line.specs.Line.{line_length, line_length_lem}

@@ -1,6 +1,7 @@
 -- Laws of Booleans: tests that pass, fail, and stand together. A law that ends in -out says what follows from a test
 -- made of others, one that ends in -in what makes it pass. Assumes nothing.
-use Rattle.std.specs.Prelude.{◌≡◌, refl, Bool, true, false, cond, ◌&&◌, ◌||◌, List, [], ◌∷◌, ◌⊎◌, ℕ, zero, suc, T, get_or}
+use Rattle.std.specs.Prelude.{◌≡◌, refl, Bool, true, false, cond, ◌&&◌, ◌||◌, List, [], ◌∷◌, ◌⊎◌, ℕ, zero, suc, T}
+use Rattle.std.specs.Prelude.{get_or}
 use Rattle.std.proofs.Common.{sym, subst, ◌∙◌, true≢false, inl, inr}
 use Rattle.lists.specs.Lists.{all}
 

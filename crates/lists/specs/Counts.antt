@@ -1,5 +1,6 @@
 -- Counting the numbers of a list that are at least c, and what these counts say of the best. Assumes nothing.
-use Rattle.std.specs.Prelude.{◌≡◌, refl, Bool, true, false, cond, ◌&&◌, List, [], ◌∷◌, ◌++◌, map, ℕ, zero, suc, ◌+◌, ◌≤◌, ◌<◌, min, leb, ltb, length, take}
+use Rattle.std.specs.Prelude.{◌≡◌, refl, Bool, true, false, cond, ◌&&◌, List, [], ◌∷◌, ◌++◌, map, ℕ, zero, suc, ◌+◌}
+use Rattle.std.specs.Prelude.{◌≤◌, ◌<◌, min, leb, ltb, length, take}
 use Rattle.std.proofs.Common.{sym, ap, ◌∙◌, arith, leb-true, leb-false, le-leb, ltb-true, ltb-false, lt-ltb, le-ltb}
 use Rattle.std.proofs.lemmas.Bool.{lt-leb}
 use Rattle.lists.specs.Lists.{cons_if, keep, each, ins, sort, at_least, best}
@@ -81,7 +82,8 @@ count_all c (x ∷ l) h = go (leb c x) refl (count_cons c x l) (count_all c l)
 
 -- Counts of the best
 
-pub count_ins : (ahead : ℕ → ℕ → Bool) (c x : ℕ) (l : List ℕ) → at_least c (ins ahead x l) ≡ one (leb c x) + at_least c l
+pub count_ins : (ahead : ℕ → ℕ → Bool) (c x : ℕ) (l : List ℕ) → at_least c (ins ahead x l)
+    ≡ one (leb c x) + at_least c l
 unfolding ins
 count_ins ahead c x [] = count_cons c x []
 count_ins ahead c x (y ∷ l) = go (ahead y x) (count_ins ahead c x l)

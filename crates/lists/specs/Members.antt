@@ -24,7 +24,8 @@ module _ {A : Type 0} (ahead : A → A → Bool) where
       go : (t : Bool) → (Memᴰ z (ins ahead x l) → Memᴰ z (x ∷ l))
           → Memᴰ z (cond t (y ∷ ins ahead x l) (x ∷ y ∷ l)) → Memᴰ z (x ∷ y ∷ l)
       go true f h =
-          ⊎_elim (λ e. mathlib.Core.List.Memᴰ.tail (mathlib.Core.List.Memᴰ.head e)) (λ m. later (mathlib.Core.List.Memᴰ.cases_cons (f m)))
+          ⊎_elim (λ e. mathlib.Core.List.Memᴰ.tail (mathlib.Core.List.Memᴰ.head e))
+          (λ m. later (mathlib.Core.List.Memᴰ.cases_cons (f m)))
           (mathlib.Core.List.Memᴰ.cases_cons h)
       go false f h = h
 
@@ -37,7 +38,9 @@ module _ {A : Type 0} (ahead : A → A → Bool) where
           → Memᴰ z (cond t (y ∷ ins ahead x l) (x ∷ y ∷ l))
       go true f =
           ⊎_elim (λ e. mathlib.Core.List.Memᴰ.tail (f (mathlib.Core.List.Memᴰ.head e)))
-          (λ m. ⊎_elim (λ e. mathlib.Core.List.Memᴰ.head e) (λ k. mathlib.Core.List.Memᴰ.tail (f (mathlib.Core.List.Memᴰ.tail k))) (mathlib.Core.List.Memᴰ.cases_cons m))
+          (λ m. ⊎_elim (λ e. mathlib.Core.List.Memᴰ.head e)
+          (λ k. mathlib.Core.List.Memᴰ.tail (f (mathlib.Core.List.Memᴰ.tail k)))
+          (mathlib.Core.List.Memᴰ.cases_cons m))
           (mathlib.Core.List.Memᴰ.cases_cons h)
       go false f = h
 
@@ -54,7 +57,8 @@ module _ {A : Type 0} (ahead : A → A → Bool) where
             (mathlib.Core.List.Memᴰ.cases_cons (mem_ins y x (sort ahead l) h)),
         λ h.
             mem_put y x (sort ahead l)
-            (⊎_elim (λ e. mathlib.Core.List.Memᴰ.head e) (λ m. mathlib.Core.List.Memᴰ.tail (f.1 m)) (mathlib.Core.List.Memᴰ.cases_cons h)),
+            (⊎_elim (λ e. mathlib.Core.List.Memᴰ.head e) (λ m. mathlib.Core.List.Memᴰ.tail (f.1 m))
+            (mathlib.Core.List.Memᴰ.cases_cons h)),
       )
 
   -- Distinct lists
@@ -65,7 +69,11 @@ module _ {A : Type 0} (ahead : A → A → Bool) where
   ins_distinct x (y ∷ l) n d = go (ahead y x) (ins_distinct x l (λ m. n (mathlib.Core.List.Memᴰ.tail m)) d.1)
     where
       go : (t : Bool) → Distinct (ins ahead x l) → Distinct (cond t (y ∷ ins ahead x l) (x ∷ y ∷ l))
-      go true r = (λ m. ⊎_elim (λ e. n (mathlib.Core.List.Memᴰ.head (sym e))) d.0 (mathlib.Core.List.Memᴰ.cases_cons (mem_ins x y l m)), r)
+      go true r = (
+        λ m. ⊎_elim (λ e. n (mathlib.Core.List.Memᴰ.head (sym e))) d.0
+            (mathlib.Core.List.Memᴰ.cases_cons (mem_ins x y l m)),
+        r,
+      )
       go false r = (n, d)
 
   pub sort_distinct : (l : List A) → Distinct l → Distinct (sort ahead l)
@@ -141,7 +149,8 @@ module _ {A : Type 0} where
   mem_take zero x l m = absurd (mathlib.Core.List.Memᴰ.not-nil m)
   mem_take (suc n) x [] m = m
   mem_take (suc n) x (y ∷ l) m =
-      ⊎_elim (λ e. mathlib.Core.List.Memᴰ.head e) (λ k. mathlib.Core.List.Memᴰ.tail (mem_take n x l k)) (mathlib.Core.List.Memᴰ.cases_cons m)
+      ⊎_elim (λ e. mathlib.Core.List.Memᴰ.head e) (λ k. mathlib.Core.List.Memᴰ.tail (mem_take n x l k))
+      (mathlib.Core.List.Memᴰ.cases_cons m)
 
   pub take_distinct : (n : ℕ) (l : List A) → Distinct l → Distinct (take n l)
   take_distinct zero l d = tt
@@ -161,13 +170,15 @@ module _ {A : Type 0} where
   -- m without one x has one element fewer, and all others
   without : (x : A) {m : List A} → Memᴰ x m
       → (m' : List A) × (length m ≡ suc (length m')) × ((y : A) → Memᴰ y m → (y ≡ x) ⊎ Memᴰ y m')
-  without x (mathlib.Core.List.Memᴰ.head {xs = l} e) = (l, refl, λ y k. ⊎_elim (λ f. inl (f ∙ sym e)) inr (mathlib.Core.List.Memᴰ.cases_cons k))
+  without x (mathlib.Core.List.Memᴰ.head {xs = l} e) =
+      (l, refl, λ y k. ⊎_elim (λ f. inl (f ∙ sym e)) inr (mathlib.Core.List.Memᴰ.cases_cons k))
   without x (mathlib.Core.List.Memᴰ.tail {x = z} k) =
       let r = without x k in (
         z ∷ r.0,
         ap suc r.1,
         λ y j.
-            ⊎_elim (λ e. inr (mathlib.Core.List.Memᴰ.head e)) (λ i. ⊎_elim inl (λ h. inr (mathlib.Core.List.Memᴰ.tail h)) (r.2 y i))
+            ⊎_elim (λ e. inr (mathlib.Core.List.Memᴰ.head e))
+            (λ i. ⊎_elim inl (λ h. inr (mathlib.Core.List.Memᴰ.tail h)) (r.2 y i))
             (mathlib.Core.List.Memᴰ.cases_cons j),
       )
 
@@ -177,5 +188,6 @@ module _ {A : Type 0} where
   pigeonhole (x ∷ l) m d h =
       let r = without x (h x (mathlib.Core.List.Memᴰ.head refl)) in
       let later : (y : A) → Memᴰ y l → Memᴰ y r.0 =
-      λ y k. ⊎_elim (λ e. absurd (d.0 (mathlib.Core.List.Memᴰ.cast (sym e) k))) (λ j. j) (r.2 y (h y (mathlib.Core.List.Memᴰ.tail k))) in
+      λ y k. ⊎_elim (λ e. absurd (d.0 (mathlib.Core.List.Memᴰ.cast (sym e) k))) (λ j. j)
+      (r.2 y (h y (mathlib.Core.List.Memᴰ.tail k))) in
       omega (arith, r.1, pigeonhole l r.0 d.1 later)

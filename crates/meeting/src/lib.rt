@@ -35,7 +35,8 @@ pub fn meet_blocks(
     requires ready { Ready s × (s.joined + n < 2 ^ 63) × Keys s keys.old }
     requires span_fits { SpanFits new (cond field (lent_table s f.now) (lent_table s t.now))
         × FirstFit (cond field (lent_table s t.now) (lent_table s f.now)) depth }
-    requires depth_le_most_rows { (depth ≤ most_rows) × HasRows (cond field (lent_table s t.now) (lent_table s f.now)) depth
+    requires depth_le_most_rows { (depth ≤ most_rows)
+        × HasRows (cond field (lent_table s t.now) (lent_table s f.now)) depth
         × (n * s.query.block < depth + s.query.block) }
     requires sides_value { sides_in s.rows.card sides.now
         ≡ rectangle (span_block (cond field (lent_table s f.now) (lent_table s t.now)) new).rows }

@@ -48,7 +48,8 @@ fn meet_new(
     requires ready { Ready s × (s.joined + n < 2 ^ 63) × Keys s keys.old }
     requires span_fits { SpanFits new (cond field (lent_table s f.now) (lent_table s t.now))
         × FirstFit (cond field (lent_table s t.now) (lent_table s f.now)) depth }
-    requires depth_le_most_rows { (depth ≤ most_rows) × HasRows (cond field (lent_table s t.now) (lent_table s f.now)) depth
+    requires depth_le_most_rows { (depth ≤ most_rows)
+        × HasRows (cond field (lent_table s t.now) (lent_table s f.now)) depth
         × (n * s.query.block < depth + s.query.block) }
     ensures { Stands
         (meet_blocks field s

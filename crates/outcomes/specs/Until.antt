@@ -12,7 +12,8 @@ use Rattle.rules.specs.declared.Answer.TheVariants.{Given}
 use Rattle.rules.specs.Session.{place_count}
 use Rattle.rules.specs.Take.{first_held}
 use Rattle.rules.specs.Calls.{open_call, read_call, take_call}
-use Rattle.rules.specs.Query.{was_read, given, was_given, read_until_settled_by, read_until_settled, take_until_finished_by}
+use Rattle.rules.specs.Query.{was_read, given, was_given, read_until_settled_by, read_until_settled}
+use Rattle.rules.specs.Query.{take_until_finished_by}
 use Rattle.rules.specs.Query.{take_until_finished}
 use Rattle.rules.specs.Query.{settled_session, list}
 use Rattle.session_laws.specs.Calls.{was_given_out}

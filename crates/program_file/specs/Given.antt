@@ -18,7 +18,8 @@ use Rattle.file_laws.specs.Sizes.{Told, check_told}
 use Rattle.program_sizes.specs.Sizes.{table_rows}
 
 -- the kind that a file is read as is one of the two
-pub kind_either : (old new : ℕ) (bytes : List ℕ) → (program_kind old new bytes ≡ old) ⊎ (program_kind old new bytes ≡ new)
+pub kind_either : (old new : ℕ) (bytes : List ℕ) → (program_kind old new bytes ≡ old)
+    ⊎ (program_kind old new bytes ≡ new)
 unfolding program_kind
 kind_either old new bytes = go (peeked new bytes)
   where
@@ -28,7 +29,8 @@ kind_either old new bytes = go (peeked new bytes)
 
 unfoldable pub program_file : List ℕ → ℕ → Loaded
 program_file bytes kind =
-    cond (leb (length bytes) (most_file_bytes (kind_coordinates kind))) (check_file bytes (pos kind)) (Unfit table_size 0)
+    cond (leb (length bytes) (most_file_bytes (kind_coordinates kind))) (check_file bytes (pos kind))
+    (Unfit table_size 0)
 
 -- so many rows are so many bytes
 rows_of : (b n m : ℕ) → 1 ≤ b → b * n ≤ b * m → n ≤ m
@@ -55,7 +57,8 @@ module _ (bytes : List ℕ) (kind : ℕ) where
       go false = refl
 
   -- an accepted file has at most 512 rows
-  pub program_rows : (n : ℕ) → program_file bytes kind ≡ Rows n → (check_file bytes (pos kind) ≡ Rows n) × (n ≤ table_rows)
+  pub program_rows : (n : ℕ) → program_file bytes kind ≡ Rows n → (check_file bytes (pos kind) ≡ Rows n)
+      × (n ≤ table_rows)
   unfolding program_file
   program_rows n h = go (leb (length bytes) most) refl h
     where

@@ -48,7 +48,8 @@ module _ (f t : Table) where
 
       go : (b : Bool) → was_read (read_call f t s).answer ≡ b
           → last_record r (reads_from n r) ≡ read_until_settled n f t r
-          → ◌≡◌ {A = Session} (last_record r (reads_from n r)) (elim b [ true ↦ read_until_settled n f t r | false ↦ s ])
+          → ◌≡◌ {A = Session} (last_record r (reads_from n r))
+          (elim b [ true ↦ read_until_settled n f t r | false ↦ s ])
       go true e ih = ih
       go false e ih = ih ∙ ap (read_until_settled n f t) (read_keeps f t s e) ∙ reads_ended f t n s e
 

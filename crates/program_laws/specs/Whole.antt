@@ -46,7 +46,8 @@ pub record Answered (q : Query) (f t : Table) : Type 0 where
 
 -- and of what the program prints
 pub record Whole (field trim input : List ℕ) : Type 0 where
-  pub printed : whole_query field trim input ≡ listing (input_query input) (field_file_table field) (trim_file_table trim)
+  pub printed : whole_query field trim input
+      ≡ listing (input_query input) (field_file_table field) (trim_file_table trim)
   pub answered : Answered (input_query input) (field_file_table field) (trim_file_table trim)
 
 pub query_answered : (q : Query) (f t : Table) → OneCard f t → legal f ≡ true → legal t ≡ true → query_code q ≡ 0

@@ -25,10 +25,12 @@ module _ (f t : Table) (s : Session) where
   abbrev pub after_read : Answer → Session
   after_read a = cond (was_read a) (read_block f t s) s
 
-  read_is : step (read_answer (call_code f t s) f t s) (after_read (read_answer (call_code f t s) f t s)) ≡ read_call f t s
+  read_is : step (read_answer (call_code f t s) f t s) (after_read (read_answer (call_code f t s) f t s))
+      ≡ read_call f t s
   unfolding read_call_by read_answer
   read_is =
-      go (call_code f t s) (new_block_code f t s) (eqb (call_code f t s) 0) (settled f t s) (eqb (new_block_code f t s) 0)
+      go (call_code f t s) (new_block_code f t s) (eqb (call_code f t s) 0) (settled f t s)
+      (eqb (new_block_code f t s) 0)
     where
       go : (code new : ℕ) (a b c : Bool) → let x = cond a (cond b Settled (cond c Read (Refused new))) (Refused code) in
           step x (after_read x)
@@ -41,7 +43,8 @@ module _ (f t : Table) (s : Session) where
 
   pub read_ends : (code : ℕ) (a : Answer) → code ≡ call_code f t s → a ≡ read_answer code f t s
       → step a (after_read a) ≡ read_call f t s
-  read_ends code a e h = ap (λ (x : Answer). step x (after_read x)) (h ∙ ap (λ (n : ℕ). read_answer n f t s) e) ∙ read_is
+  read_ends code a e h = ap (λ (x : Answer). step x (after_read x)) (h ∙ ap (λ (n : ℕ). read_answer n f t s) e)
+      ∙ read_is
 
 -- a block is read: the checks passed, those of the new block too, and the session was not settled
 module _ (code : ℕ) (f t : Table) (s : Session) where

@@ -81,7 +81,8 @@ module _ (l : List ℕ) (a : List Pair) (long : pairs_at ≤ length l) where
       omega (arith, both, length-take-le pairs_at l long, flat_length (take i a), length-take-le i a h)
 
   pub one_out : (i : ℕ) → i < length a
-      → take (pair_place i) (laid_to l a i) ++ flat_pair (get_or a i no_pair) ++ drop (pair_place i + pair_size) (laid_to l a i)
+      → take (pair_place i) (laid_to l a i) ++ flat_pair (get_or a i no_pair)
+      ++ drop (pair_place i + pair_size) (laid_to l a i)
       ≡ laid_to l a (i + 1)
   one_out i h =
       let k : pair_place (suc i) ≡ pair_place i + pair_size = omega arith in

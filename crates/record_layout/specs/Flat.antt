@@ -196,11 +196,19 @@ query_in l =
 -- the kinds that go with it: a kind that is not lent is the old card's, 1 for field and 2 for trim
 unfoldable pub kinds_in : List ℕ → Kinds
 kinds_in l =
-    record { field = record { 0 = get_or l field_kind_in_query 1 }; trim = record { 0 = get_or l trim_kind_in_query 2 } }
+    record {
+      field = record { 0 = get_or l field_kind_in_query 1 };
+      trim = record { 0 = get_or l trim_kind_in_query 2 };
+    }
 
 unfoldable pub pair_in : List ℕ → ℕ → Pair
 pair_in l i =
-    record { sum = get_or l (pair_place i) 0; field = get_or l (pair_place i + 1) 0; trim = get_or l (pair_place i + 2) 0 }
+    record {
+      sum = get_or l (pair_place i) 0;
+      field = get_or l (pair_place i + 1) 0;
+      trim = get_or l (pair_place i + 2)
+          0;
+    }
 
 -- the first n pair places
 unfoldable pub pairs_in : List ℕ → ℕ → List Pair
@@ -212,14 +220,18 @@ with_pairs l pairs =
     record {
       query =
           query_with l (weights (get_or l field_weight_at 0) (get_or l trim_weight_at 0))
-          (tolerances (get_or l field_tolerance_at 0) (get_or l trim_tolerance_at 0)) (meaning_of (get_or l meaning_at 0));
+          (tolerances (get_or l field_tolerance_at 0) (get_or l trim_tolerance_at 0))
+          (meaning_of (get_or l meaning_at 0));
       rows =
           record {
             field = record { 0 = get_or l field_rows_at 0 };
             trim = record { 0 = get_or l trim_rows_at 0 };
             card = get_or l card_at 0;
           };
-      depth = record { field = record { 0 = get_or l field_depth_at 0 }; trim = record { 0 = get_or l trim_depth_at 0 } };
+      depth = record {
+        field = record { 0 = get_or l field_depth_at 0 };
+        trim = record { 0 = get_or l trim_depth_at 0 };
+      };
       last = get_or l last_at 0;
       out = get_or l out_at 0;
       held = get_or l held_at 0;

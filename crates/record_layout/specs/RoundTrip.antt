@@ -16,7 +16,8 @@ use Rattle.rules.specs.declared.Pair.{Pair}
 use Rattle.rules.specs.declared.Session.{Session}
 use Rattle.rules.specs.Session.{no_pair, place_count}
 use Rattle.record_layout.specs.Flat.{joined_at, joined_high_at, pairs_at, pair_size, pair_place, field_weight_at}
-use Rattle.record_layout.specs.Flat.{trim_weight_at, card_at, field_tolerance_at, trim_tolerance_at, meaning_at, flat_size}
+use Rattle.record_layout.specs.Flat.{trim_weight_at, card_at, field_tolerance_at, trim_tolerance_at, meaning_at}
+use Rattle.record_layout.specs.Flat.{flat_size}
 use Rattle.record_layout.specs.Flat.{word, flat_pair, flat_head, meaning_number, flat_tail, flatten, meaning_of}
 use Rattle.record_layout.specs.Flat.{query_with, pair_in, pairs_in, with_pairs, unflatten}
 
@@ -152,7 +153,8 @@ module _ (l : List ℕ) (long : flat_size ≤ length l) where
   one_from : (n j : ℕ) → j < length l → take (suc n) (drop j l) ≡ get_or l j 0 ∷ take n (drop (suc j) l)
   one_from n j h = ap (take (suc n)) (drop-cons l j 0 h)
 
-  pair_forth : (n : ℕ) → n < place_count → take pair_size (drop (pair_size * n) (drop pairs_at l)) ≡ flat_pair (pair_in l n)
+  pair_forth : (n : ℕ) → n < place_count → take pair_size (drop (pair_size * n) (drop pairs_at l))
+      ≡ flat_pair (pair_in l n)
   unfolding flat_pair pair_in
   pair_forth n h =
       let j = pair_place n in

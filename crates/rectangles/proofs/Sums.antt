@@ -47,7 +47,8 @@ module _ (less : ℕ) (l : List ℤ) (t : Table) (m : ℕ) where
 
   -- too far by some sides is too far
   pub too_far : (k radius : ℕ) → radius * radius < seen k → true ≡ ltb (radius * radius) all_squares
-  too_far k radius h = sym (lt-ltb (radius * radius) all_squares (omega (arith, squares_first (lowered_gap less) x y k)))
+  too_far k radius h = sym
+      (lt-ltb (radius * radius) all_squares (omega (arith, squares_first (lowered_gap less) x y k)))
 
   pub near_enough : (k radius : ℕ) → t.coordinates ≤ k → seen k ≤ radius * radius
       → false ≡ ltb (radius * radius) all_squares

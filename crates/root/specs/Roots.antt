@@ -1,7 +1,8 @@
 -- The root and its remainder: the root's square is not above the number, the next square is, and no other number is so.
 -- Assumes nothing.
 use Rattle.std.specs.Prelude.{◌≡◌, refl, Bool, true, false, ℕ, zero, suc, ◌+◌, ◌*◌, ◌-◌, ◌/◌, ◌≤◌, ◌<◌, leb}
-use Rattle.std.proofs.Common.{ap, ◌∙◌, mul-le-mul, mul-pos, lt_of_not-le, not-le_of_lt, le_of_mul-le-mul_right, lt_of_mul-lt-mul_right, div-mul-le_self, arith, leb-true, leb-false}
+use Rattle.std.proofs.Common.{ap, ◌∙◌, mul-le-mul, mul-pos, lt_of_not-le, not-le_of_lt, le_of_mul-le-mul_right}
+use Rattle.std.proofs.Common.{lt_of_mul-lt-mul_right, div-mul-le_self, arith, leb-true, leb-false}
 use Rattle.std.proofs.Math.Nat.{lt-div-mul-add}
 use Rattle.rules.specs.Root.{root_up_to, root, remainder}
 use Rattle.root.specs.Parts.{IsRoot, Parted}
@@ -27,7 +28,8 @@ up_to_above n (suc b) h = go (leb (suc b * suc b) n) refl (up_to_above n b)
   where
     go : (t : Bool) → leb (suc b * suc b) n ≡ t →
         (n < suc b * suc b → n < suc (root_up_to n b) * suc (root_up_to n b)) →
-        n < suc (elim t [ true ↦ suc b | false ↦ root_up_to n b ]) * suc (elim t [ true ↦ suc b | false ↦ root_up_to n b ])
+        n < suc (elim t [ true ↦ suc b | false ↦ root_up_to n b ]) * suc
+        (elim t [ true ↦ suc b | false ↦ root_up_to n b ])
     go true e ih = h
     go false e ih = ih (leb-false (suc b * suc b) n e)
 

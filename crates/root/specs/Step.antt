@@ -1,7 +1,8 @@
 -- Zimmermann's step: from the root s and the rest r of a number to those of that number with two more digits of base b,
 -- which make `next`. Everything is linear in a few products. Assumes nothing.
 use Rattle.std.specs.Prelude.{◌≡◌, ℕ, zero, suc, ◌+◌, ◌*◌, ◌-◌, ◌/◌, ◌%◌, ◌≤◌, ◌<◌}
-use Rattle.std.proofs.Common.{ap, mul-le-mul, mul-le-mul_right, mul-pos, div-add-mod', mod-lt, div-lt_iff_lt-mul, not-suc-le-zero, arith}
+use Rattle.std.proofs.Common.{ap, mul-le-mul, mul-le-mul_right, mul-pos, div-add-mod', mod-lt, div-lt_iff_lt-mul}
+use Rattle.std.proofs.Common.{not-suc-le-zero, arith}
 use Rattle.root.specs.Parts.{Parted, StepReady}
 use Rattle.root.specs.Roots.{side_below}
 

@@ -54,7 +54,8 @@ kinds f t = record { field = record { 0 = f }; trim = record { 0 = t } }
 -- a query of length k over so many numbers of each kind
 abbrev opened_by : ℕ → ℕ → ℕ → ℕ → ℕ → ℕ
 opened_by k f m t n =
-    open_code (asked k 1 5) (field_table (kinds f t) (replicate m (pos 1))) (trim_table (kinds f t) (replicate n (pos 1)))
+    open_code (asked k 1 5) (field_table (kinds f t) (replicate m (pos 1)))
+    (trim_table (kinds f t) (replicate n (pos 1)))
 
 pub opened_on : opened_by 1 1 4 2 8 ∷ opened_by 1 3 5 4 10 ∷ [] ≡ 0 ∷ 0 ∷ []
 unfolding run

@@ -1,6 +1,7 @@
 -- Old kinds read, pair and print as before: on the old card the rules are, in its own formulas, those of the first
 -- paper. Assumes nothing.
-use Rattle.std.specs.Prelude.{◌≡◌, Bool, true, false, ◌&&◌, List, [], ◌∷◌, ℕ, suc, ◌+◌, ◌*◌, ◌/◌, ◌%◌, ◌≤◌, leb, eqb, ℤ, pos, negsuc, length, get_or, take, drop}
+use Rattle.std.specs.Prelude.{◌≡◌, Bool, true, false, ◌&&◌, List, [], ◌∷◌, ℕ, suc, ◌+◌, ◌*◌, ◌/◌, ◌%◌, ◌≤◌, leb, eqb, ℤ}
+use Rattle.std.specs.Prelude.{pos, negsuc, length, get_or, take, drop}
 use Rattle.std.proofs.Math.Path.{refl, ap₂}
 use Rattle.std.proofs.Common.{ap, ◌∙◌, drop-cons}
 use native.Mathlib.Omega.{arith}

@@ -236,11 +236,13 @@ unfolding run
 withdrawn_unlisted = refl
 
 -- a table is read out once a withdrawn row is read, wherever it stands, and empty once it is the first
-pub second_reads_out : read_out one_live 3 1 ∷ read_out one_live 3 2 ∷ is_empty one_live 3 2 ∷ [] ≡ false ∷ true ∷ false ∷ []
+pub second_reads_out : read_out one_live 3 1 ∷ read_out one_live 3 2 ∷ is_empty one_live 3 2 ∷ [] ≡ false ∷ true
+    ∷ false ∷ []
 unfolding run
 second_reads_out = refl
 
-pub first_empties : is_empty none_live 2 0 ∷ is_empty none_live 2 1 ∷ read_out none_live 2 1 ∷ [] ≡ false ∷ true ∷ true ∷ []
+pub first_empties : is_empty none_live 2 0 ∷ is_empty none_live 2 1 ∷ read_out none_live 2 1 ∷ [] ≡ false ∷ true ∷ true
+    ∷ []
 unfolding run
 first_empties = refl
 

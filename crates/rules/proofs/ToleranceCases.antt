@@ -101,7 +101,8 @@ abbrev number : Answer → ℕ
 number a = (said a).number
 
 pub settled_at_opening :
-    number (read_call new_row new_row opening).answer ∷ number (take_call new_row new_row opening).answer ∷ [] ≡ 1 ∷ 4 ∷ []
+    number (read_call new_row new_row opening).answer ∷ number (take_call new_row new_row opening).answer ∷ [] ≡ 1 ∷ 4
+    ∷ []
 unfolding run
 settled_at_opening = refl
 

@@ -1,6 +1,7 @@
 -- What surely and possibly say of places that lie within both tolerances, and that the farthest and the nearest square,
 -- which the rules go by, say just that: for any number of coordinates, any tolerances and any radius. Assumes nothing.
-use Rattle.std.specs.Prelude.{◌≡◌, refl, Bool, true, false, ◌&&◌, ◌↔◌, ℕ, ◌+◌, ◌*◌, ◌-◌, ◌≤◌, ◌<◌, min, leb, ltb, ℤ, pos, ◌+ℤ◌, ◌-ℤ◌, length, replicate}
+use Rattle.std.specs.Prelude.{◌≡◌, refl, Bool, true, false, ◌&&◌, ◌↔◌, ℕ, ◌+◌, ◌*◌, ◌-◌, ◌≤◌, ◌<◌, min, leb, ltb, ℤ}
+use Rattle.std.specs.Prelude.{pos, ◌+ℤ◌, ◌-ℤ◌, length, replicate}
 use Rattle.std.proofs.Math.Path.{sym}
 use Rattle.std.proofs.Common.{ap, ap₂, subst, ◌∙◌, add_comm, le-leb, leb-true, ltb-true, ltb-false}
 use mathlib.Core.List.{List, [], ◌∷◌}
@@ -269,7 +270,8 @@ unsatisfiable_is q n =
     ∙ ap (λ m. m * (tolerance q * tolerance q)) (length-replicate n (pos 0)))
 
 -- then no two shades qualify
-pub nothing_qualifies_lem : (q : Query) (n : ℕ) → unsatisfiable q n ≡ true → (k l : List ℤ) → length k ≡ n → length l ≡ n
+pub nothing_qualifies_lem : (q : Query) (n : ℕ) → unsatisfiable q n ≡ true → (k l : List ℤ) → length k ≡ n → length l
+    ≡ n
     → qualifies q k l ≡ false
 unfolding qualifies
 nothing_qualifies_lem q n u k l a b = go q.meaning (sym (unsatisfiable_is q n) ∙ u)

@@ -1,6 +1,7 @@
 -- docs/RULES.md, "Refusals": the grounds of each refusal, the order of checks, and with them the calls:
 -- opening, read, take, show. Definitions only. Assumes nothing.
-use Rattle.std.specs.Prelude.{ℕ, zero, suc, ◌+◌, ◌*◌, ◌-◌, ◌%◌, Bool, false, cond, ◌&&◌, ◌||◌, not, List, [], ◌∷◌, leb, ltb, eqb, ℤ, drop}
+use Rattle.std.specs.Prelude.{ℕ, zero, suc, ◌+◌, ◌*◌, ◌-◌, ◌%◌, Bool, false, cond, ◌&&◌, ◌||◌, not, List, [], ◌∷◌, leb}
+use Rattle.std.specs.Prelude.{ltb, eqb, ℤ, drop}
 use Rattle.lists.specs.Lists.{every, all, ranked}
 use Rattle.rules.specs.declared.Card.TheVariants.{Old, New}
 use Rattle.rules.specs.declared.Pair.{Pair}

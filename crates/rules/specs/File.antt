@@ -1,5 +1,6 @@
 -- docs/RULES.md, "The strict file". Definitions only. Assumes nothing.
-use Rattle.std.specs.Prelude.{ℕ, zero, suc, ◌+◌, ◌*◌, ◌-◌, Bool, false, cond, ◌&&◌, not, List, [], ◌∷◌, ◌++◌, map, leb, ltb, eqb, ℤ, pos, neg_ℤ, length, get_or, take, drop}
+use Rattle.std.specs.Prelude.{ℕ, zero, suc, ◌+◌, ◌*◌, ◌-◌, Bool, false, cond, ◌&&◌, not, List, [], ◌∷◌, ◌++◌, map, leb}
+use Rattle.std.specs.Prelude.{ltb, eqb, ℤ, pos, neg_ℤ, length, get_or, take, drop}
 use Rattle.lists.specs.Lists.{every, range, each}
 use Rattle.rules.specs.declared.Loaded.{Loaded}
 use Rattle.rules.specs.declared.Loaded.TheVariants.{Rows, Unfit}
@@ -135,7 +136,8 @@ file_row_code bytes t i = first (unless (row_columns_fit t.coordinates bytes i) 
 
 -- the answer where row n + 1 follows rows that were answered so: "Refusals 6, 7, 9 add the row number"
 unfoldable pub and_row : List ℕ → Table → ℕ → Loaded → Loaded
-and_row bytes t n (Rows m) = cond (eqb (file_row_code bytes t n) 0) (Rows (n + 1)) (Unfit (file_row_code bytes t n) (n + 1))
+and_row bytes t n (Rows m) = cond (eqb (file_row_code bytes t n) 0) (Rows (n + 1))
+    (Unfit (file_row_code bytes t n) (n + 1))
 and_row bytes t n (Unfit code row) = Unfit code row
 
 -- the first n rows

@@ -1,5 +1,6 @@
 -- docs/RULES.md, "The session". Definitions only. Assumes nothing.
-use Rattle.std.specs.Prelude.{ℕ, zero, suc, ◌+◌, ◌-◌, max, Bool, true, false, cond, ◌&&◌, ◌||◌, not, List, [], ◌++◌, leb, ltb, eqb, ℤ, length, take, replicate}
+use Rattle.std.specs.Prelude.{ℕ, zero, suc, ◌+◌, ◌-◌, max, Bool, true, false, cond, ◌&&◌, ◌||◌, not, List, [], ◌++◌}
+use Rattle.std.specs.Prelude.{leb, ltb, eqb, ℤ, length, take, replicate}
 use Rattle.lists.specs.Lists.{every}
 use Rattle.rules.specs.declared.TwoTables.{TwoTables}
 use Rattle.rules.specs.declared.Meaning.TheVariants.{Possibly}

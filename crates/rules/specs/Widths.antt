@@ -1,6 +1,9 @@
 -- What others need of the width of a row; each law holds whatever the width. Assumes nothing.
-use Rattle.std.specs.Prelude.{◌≡◌, List, [], ◌∷◌, ℕ, zero, suc, ◌+◌, ◌*◌, ◌-◌, ◌/◌, ◌%◌, ◌≤◌, ◌<◌, ℤ, pos, length, get_or, take, drop}
-use Rattle.std.proofs.Common.{sym, ap, ◌∙◌, mul-le-mul_left, div-le_self, mul_comm, suc-mul, div-lt_iff_lt-mul, le-div_iff_mul-le, arith, length-take, length-drop, get_or-take, get_or-drop, take_all, take-take, drop-drop}
+use Rattle.std.specs.Prelude.{◌≡◌, List, [], ◌∷◌, ℕ, zero, suc, ◌+◌, ◌*◌, ◌-◌, ◌/◌, ◌%◌, ◌≤◌, ◌<◌, ℤ, pos, length}
+use Rattle.std.specs.Prelude.{get_or, take, drop}
+use Rattle.std.proofs.Common.{sym, ap, ◌∙◌, mul-le-mul_left, div-le_self, mul_comm, suc-mul, div-lt_iff_lt-mul}
+use Rattle.std.proofs.Common.{le-div_iff_mul-le, arith, length-take, length-drop, get_or-take, get_or-drop, take_all}
+use Rattle.std.proofs.Common.{take-take, drop-drop}
 use Rattle.std.proofs.Math.Nat.{mul-div-le, div-add-mod, mul-div_cancel_left}
 use Rattle.std.proofs.Math.Seq.{take-nil}
 use Rattle.rules.specs.Tables.{Table, table, width, num, row_count, HasRow, HasRows, first_rows, after_rows, part}

@@ -12,7 +12,8 @@ use Rattle.rules.specs.declared.Pair.{Pair}
 use Rattle.rules.specs.declared.Session.{Session}
 use Rattle.rules.specs.Tables.{Table, ahead}
 use Rattle.rules.proofs.Ranking.{Before, before_ahead, ahead_strict}
-use Rattle.rules.specs.Session.{no_pair, held_pairs, both_read_out, a_depth_is_zero, a_table_is_empty, ceiling, secured_by}
+use Rattle.rules.specs.Session.{no_pair, held_pairs, both_read_out, a_depth_is_zero, a_table_is_empty, ceiling}
+use Rattle.rules.specs.Session.{secured_by}
 use Rattle.rules.specs.Session.{secured}
 use Rattle.rules.specs.Read.{lowest}
 use Rattle.session_laws.specs.Record.{RecordFits, first_fits}
@@ -113,7 +114,8 @@ held_then_read f t s a n h =
 -- the last of the first n places
 pub last_taken : (a : List Pair) (n : ℕ) → 0 < n → n ≤ length a → last_of (take n a) ≡ get_or a (n - 1) no_pair
 last_taken a n h k =
-    ap (λ (i : ℕ). get_or (take n a) (i - 1) no_pair) (length-take-le n a k) ∙ get_or-take n a (n - 1) no_pair (omega arith)
+    ap (λ (i : ℕ). get_or (take n a) (i - 1) no_pair) (length-take-le n a k)
+    ∙ get_or-take n a (n - 1) no_pair (omega arith)
 
 -- every held pair is secured where the one in the last held place is
 pub held_secured : (f t : Table) (s : Session) → RecordFits s → s.held ≤ length s.pairs → 0 < s.held →

@@ -14,14 +14,17 @@ use Rattle.lists.specs.Parts.{every_same}
 use Rattle.rules.specs.declared.Pair.{Pair}
 use Rattle.rules.specs.declared.Session.{Session}
 use Rattle.rules.specs.Tables.{Table, table, shade_at}
-use Rattle.rules.specs.Tables.{num, most_rows, row_count, row_in_range, row_in_order, legal, nat_of, row, withdrawn, Terms}
+use Rattle.rules.specs.Tables.{num, most_rows, row_count, row_in_range, row_in_order, legal, nat_of, row, withdrawn}
+use Rattle.rules.specs.Tables.{Terms}
 use Rattle.rules.specs.Tables.{terms, width, first_rows, part, Block}
 use Rattle.rules.specs.Widths.{has_rows, first_length, first_count, first_num, first_shade, first_first, part_first}
 use Rattle.rules.specs.Widths.{part_none}
 use Rattle.rules.specs.Session.{withdrawn_within, read_out, is_empty, nothing_qualifies}
 use Rattle.rules.specs.Session.{held_pairs, first_score, last_score, field_read_out, trim_read_out, both_read_out}
-use Rattle.rules.specs.Session.{a_table_is_empty, a_depth_is_zero, ceiling_by, ceiling, secured_by, secured, settled_by, settled}
-use Rattle.rules.specs.Read.{score_drop, field_next_by, field_next, rows_between, block_count, meet, meet_blocks_by, meet_blocks}
+use Rattle.rules.specs.Session.{a_table_is_empty, a_depth_is_zero, ceiling_by, ceiling, secured_by, secured, settled_by}
+use Rattle.rules.specs.Session.{settled}
+use Rattle.rules.specs.Read.{score_drop, field_next_by, field_next, rows_between, block_count, meet, meet_blocks_by}
+use Rattle.rules.specs.Read.{meet_blocks}
 use Rattle.rules.specs.Read.{read_to}
 use Rattle.rules.specs.Read.{old_depth, new_depth, read_table_by, read_table}
 use Rattle.rules.specs.Take.{finished}
@@ -196,7 +199,8 @@ module _ (f t f' t' : Table) (s : Session) (ef : SameRows s.depth.field.0 f f')
   pub same_settled : settled f' t' s ≡ settled f t s
   unfolding settled_by
   same_settled =
-      (λ i. rule (either_empty i) (both_out i) (every (secured f' t' s) (held_pairs s))) ∙ go (a_table_is_empty f t s) refl
+      (λ i. rule (either_empty i) (both_out i) (every (secured f' t' s) (held_pairs s)))
+      ∙ go (a_table_is_empty f t s) refl
     where
       rule : Bool → Bool → Bool → Bool
       rule none out all =

@@ -22,8 +22,10 @@ use Rattle.rules.specs.Read.{field_next, old_depth, new_depth, read_block}
 use Rattle.rules.specs.Take.{first_held, gives_pair, moved_out, finished}
 use Rattle.rules.specs.Numbers.{table_size, bad_record, wrong_kind, other_card, said, refusal}
 use Rattle.rules.specs.Checks.{first_out, unless_out}
-use Rattle.rules.specs.Calls.{query_code, is_card, kind_code, cards_code, size_code, same_size_code, rows_code, record_fits}
-use Rattle.rules.specs.Calls.{new_block_code_by, new_block_code, step, open_code, open_call, read_call_by, read_call, take_call_by}
+use Rattle.rules.specs.Calls.{query_code, is_card, kind_code, cards_code, size_code, same_size_code, rows_code}
+use Rattle.rules.specs.Calls.{record_fits}
+use Rattle.rules.specs.Calls.{new_block_code_by, new_block_code, step, open_code, open_call, read_call_by, read_call}
+use Rattle.rules.specs.Calls.{take_call_by}
 use Rattle.rules.specs.Calls.{record_code, lent_code, call_code, take_call}
 use Rattle.rules.specs.Query.{was_read, was_given, read_until_settled, settled_session}
 use Rattle.session_laws.specs.Tables.{Sized, size_out, size_in, RowFits, rows_out, rows_in, legal_out}
@@ -206,7 +208,8 @@ module _ (f t : Table) (s : Session) where
   unfolding new_block_code_by
   new_block_in h =
       let field = field_next f t s in
-      rows_in (cond field f t) (old_depth field s) (new_depth field s - old_depth field s) (λ i k l. h i k (omega arith))
+      rows_in (cond field f t) (old_depth field s) (new_depth field s - old_depth field s)
+      (λ i k l. h i k (omega arith))
 
 -- every row down to the depths after the read
 pub read_rows : (field : Bool) (f t : Table) (s : Session) → Accepted f t s → NewRowsFit field f t s

@@ -11,13 +11,16 @@ use Rattle.lists.specs.Bools.{clash, or_none_out}
 use Rattle.rules.specs.declared.Session.{Session}
 use Rattle.rules.specs.Tables.{Table, row_count, terms, Block, qualifying}
 use Rattle.session_laws.specs.ReadOut.{unread_out, unread_first, live_out}
-use Rattle.rules.specs.Session.{is_empty, field_read_out, trim_read_out, both_read_out, a_table_is_empty, held_pairs, secured}
+use Rattle.rules.specs.Session.{is_empty, field_read_out, trim_read_out, both_read_out, a_table_is_empty, held_pairs}
+use Rattle.rules.specs.Session.{secured}
 use Rattle.rules.specs.Session.{nothing_qualifies, settled_by}
 use Rattle.rules.specs.Session.{settled}
-use Rattle.rules.specs.Read.{score_drop, field_next_by, field_next, rows_between, block_count, block_at, best_held, holding}
+use Rattle.rules.specs.Read.{score_drop, field_next_by, field_next, rows_between, block_count, block_at, best_held}
+use Rattle.rules.specs.Read.{holding}
 use Rattle.rules.specs.Read.{skipped, meet_by}
 use Rattle.rules.specs.Read.{meet}
-use Rattle.rules.specs.Read.{meet_blocks_by, meet_blocks, read_to, old_depth, new_depth, read_table_by, read_table, read_block}
+use Rattle.rules.specs.Read.{meet_blocks_by, meet_blocks, read_to, old_depth, new_depth, read_table_by, read_table}
+use Rattle.rules.specs.Read.{read_block}
 
 -- ---- A met block changes the pairs held and the joined count, and nothing else
 

@@ -1,5 +1,6 @@
 -- The coordinates of a row that passed 6 are small: each lies less than 2^14 from 0. Assumes nothing.
-use Rattle.std.specs.Prelude.{◌≡◌, refl, Bool, true, false, cond, List, ℕ, ◌≤◌, ◌<◌, ltb, ℤ, pos, negsuc, length, get_or}
+use Rattle.std.specs.Prelude.{◌≡◌, refl, Bool, true, false, cond, List, ℕ, ◌≤◌, ◌<◌, ltb, ℤ, pos, negsuc, length}
+use Rattle.std.specs.Prelude.{get_or}
 use Rattle.std.proofs.Common.{arith, leb-true, ltb-true, ltb-false}
 use Rattle.std.proofs.Math.ListN.{get_or-eq_default}
 use Rattle.std.specs.Int.Signed.{le_z, mag}

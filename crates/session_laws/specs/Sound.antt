@@ -1,7 +1,9 @@
 -- What the records of a session keep besides what they hold, so that none is refused by 5: opening, reads and takes
 -- keep it. Assumes nothing.
-use Rattle.std.specs.Prelude.{◌≡◌, refl, Bool, cond, List, [], ◌∷◌, ◌++◌, ℕ, zero, suc, ◌+◌, ◌*◌, ◌-◌, ◌/◌, ◌%◌, ◌≤◌, ◌<◌, min, length, drop, replicate}
-use Rattle.std.proofs.Common.{sym, ap, ◌∙◌, inl, inr, suc-mul, mul_comm, mul-le-mul_right, div-add-mod', div-lt_iff_lt-mul, le-div_iff_mul-le, arith, length-take}
+use Rattle.std.specs.Prelude.{◌≡◌, refl, Bool, cond, List, [], ◌∷◌, ◌++◌, ℕ, zero, suc, ◌+◌, ◌*◌, ◌-◌, ◌/◌, ◌%◌, ◌≤◌}
+use Rattle.std.specs.Prelude.{◌<◌, min, length, drop, replicate}
+use Rattle.std.proofs.Common.{sym, ap, ◌∙◌, inl, inr, suc-mul, mul_comm, mul-le-mul_right, div-add-mod'}
+use Rattle.std.proofs.Common.{div-lt_iff_lt-mul, le-div_iff_mul-le, arith, length-take}
 use Rattle.std.proofs.Math.Path.{subst}
 use Rattle.std.proofs.Math.Bool.{true, false}
 use Rattle.std.proofs.Math.Nat.{add-mod_right, zero-mod}
@@ -16,7 +18,8 @@ use Rattle.rules.specs.declared.Pair.{Pair}
 use Rattle.rules.specs.declared.Session.{Session}
 use Rattle.rules.specs.Tables.{Table, terms, Block, qualifying}
 use Rattle.rules.specs.Session.{no_pair, places, opened, held_pairs, nothing_qualifies, settled}
-use Rattle.rules.specs.Read.{field_next, block_count, block_at, skipped, best_held, holding, meet_by, meet, meet_blocks_by}
+use Rattle.rules.specs.Read.{field_next, block_count, block_at, skipped, best_held, holding, meet_by, meet}
+use Rattle.rules.specs.Read.{meet_blocks_by}
 use Rattle.rules.specs.Read.{meet_blocks}
 use Rattle.rules.specs.Read.{read_to, old_depth, new_depth, read_table_by, read_block}
 use Rattle.rules.specs.Take.{moved_out}

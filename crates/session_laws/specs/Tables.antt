@@ -11,7 +11,8 @@ use borrow.Author.Tests.{eqb-true, eq-eqb, ne_eqb, leb-true, le-leb}
 use Rattle.lists.specs.Lists.{every, range}
 use Rattle.lists.specs.Bools.{clash, and_out, and_in}
 use Rattle.lists.specs.Parts.{mem_range, every_at, every_of}
-use Rattle.rules.specs.Tables.{Table, num, most_rows, row_count, within, in_range, row_in_range, row_in_order, size_fits, legal}
+use Rattle.rules.specs.Tables.{Table, num, most_rows, row_count, within, in_range, row_in_range, row_in_order}
+use Rattle.rules.specs.Tables.{size_fits, legal}
 use Rattle.rules.specs.Tables.{width, nat_of, row, part, weighted, coordinate_fits, fits_at, shade_fits, shade_at}
 use Rattle.rules.specs.Widths.{rows_rest, no_rest, part_num, part_shade}
 use Rattle.rules.specs.Numbers.{unless, row_limit, row_order}
@@ -59,7 +60,8 @@ module _ (p s : ℤ) (z : List ℤ) where
   range_in h = rw (h.pattern, h.score) h.shade
 
 -- coordinate k of a shade in range
-pub shade_out : (z : List ℤ) → shade_fits z ≡ true → (k : ℕ) → k < length z → coordinate_fits k (get_or z k (pos 0)) ≡ true
+pub shade_out : (z : List ℤ) → shade_fits z ≡ true → (k : ℕ) → k < length z → coordinate_fits k (get_or z k (pos 0))
+    ≡ true
 unfolding shade_fits fits_at
 shade_out z h k l = every_at (fits_at z) k h ((mem_range k 0 (length z)).1 (omega arith))
 

@@ -54,7 +54,8 @@ module _ (s : Session) (stored : length (held_pairs s) ≡ s.held) (some : 1 ≤
   first_mem = subst (Memᴰ (first_held s)) (sym held_first.1) (Memᴰ.head refl)
 
   -- what holds of each held pair holds of those left
-  pub moved_every : (test : Pair → Bool) → every test (held_pairs s) ≡ true → every test (held_pairs (moved_out s)) ≡ true
+  pub moved_every : (test : Pair → Bool) → every test (held_pairs s) ≡ true → every test (held_pairs (moved_out s))
+      ≡ true
   unfolding every
   moved_every test e =
       let all = subst (λ l. every test l ≡ true) held_first.1 e in

@@ -17,7 +17,8 @@ use Rattle.rules.specs.Session.{two_tables, opened, zeros}
 use Rattle.rules.specs.Read.{field_next}
 use Rattle.rules.specs.Take.{moved_out}
 use Rattle.rules.specs.Calls.{step, open_code, open_call, read_call, take_call}
-use Rattle.rules.specs.Query.{was_read, given, was_given, read_until_settled_by, read_until_settled, take_until_finished_by}
+use Rattle.rules.specs.Query.{was_read, given, was_given, read_until_settled_by, read_until_settled}
+use Rattle.rules.specs.Query.{take_until_finished_by}
 use Rattle.rules.specs.Query.{take_until_finished}
 use Rattle.rules.specs.Query.{settled_session, list}
 use Rattle.session_laws.specs.Calls.{call_out, was_read_out, was_given_out}

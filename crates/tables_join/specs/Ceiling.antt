@@ -26,7 +26,8 @@ use Rattle.rules.specs.declared.Session.{Session}
 use Rattle.rules.specs.Tables.{Table, row_count, legal, Row, row, part, terms, pair_sum, qualifying}
 use Rattle.rules.specs.Widths.{part_front}
 use Rattle.rules.specs.Session.{read_out}
-use Rattle.rules.specs.Session.{held_pairs, first_score, last_score, field_read_out, trim_read_out, both_read_out, a_table_is_empty}
+use Rattle.rules.specs.Session.{held_pairs, first_score, last_score, field_read_out, trim_read_out, both_read_out}
+use Rattle.rules.specs.Session.{a_table_is_empty}
 use Rattle.rules.specs.Session.{a_depth_is_zero, ceiling_by, ceiling, secured_by, secured, settled}
 use Rattle.rules.specs.Read.{rows_between}
 use Rattle.rules.specs.Take.{first_held}

@@ -2,7 +2,8 @@
 -- legal tables.
 use Rattle.std.specs.Prelude.{◌≡◌, Bool, true, false, cond, ◌&&◌, List, ℕ, ◌≤◌, ◌<◌, max, ◌+◌, ◌-◌, leb, ltb, eqb}
 use Rattle.std.proofs.Math.Path.{refl}
-use Rattle.std.proofs.Common.{sym, ap, ap₂, subst, ◌∙◌, inl, inr, arith, leb-true, leb-false, ltb-true, ltb-false, eqb-true}
+use Rattle.std.proofs.Common.{sym, ap, ap₂, subst, ◌∙◌, inl, inr, arith, leb-true, leb-false, ltb-true, ltb-false}
+use Rattle.std.proofs.Common.{eqb-true}
 use Rattle.std.proofs.lemmas.Bool.{eqb-false}
 use Rattle.lists.specs.Bools.{clash}
 use Rattle.join.specs.Join.{Chosen, drop_at}
@@ -112,7 +113,8 @@ module _ {q : Query} {f t : Table} {out : List Pair} {s : Session} (a : Reached 
             inr (inl (omega (arith, field_drop_lem ez ew, trim_drop_lem ez ew))),
           )
       go false false false false false false ez ew ex ey el em =
-          fewer el em (field_drop_lem ez ew) (trim_drop_lem ez ew) (field_some ez ew) (trim_some ez ew) (field_ended a ∙ ey)
+          fewer el em (field_drop_lem ez ew) (trim_drop_lem ez ew) (field_some ez ew) (trim_some ez ew)
+          (field_ended a ∙ ey)
           (trim_ended a ∙ ex) (leb d e) refl
 
 -- fact 5 of a session: an unsettled read goes on from a depth below every sure reading's

@@ -20,7 +20,8 @@ use Rattle.rules.specs.declared.Query.{Query}
 use Rattle.rules.specs.declared.Session.{Session}
 use Rattle.rules.specs.declared.Counts.{Counts}
 use Rattle.rules.specs.Tables.{Table, row_count, unsatisfiable, row, ahead, legal}
-use Rattle.rules.specs.Session.{is_empty, held_pairs, opened, both_read_out, a_table_is_empty, field_read_out, trim_read_out}
+use Rattle.rules.specs.Session.{is_empty, held_pairs, opened, both_read_out, a_table_is_empty, field_read_out}
+use Rattle.rules.specs.Session.{trim_read_out}
 use Rattle.rules.specs.Session.{two_tables, nothing_qualifies, settled}
 use Rattle.rules.specs.Read.{read_to, new_depth, read_table_by, read_table, read_block}
 use Rattle.rules.specs.Take.{first_held, moved_out, finished}
@@ -108,7 +109,8 @@ module _ (field : Bool) (f t : Table) (g : legal f ≡ true) (h : legal t ≡ tr
   trim_in = omega (arith, a.trim_depth, a.trim_rows_lem)
 
   down : (cond field b d ≤ row_count f) × (cond field e b ≤ row_count t)
-  down = let k = new_within s field_in trim_in field in (omega (arith, a.field_rows_lem), omega (arith, a.trim_rows_lem))
+  down = let k = new_within s field_in trim_in field
+      in (omega (arith, a.field_rows_lem), omega (arith, a.trim_rows_lem))
 
   parts : (b ≤ row_count (cond field f t)) × (cond field e d ≤ row_count (cond field t f))
   parts = own_within field f t b d e down.0 down.1

@@ -2,7 +2,8 @@
 -- and keep the laws of the join. Assumes nothing.
 use Rattle.std.specs.Prelude.{◌≡◌, Bool, ◌&&◌, ◌||◌, not, ltb, ℤ, pos, drop, replicate}
 use Rattle.std.proofs.Math.Path.{refl, sym, ap, ap₂}
-use Rattle.std.proofs.Common.{subst, subst₂, ◌∙◌, mul-le-mul_left, mul-zero, mod-lt, mul_comm, div-lt_iff_lt-mul, lit≤, ext_get_or}
+use Rattle.std.proofs.Common.{subst, subst₂, ◌∙◌, mul-le-mul_left, mul-zero, mod-lt, mul_comm, div-lt_iff_lt-mul, lit≤}
+use Rattle.std.proofs.Common.{ext_get_or}
 use Rattle.std.proofs.Math.Bool.{true, false}
 use mathlib.Core.List.{List, [], ◌∷◌, ◌++◌, map}
 use Prim.Native.Nat.{ℕ, zero, suc, ◌+◌, ◌*◌, ◌/◌, ◌%◌, ◌≤◌, ◌<◌}
@@ -12,7 +13,8 @@ use Rattle.std.proofs.Math.Nat.{mul-suc, div-add-mod}
 use Rattle.std.proofs.Math.Dec.{eqb, leb}
 use Rattle.std.proofs.Math.ListN.{length, get_or, take, length-append, get_or-append}
 use Rattle.std.proofs.lemmas.List.{length-replicate, get_or-replicate}
-use Rattle.std.proofs.Math.Seq.{take-nil, drop-nil, take_at, take-append-add, drop-append-add, get_or-append-add, get_or-take, get_or-drop}
+use Rattle.std.proofs.Math.Seq.{take-nil, drop-nil, take_at, take-append-add, drop-append-add, get_or-append-add}
+use Rattle.std.proofs.Math.Seq.{get_or-take, get_or-drop}
 use borrow.Author.Tests.{le-leb, eqb-true, eqb-false, eq-eqb, ne_eqb, lt-leb}
 use Rattle.lists.specs.Lists.{range}
 use Rattle.lists.specs.Bools.{clash, cond_same, and_false}
@@ -481,7 +483,8 @@ laws query accepted f t cards met =
 -- ---- A withdrawn row among the first, of a table or of its rows
 
 zero_rows : {weight : Row → ℕ} → Rises weight → (t : Table) (n : ℕ)
-    → ((i : ℕ) → i < n → get_or (rows_of t) i blank_row ≡ row t i) → zero_among (rows_by t.coordinates weight) (rows_of t) n
+    → ((i : ℕ) → i < n → get_or (rows_of t) i blank_row ≡ row t i)
+    → zero_among (rows_by t.coordinates weight) (rows_of t) n
     ≡ withdrawn_within t n
 unfolding zero_among withdrawn_within
 zero_rows rises t zero same = refl

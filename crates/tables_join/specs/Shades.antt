@@ -14,8 +14,10 @@ use Rattle.rules.specs.Tables.{Table, Terms, terms, pair_sum, ahead, Block, pair
 use Rattle.rules.specs.Meaning.{first_scores}
 use Rattle.rules.proofs.Rectangles.{far_qualifying}
 use Rattle.rules.specs.Session.{held_pairs}
-use Rattle.rules.specs.Read.{field_next_by, field_next, rows_between, block_count, block_at, lowest, skipped_by, best_held}
-use Rattle.rules.specs.Read.{holding, meet_by, meet, meet_blocks_by, meet_blocks, read_to, old_depth, new_depth, read_table_by}
+use Rattle.rules.specs.Read.{field_next_by, field_next, rows_between, block_count, block_at, lowest, skipped_by}
+use Rattle.rules.specs.Read.{best_held}
+use Rattle.rules.specs.Read.{holding, meet_by, meet, meet_blocks_by, meet_blocks, read_to, old_depth, new_depth}
+use Rattle.rules.specs.Read.{read_table_by}
 use Rattle.rules.specs.Read.{read_table, read_block_by, read_block}
 use Rattle.rules.specs.Calls.{call_code, new_block_code}
 use Rattle.session_laws.specs.Calls.{Accepted, call_out, NewRowsFit, new_block_out}

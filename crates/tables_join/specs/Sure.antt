@@ -17,7 +17,8 @@ use Rattle.rules.specs.declared.FieldRows.{FieldRows}
 use Rattle.rules.specs.declared.TrimRows.{TrimRows}
 use Rattle.rules.specs.declared.Query.{Query}
 use Rattle.rules.specs.Tables.{Table}
-use Rattle.rules.specs.Tables.{row_count, legal, Row, row, withdrawn, Terms, terms, pair_sum, Block, pair_at, qualifying}
+use Rattle.rules.specs.Tables.{row_count, legal, Row, row, withdrawn, Terms, terms, pair_sum, Block, pair_at}
+use Rattle.rules.specs.Tables.{qualifying}
 use Rattle.rules.specs.Tables.{first_rows, unsatisfiable}
 use Rattle.rules.proofs.ToleranceLaws.{nothing_listed}
 use Rattle.rules.specs.Session.{withdrawn_within, first_score, last_score}
@@ -168,7 +169,8 @@ module _ (query : Query) (accepted : query_code query ≡ 0) (f t : Table) (m : 
       same =
           λ F₁ F₂ T₁ T₂ a b c d.
           sym (flat_sums F₁ T₁ (legal_wide F₁ a.legal) (legal_wide T₁ c.legal))
-          ∙ s (flat_f F₁) (flat_f F₂) (flat_t T₁) (flat_t T₂) (to_field F₁ a) (to_field F₂ b) (to_trim T₁ c) (to_trim T₂ d)
+          ∙ s (flat_f F₁) (flat_f F₂) (flat_t T₁) (flat_t T₂) (to_field F₁ a) (to_field F₂ b) (to_trim T₁ c)
+          (to_trim T₂ d)
           ∙ flat_sums F₂ T₂ (legal_wide F₂ b.legal) (legal_wide T₂ d.legal);
     },
     λ s. λ f₁ f₂ t₁ t₂ a b c d. ap (best k) (sums_rows query f.coordinates t.coordinates (whole f₁) (whole t₁))

@@ -45,7 +45,8 @@ held_unskipped field s new t depth (suc n) =
 unfoldable pub read_unskipped : Bool → Table → Table → Session → List Pair
 read_unskipped field f t s =
     let depth = cond field s.depth.trim.0 s.depth.field.0 in
-    held_unskipped field s (rows_between (cond field f t) (old_depth field s) (new_depth field s)) (cond field t f) depth
+    held_unskipped field s (rows_between (cond field f t) (old_depth field s) (new_depth field s)) (cond field t f)
+    depth
     (block_count s.query.block depth)
 
 -- ---- Blocks of legal tables

@@ -66,7 +66,8 @@ module _ (q : Query) (accepted : query_code q ≡ 0) (f t : Table) (cards : OneC
   -- k sums of a reading are at least its ceiling
   abbrev pub Enough : ℕ → ℕ → Type 0
   Enough m n =
-      q.k ≤ at_least (ceiling_at q f t (field_rows m) (trim_rows n)) (qualifying_sums q (first_rows m f) (first_rows n t))
+      q.k ≤ at_least (ceiling_at q f t (field_rows m) (trim_rows n))
+      (qualifying_sums q (first_rows m f) (first_rows n t))
 
   -- what makes a reading sure
   pub data Grounds (m n : ℕ) : Type 0 where

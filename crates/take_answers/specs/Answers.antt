@@ -23,7 +23,8 @@ module _ (f t : Table) (s : Session) where
   abbrev pub after_take : Answer → Session
   after_take a = cond (was_given a) (moved_out s) s
 
-  take_is : step (take_answer (call_code f t s) f t s) (after_take (take_answer (call_code f t s) f t s)) ≡ take_call f t s
+  take_is : step (take_answer (call_code f t s) f t s) (after_take (take_answer (call_code f t s) f t s))
+      ≡ take_call f t s
   unfolding take_call_by take_answer
   take_is = go (call_code f t s) (eqb (call_code f t s) 0) (gives_pair f t s) (finished f t s)
     where
@@ -39,7 +40,8 @@ module _ (f t : Table) (s : Session) where
 
   pub take_ends : (code : ℕ) (a : Answer) → code ≡ call_code f t s → a ≡ take_answer code f t s
       → step a (after_take a) ≡ take_call f t s
-  take_ends code a e h = ap (λ (x : Answer). step x (after_take x)) (h ∙ ap (λ (n : ℕ). take_answer n f t s) e) ∙ take_is
+  take_ends code a e h = ap (λ (x : Answer). step x (after_take x)) (h ∙ ap (λ (n : ℕ). take_answer n f t s) e)
+      ∙ take_is
 
 -- a pair is given: the checks passed, and the first held pair was secured
 module _ (code : ℕ) (f t : Table) (s : Session) where

@@ -11,9 +11,12 @@ use Rattle.rules.specs.declared.Session.{Session}
 use Rattle.rules.specs.declared.Answer.TheVariants.{Refused, Read, Settled, Given, NotYet, Finished}
 use Rattle.rules.specs.Tables.{Table, Terms, terms, Block, qualifying}
 use Rattle.rules.specs.Session.{held_pairs, first_score, last_score, field_read_out, trim_read_out, both_read_out}
-use Rattle.rules.specs.Session.{nothing_qualifies, a_table_is_empty, a_depth_is_zero, ceiling_by, secured_by, settled_by}
-use Rattle.rules.specs.Read.{score_drop, field_next_by, rows_between, block_count, block_at, lowest, skipped_by, best_held}
-use Rattle.rules.specs.Read.{holding, meet_by, meet_blocks_by, read_to, old_depth, new_depth, read_table_by, read_block_by}
+use Rattle.rules.specs.Session.{nothing_qualifies, a_table_is_empty, a_depth_is_zero, ceiling_by, secured_by}
+use Rattle.rules.specs.Session.{settled_by}
+use Rattle.rules.specs.Read.{score_drop, field_next_by, rows_between, block_count, block_at, lowest, skipped_by}
+use Rattle.rules.specs.Read.{best_held}
+use Rattle.rules.specs.Read.{holding, meet_by, meet_blocks_by, read_to, old_depth, new_depth, read_table_by}
+use Rattle.rules.specs.Read.{read_block_by}
 use Rattle.rules.specs.Take.{first_held, gives_pair_by, moved_out, finished}
 use Rattle.rules.specs.Calls.{rows_code, call_code, new_block_code_by, step, read_call_by, take_call_by}
 use Rattle.session_laws.specs.Read.{blocks_keep}
@@ -98,7 +101,8 @@ module _ (g : Query → Terms) (s : Session) (e : g s.query ≡ terms s.query) w
     table_agrees field =
         let depth : ℕ = cond field s.depth.trim.0 s.depth.field.0 in
         ap (read_to field (new_depth field s))
-        (blocks_agree field (rows_between (cond field f t) (old_depth field s) (new_depth field s)) (cond field t f) depth
+        (blocks_agree field (rows_between (cond field f t) (old_depth field s) (new_depth field s)) (cond field t f)
+        depth
         (block_count s.query.block depth))
 
     block_agrees : read_block_by g f t s ≡ read_block_by terms f t s

@@ -45,7 +45,8 @@ module _ (test : Pair → Bool) where
       go : (b : Bool) → every test (held_pairs (cond b s (holding s (best_held s met)))) ≡ true
       go true = held
       go false =
-          subst (λ l. every test l ≡ true) (sym (held_holding s (best_held s met))) (every_of test (best_held s met) kept)
+          subst (λ l. every test l ≡ true) (sym (held_holding s (best_held s met)))
+          (every_of test (best_held s met) kept)
 
   -- rows a + 1 to b of the table that is read meet rows 1 to c of the other one
   module _ (field : Bool) (f t : Table) (s : Session) (a b c : ℕ) (hb : b ≤ row_count (cond field f t))
@@ -134,7 +135,8 @@ pair_checked false f t s a new p m =
     (rows.0 (p.field - 1) (omega (arith, m.other_part)), rows.1 (p.trim - 1) (omega (arith, m.own_part)))
 
 pub read_low : (field : Bool) (f t : Table) (s : Session) → s.query.weights ≡ weights 1 1 → Accepted f t s
-    → NewRowsFit field f t s → every is_low (held_pairs s) ≡ true → every is_low (held_pairs (read_table field f t s)) ≡ true
+    → NewRowsFit field f t s → every is_low (held_pairs s) ≡ true → every is_low (held_pairs (read_table field f t s))
+    ≡ true
 read_low field f t s ones a new held =
     read_every is_low field f t s a held
     (λ p m.

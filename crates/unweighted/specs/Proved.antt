@@ -18,9 +18,11 @@ use Rattle.rules.specs.Numbers.{bad_record}
 use Rattle.rules.specs.Session.{lent_table, weights, opened, settled}
 use Rattle.rules.specs.Read.{field_next, read_block}
 use Rattle.rules.specs.Take.{first_held, gives_pair, moved_out, finished}
-use Rattle.rules.specs.Calls.{call_code, new_block_code, step, open_code, open_call, read_call_by, read_call, take_call_by}
+use Rattle.rules.specs.Calls.{call_code, new_block_code, step, open_code, open_call, read_call_by, read_call}
+use Rattle.rules.specs.Calls.{take_call_by}
 use Rattle.rules.specs.Calls.{take_call}
-use Rattle.rules.specs.Query.{was_read, given, was_given, read_until_settled_by, take_until_finished_by, settled_session, list}
+use Rattle.rules.specs.Query.{was_read, given, was_given, read_until_settled_by, take_until_finished_by}
+use Rattle.rules.specs.Query.{settled_session, list}
 use Rattle.session_laws.specs.Calls.{call_out, new_block_out}
 use Rattle.session_laws.specs.Read.{read_query}
 use Rattle.demand.specs.Demand.{Call, reading, taking, Line, ruled, by_rules}

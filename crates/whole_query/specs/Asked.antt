@@ -65,5 +65,6 @@ lent_listing_answer l f t out =
 
 unfoldable pub lent_listing_bytes : List ℕ → List ℤ → List ℤ → List ℕ → List ℕ
 lent_listing_bytes l f t out =
-    written_unless (lent_listing_code l f t out) (put_at 0 (listing (query_in l) (asked_field l f) (asked_trim l t)) out)
+    written_unless (lent_listing_code l f t out)
+    (put_at 0 (listing (query_in l) (asked_field l f) (asked_trim l t)) out)
     out

@@ -2,7 +2,8 @@
 #![tactic(auto)]
 
 ghost use Rattle.std.specs.Prelude.{◌≡◌};
-ghost use Rattle.whole_query.specs.Asked.{lent_query_answer, lent_query_numbers, lent_listing_answer, lent_listing_bytes};
+ghost use Rattle.whole_query.specs.Asked.{lent_query_answer, lent_query_numbers, lent_listing_answer};
+ghost use Rattle.whole_query.specs.Asked.{lent_listing_bytes};
 
 use outcomes::asked_code;
 

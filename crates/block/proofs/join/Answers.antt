@@ -60,7 +60,8 @@ next_near-k-requires c =
         live.live_rows-m.ensures,
         c.loop-i.invariant.1,
       );
-      small_pairs = rows_small a.q a.a a.c x y s.requires.query_fits.1 s.requires.query_fits.0 s.requires.query_fits.2 s.requires.query_fits.3;
+      small_pairs = rows_small a.q a.a a.c x y s.requires.query_fits.1 s.requires.query_fits.0 s.requires.query_fits.2
+          s.requires.query_fits.3;
     }
 
 pub pair_at-p-requires : goal.pair_at-p-requires
@@ -148,7 +149,8 @@ loop-i-preserved-then-g-room c =
       v.invariant.3,
       v.invariant.4,
       Turns.rest_fallen (terms s.args.q) s.args.room x y n a v.i v.g v.keys near.result here
-          (omega (arith, near.ensures.upto, live.live_rows-m.ensures.upto)) (later (goal.at.loop-i-preserved-then-g-room c).Then-g-room) v.invariant.4 s.requires.held_le_room.1
+          (omega (arith, near.ensures.upto, live.live_rows-m.ensures.upto))
+          (later (goal.at.loop-i-preserved-then-g-room c).Then-g-room) v.invariant.4 s.requires.held_le_room.1
           (eqb-true v.g s.args.room both.0),
     )
 
@@ -239,5 +241,6 @@ returns c =
     let met =
     subst (λ (j : ℕ). Turns.Met (terms s.args.q) s.args.room x y n a v.i j v.g v.keys) z v.invariant.5 in
     Turns.all_met (terms s.args.q) s.args.room x y n a v.i v.g v.keys
-    (omega (arith, v.invariant.0, last.upto)) (λ i h k j _. none i j (omega (arith, h, passed)) k) met s.requires.held_le_room.0
+    (omega (arith, v.invariant.0, last.upto)) (λ i h k j _. none i j (omega (arith, h, passed)) k) met
+    s.requires.held_le_room.0
     v.invariant.3 v.invariant.4

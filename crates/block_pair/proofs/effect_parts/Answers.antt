@@ -18,13 +18,16 @@ effect-requires c =
     let fields = table n c.rows-fields.result.now in
     let trims = table n c.rows-trims.result.now in
     let first = lent_rows (table n a.f.now) a.x _ c.rows-fields.ensures.result_value.0 s.requires.query_fits.2 in
-    let second = lent_rows (table n a.t.now) a.y _ c.rows-trims.ensures.result_value.0 s.requires.query_fits.3 in record {
+    let second = lent_rows (table n a.t.now) a.y _ c.rows-trims.ensures.result_value.0 s.requires.query_fits.3
+    in record {
       has_row = (
         has_row fields 0 (omega (arith, c.rows-fields.ensures.result_value.1, s.requires.query_fits.2.some)),
         has_row trims 0 (omega (arith, c.rows-trims.ensures.result_value.1, s.requires.query_fits.3.some)),
       );
-      small_pairs = rows_small a.q a.x.from a.y.from fields trims s.requires.query_fits.1 s.requires.query_fits.0 first second;
-      sides_value = rw (c.rows-fields.ensures.result_value.0, c.rows-trims.ensures.result_value.0) s.requires.sides_value;
+      small_pairs = rows_small a.q a.x.from a.y.from fields trims s.requires.query_fits.1 s.requires.query_fits.0 first
+          second;
+      sides_value = rw (c.rows-fields.ensures.result_value.0, c.rows-trims.ensures.result_value.0)
+          s.requires.sides_value;
     }
 
 pub returns : goal.returns

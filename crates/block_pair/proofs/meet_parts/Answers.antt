@@ -34,4 +34,5 @@ returns c =
     let a = s.args in
     meets_counted a.q a.room (span_block (table a.n a.f.now) a.x)
     (span_block (table a.n a.t.now) a.y) a.m
-    a.keys.now at.effect_parts-w.result (effect (goal.at.returns c).After-effect_parts-w) c.if-w-eq2.false s.requires.held_le_room.0 s.requires.held_le_room.3
+    a.keys.now at.effect_parts-w.result (effect (goal.at.returns c).After-effect_parts-w) c.if-w-eq2.false
+    s.requires.held_le_room.0 s.requires.held_le_room.3

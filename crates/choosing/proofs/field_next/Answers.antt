@@ -60,7 +60,10 @@ pub returns-then-x-y : goal.returns-then-x-y
 returns-then-x-y c = sym (by-drops (goal.at.returns-then-x-y c).After-drop_of-y ∙ simp (lt-ltb _ _ c.if-x-y.true) refl)
 
 pub returns-then-y-x : goal.returns-then-y-x
-returns-then-y-x c = sym (by-drops (goal.at.returns-then-y-x c).After-drop_of-y ∙ simp (le-ltb _ _ c.if-x-y.false, lt-ltb _ _ c.if-y-x.true) refl)
+returns-then-y-x c = sym
+    (by-drops (goal.at.returns-then-y-x c).After-drop_of-y
+    ∙ simp (le-ltb _ _ c.if-x-y.false, lt-ltb _ _ c.if-y-x.true) refl)
 
 pub returns : goal.returns
-returns c = sym (by-drops (goal.at.returns c).After-drop_of-y ∙ simp (le-ltb _ _ c.if-x-y.false, le-ltb _ _ c.if-y-x.false) refl)
+returns c = sym (by-drops (goal.at.returns c).After-drop_of-y
+    ∙ simp (le-ltb _ _ c.if-x-y.false, le-ltb _ _ c.if-y-x.false) refl)

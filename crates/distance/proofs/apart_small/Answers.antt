@@ -24,10 +24,13 @@ returns-then-y-x c =
     (refl, G.gap_small s.args.x s.args.y s.requires.0 s.requires.1)
 
 pub overflow_sub-result-2 : goal.overflow_sub-result-2
-overflow_sub-result-2 c = let s = c in G.sub_fits_small s.args.y s.args.x s.requires.1 s.requires.0 (other (goal.at.overflow_sub-result-2 c).Else-y-x)
+overflow_sub-result-2 c = let s = c
+    in G.sub_fits_small s.args.y s.args.x s.requires.1 s.requires.0 (other (goal.at.overflow_sub-result-2 c).Else-y-x)
 
 pub overflow_cast-result-2 : goal.overflow_cast-result-2
-overflow_cast-result-2 c = let s = c in G.cast_fits_small s.args.y s.args.x s.requires.1 s.requires.0 (other (goal.at.overflow_cast-result-2 c).Else-y-x)
+overflow_cast-result-2 c = let s = c
+    in G.cast_fits_small s.args.y s.args.x s.requires.1 s.requires.0
+    (other (goal.at.overflow_cast-result-2 c).Else-y-x)
 
 pub returns : goal.returns
 returns c =

@@ -27,7 +27,8 @@ needed c = ap (λ (w : ℕ). w * c.in-Rows.count) c.width.ensures
 
 pub returns-then-room-width : goal.returns-then-room-width
 unfolding and_slice
-returns-then-room-width c = simp (c.in-Rows.is, ← needed (goal.at.returns-then-room-width c).After-width, lt-ltb _ _ c.if-room-width.true)
+returns-then-room-width c = simp
+    (c.in-Rows.is, ← needed (goal.at.returns-then-room-width c).After-width, lt-ltb _ _ c.if-room-width.true)
 
 pub returns : goal.returns
 unfolding and_slice

@@ -31,7 +31,8 @@ returns-in_default c =
     let s = c.args in
     let told = to_z-of_z c.ranges.kind in
     let n : c.kind_coordinates-n.result ≡ wanted s.kind = c.kind_coordinates-n.ensures ∙ ap wanted told in
-    let e = answered s.bytes.now s.kind (length s.out.now) c.kind_coordinates-n.result c.check.result c.and_room-answer.result
+    let e = answered s.bytes.now s.kind (length s.out.now) c.kind_coordinates-n.result c.check.result
+    c.and_room-answer.result
     n (simp told at c.check.ensures) c.and_room-answer.ensures in
     let i = c.in_default in
     let w = unfit_load s.bytes.now s.kind s.out.now (Unfit i.field-0 i.field-1) (sym i.is ∙ e) refl in
@@ -43,7 +44,8 @@ put_rows-requires c =
     let s = c.args in
     let told = to_z-of_z c.ranges.kind in
     let n : c.kind_coordinates-n.result ≡ wanted s.kind = c.kind_coordinates-n.ensures ∙ ap wanted told in
-    let e = answered s.bytes.now s.kind (length s.out.now) c.kind_coordinates-n.result c.check.result c.and_room-answer.result
+    let e = answered s.bytes.now s.kind (length s.out.now) c.kind_coordinates-n.result c.check.result
+    c.and_room-answer.result
     n (simp told at c.check.ensures) c.and_room-answer.ensures in
     let m = c.in-Rows.count in
     let p = read_passed s.bytes.now s.kind s.out.now m (sym c.in-Rows.is ∙ e) in
@@ -57,7 +59,8 @@ returns c =
     let s = c.args in
     let told = to_z-of_z c.ranges.kind in
     let n : c.kind_coordinates-n.result ≡ wanted s.kind = c.kind_coordinates-n.ensures ∙ ap wanted told in
-    let e = answered s.bytes.now s.kind (length s.out.now) c.kind_coordinates-n.result c.check.result c.and_room-answer.result
+    let e = answered s.bytes.now s.kind (length s.out.now) c.kind_coordinates-n.result c.check.result
+    c.and_room-answer.result
     n (simp told at c.check.ensures) c.and_room-answer.ensures in
     let m = c.in-Rows.count in
     let written : ℕ → List ℤ =

@@ -51,7 +51,8 @@ row_number-requires c =
     let l = c.loop-j in
     let s = c in
     let bytes = s.args.bytes.now in
-    let fit = s.requires.row_bytes_fit.column l.j (omega (arith, inside (goal.at.row_number-requires c).In-loop-j)) in record {
+    let fit = s.requires.row_bytes_fit.column l.j (omega (arith, inside (goal.at.row_number-requires c).In-loop-j))
+    in record {
       j_in_bounds = omega (arith, room (goal.at.row_number-requires c).In-loop-j);
       j_value = subst (λ (at : ℕ). column_fits (is_signed l.j) (columns bytes at (column_bytes l.j)) ≡ true)
           (sym l.invariant.2) fit;
@@ -67,7 +68,8 @@ pub bounds-out-p : goal.bounds-out-p
 bounds-out-p c = free (goal.at.bounds-out-p c).In-loop-j
 
 pub overflow_add-at : goal.overflow_add-at
-overflow_add-at c = record { fits = omega (arith, room (goal.at.overflow_add-at c).In-loop-j, c.column_bytes-at.ensures) }
+overflow_add-at c = record
+    { fits = omega (arith, room (goal.at.overflow_add-at c).In-loop-j, c.column_bytes-at.ensures) }
 
 pub loop-j-preserved : goal.loop-j-preserved
 unfolding number_at
@@ -92,7 +94,8 @@ loop-j-preserved c =
       next,
       ap (set l.out (p + l.j)) found
           ∙ ap (λ (r : List ℤ). set r (p + l.j) (f l.j)) l.invariant.3
-          ∙ put_more f p out l.j (omega (arith, inside (goal.at.loop-j-preserved c).In-loop-j, s.requires.n_in_bounds.1)),
+          ∙ put_more f p out l.j
+          (omega (arith, inside (goal.at.loop-j-preserved c).In-loop-j, s.requires.n_in_bounds.1)),
     )
 
 pub returns : goal.returns

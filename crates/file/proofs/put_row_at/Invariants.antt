@@ -8,7 +8,8 @@ use Rattle.file.specs.Put.{put}
 use Rattle.file.proofs.put_row_at.Given as goal
 
 abbrev pub invariant-loop-j : goal.invariant-loop-j
-invariant-loop-j l = (l.j ≤ l.width) × (length l.out ≡ length l.initial.out) × (l.at ≡ l.o + column_start l.j) × (l.out ≡ put (number_at l.bytes l.o) l.p l.j l.initial.out)
+invariant-loop-j l = (l.j ≤ l.width) × (length l.out ≡ length l.initial.out) × (l.at ≡ l.o + column_start l.j)
+    × (l.out ≡ put (number_at l.bytes l.o) l.p l.j l.initial.out)
 
 abbrev pub decreases-loop-j : goal.decreases-loop-j
 decreases-loop-j l = l.width - l.j

@@ -51,13 +51,34 @@ loop-i-init c =
     (search rules, refl, ap (λ (k : ℕ). drop k s.out.now) none)
 
 pub overflow_mul-size : goal.overflow_mul-size
-overflow_mul-size c = record { fits = omega (arith, place (goal.at.overflow_mul-size c).In-loop-i, room (goal.at.overflow_mul-size c).In-loop-i) }
+overflow_mul-size c = record {
+  fits = omega (
+    arith,
+    place (goal.at.overflow_mul-size c).In-loop-i,
+    room
+        (goal.at.overflow_mul-size c).In-loop-i,
+  );
+}
 
 pub overflow_add-size : goal.overflow_add-size
-overflow_add-size c = record { fits = omega (arith, place (goal.at.overflow_add-size c).In-loop-i, room (goal.at.overflow_add-size c).In-loop-i) }
+overflow_add-size c = record {
+  fits = omega (
+    arith,
+    place (goal.at.overflow_add-size c).In-loop-i,
+    room
+        (goal.at.overflow_add-size c).In-loop-i,
+  );
+}
 
 pub overflow_mul-width : goal.overflow_mul-width
-overflow_mul-width c = record { fits = omega (arith, target (goal.at.overflow_mul-width c).In-loop-i, free (goal.at.overflow_mul-width c).In-loop-i) }
+overflow_mul-width c = record {
+  fits = omega (
+    arith,
+    target (goal.at.overflow_mul-width c).In-loop-i,
+    free
+        (goal.at.overflow_mul-width c).In-loop-i,
+  );
+}
 
 pub put_row-requires : goal.put_row-requires
 put_row-requires c =
@@ -66,8 +87,18 @@ put_row-requires c =
     let s = at in
     let h = at.loop-i-test.true in
     let fit = row_parts s.args.n s.args.bytes.now l.i (s.requires.rows_fit l.i h) in record {
-      n_in_bounds = (omega (arith, place (goal.at.put_row-requires c).In-loop-i, room (goal.at.put_row-requires c).In-loop-i), omega (arith, target (goal.at.put_row-requires c).In-loop-i, free (goal.at.put_row-requires c).In-loop-i, l.invariant.1));
-      row_bytes_fit = subst (RowBytesFit s.args.n s.args.bytes.now) (sym (place (goal.at.put_row-requires c).In-loop-i)) fit;
+      n_in_bounds = (
+        omega
+            (arith, place (goal.at.put_row-requires c).In-loop-i, room (goal.at.put_row-requires c).In-loop-i),
+        omega (
+          arith,
+          target (goal.at.put_row-requires c).In-loop-i,
+          free (goal.at.put_row-requires c).In-loop-i,
+          l.invariant.1,
+        ),
+      );
+      row_bytes_fit = subst (RowBytesFit s.args.n s.args.bytes.now)
+          (sym (place (goal.at.put_row-requires c).In-loop-i)) fit;
     }
 
 pub loop-i-preserved : goal.loop-i-preserved
@@ -80,7 +111,8 @@ loop-i-preserved c =
       omega (arith, at.loop-i-test.true),
       put.auto.out ∙ l.invariant.1,
       put.ensures
-          ∙ ap₂ (λ (o p : ℕ). row_put s.n bytes o p l.out) (place (goal.at.loop-i-preserved c).In-loop-i) (target (goal.at.loop-i-preserved c).In-loop-i)
+          ∙ ap₂ (λ (o p : ℕ). row_put s.n bytes o p l.out) (place (goal.at.loop-i-preserved c).In-loop-i)
+          (target (goal.at.loop-i-preserved c).In-loop-i)
           ∙ ap (row_put s.n bytes (row_start s.n l.i) (width s.n * l.i)) l.invariant.2
           ∙ one_row_lem s.n bytes l.i s.out.now,
     )

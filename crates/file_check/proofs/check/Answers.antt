@@ -36,7 +36,8 @@ pub returns-then-code-ne0 : goal.returns-then-code-ne0
 returns-then-code-ne0 c =
     let s = c.args in
     let k = simp (to_z-of_z c.ranges.kind) at c.head_code-code.ensures in
-    let code = code_is s.bytes.now s.kind c.read_header-header.result c.head_code-code.result c.read_header-header.ensures k in
+    let code = code_is s.bytes.now s.kind c.read_header-header.result c.head_code-code.result
+    c.read_header-header.ensures k in
     let refused = head_refuses s.bytes.now s.kind (λ z. c.if-code-ne0.true (code ∙ z)) in
     cc
 
@@ -46,7 +47,8 @@ check_rows-requires c =
     let k = simp (to_z-of_z c.ranges.kind) at c.head_code-code.ensures in
     let e = c.read_header-header.ensures in
     let p = head s.bytes.now s.kind c.read_header-header.result c.head_code-code.result e k c.if-code-ne0.false in
-    let count = count_is s.bytes.now s.kind c.read_header-header.result c.head_code-code.result e k c.if-code-ne0.false in
+    let count = count_is s.bytes.now s.kind c.read_header-header.result c.head_code-code.result e k c.if-code-ne0.false
+    in
     let n = c.kind_coordinates.ensures ∙ ap wanted (to_z-of_z c.ranges.kind) in
     let least = fits_least s.bytes.now s.kind p.kind_fits_lem in
     let size = p.size ∙ ap₂ row_start (sym n) (sym count) in

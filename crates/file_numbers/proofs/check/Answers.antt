@@ -23,8 +23,10 @@ checked c =
 
 pub told-requires : goal.told-requires
 told-requires c =
-    let s = c.args in
-    (subst (Told most_rows) (sym (checked (goal.at.told-requires c).After-check)) (check_told s.bytes.now s.kind), omega arith)
+    let s = c.args in (
+      subst (Told most_rows) (sym (checked (goal.at.told-requires c).After-check)) (check_told s.bytes.now s.kind),
+      omega arith,
+    )
 
 pub returns : goal.returns
 unfolding check_alone

@@ -6,7 +6,8 @@ use Rattle.file_row.specs.Held.{columns_held, numbers_held}
 use Rattle.file_row.proofs.read_row.Given as goal
 
 abbrev pub invariant-loop-k : goal.invariant-loop-k
-invariant-loop-k l = (2 ≤ l.k) × (l.k ≤ l.n) × (l.at ≡ l.o + column_start (l.k + 2)) × (l.fits ≡ columns_held (l.k + 2) l.bytes l.o)
+invariant-loop-k l = (2 ≤ l.k) × (l.k ≤ l.n) × (l.at ≡ l.o + column_start (l.k + 2))
+    × (l.fits ≡ columns_held (l.k + 2) l.bytes l.o)
     × (l.inside ≡ numbers_held l.k l.bytes l.o)
 
 abbrev pub decreases-loop-k : goal.decreases-loop-k

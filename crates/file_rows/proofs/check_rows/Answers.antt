@@ -90,7 +90,8 @@ loop-i-preserved c =
       λ _.
           score
           ∙ ap (λ (r : Row). r.score)
-          (row_is s.n c.row_bytes-size.result l.i s.count c.row_bytes-size.ensures c.loop-i-test.true s.bytes.now row.result
+          (row_is s.n c.row_bytes-size.result l.i s.count c.row_bytes-size.ensures c.loop-i-test.true s.bytes.now
+          row.result
           row.ensures)
           ∙ score_is s.n s.bytes.now l.i fit s.count c.loop-i-test.true
           ∙ ap (λ (k : ℕ). num t k 1) (sym last),

@@ -7,7 +7,8 @@ use Rattle.keys.specs.Held.{insert_at}
 use Rattle.keys.proofs.shift.Given as goal
 
 abbrev pub invariant-loop-j : goal.invariant-loop-j
-invariant-loop-j l = (l.j ≤ l.n) × (length l.a ≡ length l.initial.a) × (take l.j l.a ++ l.c ∷ drop l.j (take l.n l.a) ≡ insert_at l.i l.p (take l.n l.initial.a))
+invariant-loop-j l = (l.j ≤ l.n) × (length l.a ≡ length l.initial.a)
+    × (take l.j l.a ++ l.c ∷ drop l.j (take l.n l.a) ≡ insert_at l.i l.p (take l.n l.initial.a))
 
 abbrev pub decreases-loop-j : goal.decreases-loop-j
 decreases-loop-j l = l.n - l.j

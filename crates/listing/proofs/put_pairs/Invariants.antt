@@ -10,7 +10,8 @@ use Rattle.listing.proofs.put_pairs.Given as goal
 
 abbrev pub invariant-loop-i : goal.invariant-loop-i
 invariant-loop-i l = (l.run.count ≤ place_count)
-    × Writing (line_at (table l.n l.f) (table l.n l.t)) line_length l.at (list l.run.query (table l.n l.f) (table l.n l.t)) l.initial.out l.i l.out
+    × Writing (line_at (table l.n l.f) (table l.n l.t)) line_length l.at
+    (list l.run.query (table l.n l.f) (table l.n l.t)) l.initial.out l.i l.out
 
 abbrev pub decreases-loop-i : goal.decreases-loop-i
 decreases-loop-i l = l.run.count - l.i

@@ -15,7 +15,12 @@ some_beside-here-requires c =
     let v = c.loop-i in
     let x = table s.args.n s.args.x.now in
     let y = table s.args.n s.args.y.now in record {
-      has_row = (has_row x v.i (omega (arith, c.loop-i-test.true)), omega arith, has_rows y _ (omega (arith, v.invariant.2)));
+      has_row = (
+        has_row x v.i (omega (arith, c.loop-i-test.true)),
+        omega arith,
+        has_rows y _
+            (omega (arith, v.invariant.2)),
+      );
       small_pairs = s.requires;
     }
 

@@ -77,7 +77,8 @@ returns-then-near_by c =
       none_before = v.invariant.2;
       found = λ e h.
           stand_near_lem s.args.q x y s.requires.small_pairs s.args.i v.k (row_below x s.args.i s.requires.has_row.0) e
-          s.requires.has_row.1 (s.requires.has_row.2.live v.k h) (ap (λ r. stand_near r (row x s.args.i) (row y v.k)) (sym c.wide-wide.ensures.0) ∙ sym c.near_by.ensures
+          s.requires.has_row.1 (s.requires.has_row.2.live v.k h)
+          (ap (λ r. stand_near r (row x s.args.i) (row y v.k)) (sym c.wide-wide.ensures.0) ∙ sym c.near_by.ensures
           ∙ c.if-near_by.true);
     }
 

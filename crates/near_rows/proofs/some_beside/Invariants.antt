@@ -8,7 +8,8 @@ use Rattle.near_rows.proofs.some_beside.Given as goal
 
 abbrev pub invariant-loop-j : goal.invariant-loop-j
 invariant-loop-j l = (l.k ≤ l.j) × (l.j ≤ l.e)
-    × (l.seen ≡ false → (b : ℕ) → l.k ≤ b → b < l.j → Beyond l.reach (row (table l.n l.x) l.i).shade (row (table l.n l.y) b).shade)
+    × (l.seen ≡ false → (b : ℕ) → l.k ≤ b → b < l.j
+    → Beyond l.reach (row (table l.n l.x) l.i).shade (row (table l.n l.y) b).shade)
 
 abbrev pub decreases-loop-j : goal.decreases-loop-j
 decreases-loop-j l = l.e - l.j

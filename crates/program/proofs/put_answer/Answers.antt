@@ -56,4 +56,9 @@ returns c =
     let asked = ap (λ (x : Outcome). listing x.query f t) run.ensures in
     written_as (asked ∙ passed_as (open_code s.q f t) (listing s.q f t) (sym code ∙ c.if-run-ne0.false))
     (subst₂ (λ x y. Written (listing run.result.query x y) s.out.now put.new.out put.result) same.0
-    same.1 (record { count = put.ensures.upper_bound.1; short = put.ensures.upper_bound.0; front = put.ensures.out_after }))
+    same.1 (record {
+      count = put.ensures.upper_bound.1;
+      short = put.ensures.upper_bound.0;
+      front =
+          put.ensures.out_after;
+    }))

@@ -76,13 +76,15 @@ pub rows_of-fields-requires : goal.rows_of-fields-requires
 rows_of-fields-requires c =
     let x = c.load_table-a in
     let size : length x.new.out ≡ table_room = x.auto.out ∙ simp length-replicate in
-    table_there c.args.field.now c.file_kind-of_field.result x.new.out x.result c.in-Rows.m x.ensures.value c.in-Rows.is size
+    table_there c.args.field.now c.file_kind-of_field.result x.new.out x.result c.in-Rows.m x.ensures.value
+    c.in-Rows.is size
 
 pub rows_of-trims-requires : goal.rows_of-trims-requires
 rows_of-trims-requires c =
     let y = c.load_table-b in
     let size : length y.new.out ≡ table_room = y.auto.out ∙ simp length-replicate in
-    table_there c.args.trim.now c.file_kind-of_trim.result y.new.out y.result c.in-Rows-b.n y.ensures.value c.in-Rows-b.is size
+    table_there c.args.trim.now c.file_kind-of_trim.result y.new.out y.result c.in-Rows-b.n y.ensures.value
+    c.in-Rows-b.is size
 
 pub returns : goal.returns
 returns c =
@@ -95,12 +97,15 @@ returns c =
     let loaded2 = b.ensures.value ∙ ap (program_file s.trim.now) of_trim.ensures in
     let kinds : Kinds = record { field = record { 0 = of_field.result }; trim = record { 0 = of_trim.result } } in
     let f =
-    field_rows s.field.now kinds c.rows_of-fields.result.now _ a.new.out a.result c.in-Rows.m c.in-Rows.is of_field.ensures
+    field_rows s.field.now kinds c.rows_of-fields.result.now _ a.new.out a.result c.in-Rows.m c.in-Rows.is
+    of_field.ensures
     a.ensures.value a.ensures.out_after c.rows_of-fields.ensures in
     let t =
-    trim_rows s.trim.now kinds c.rows_of-trims.result.now _ b.new.out b.result c.in-Rows-b.n c.in-Rows-b.is of_trim.ensures
+    trim_rows s.trim.now kinds c.rows_of-trims.result.now _ b.new.out b.result c.in-Rows-b.n c.in-Rows-b.is
+    of_trim.ensures
     b.ensures.value b.ensures.out_after c.rows_of-trims.ensures in
     written_as
-    (files_fit s.field.now s.trim.now s.input.now a.result loaded c.in-Rows.m c.in-Rows.is b.result loaded2 c.in-Rows-b.n
+    (files_fit s.field.now s.trim.now s.input.now a.result loaded c.in-Rows.m c.in-Rows.is b.result loaded2
+    c.in-Rows-b.n
     _ _ c.in-Rows-b.is f t)
     c.put_asked.ensures

@@ -27,7 +27,8 @@ looked c =
 pub returns-then-is_blank-digit : goal.returns-then-is_blank-digit
 returns-then-is_blank-digit c =
     let s = c.args in
-    kind_new s.old s.new s.bytes.now (looked (goal.at.returns-then-is_blank-digit c).After-is_blank ∙ c.if-is_blank-digit.true)
+    kind_new s.old s.new s.bytes.now
+    (looked (goal.at.returns-then-is_blank-digit c).After-is_blank ∙ c.if-is_blank-digit.true)
 
 pub returns : goal.returns
 returns c =

@@ -9,7 +9,8 @@ use Rattle.query_numbers.proofs.put_parts.Given as goal
 
 abbrev pub invariant-loop-i : goal.invariant-loop-i
 invariant-loop-i l = (l.run.count ≤ place_count)
-    × Writing (part_at l.roots (table l.n l.f) (table l.n l.t)) l.wide l.at (list l.run.query (table l.n l.f) (table l.n l.t)) l.initial.out l.i l.out
+    × Writing (part_at l.roots (table l.n l.f) (table l.n l.t)) l.wide l.at
+    (list l.run.query (table l.n l.f) (table l.n l.t)) l.initial.out l.i l.out
 
 abbrev pub decreases-loop-i : goal.decreases-loop-i
 decreases-loop-i l = l.run.count - l.i

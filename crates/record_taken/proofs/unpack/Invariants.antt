@@ -8,7 +8,8 @@ use Rattle.record_layout.specs.Flat.{pairs_in, with_pairs}
 use Rattle.record_taken.proofs.unpack.Given as goal
 
 abbrev pub invariant-loop-i : goal.invariant-loop-i
-invariant-loop-i l = (l.i ≤ place_count) × (length l.s.pairs ≡ place_count) × (l.s ≡ with_pairs l.l (pairs_in l.l l.i ++ drop l.i (replicate place_count no_pair)))
+invariant-loop-i l = (l.i ≤ place_count) × (length l.s.pairs ≡ place_count)
+    × (l.s ≡ with_pairs l.l (pairs_in l.l l.i ++ drop l.i (replicate place_count no_pair)))
 
 abbrev pub decreases-loop-i : goal.decreases-loop-i
 decreases-loop-i l = place_count - l.i

@@ -25,7 +25,8 @@ pub returns-then-n-eq2 : goal.returns-then-n-eq2
 returns-then-n-eq2 c = rw c.if-n-eq2.true c.rows_code_at-then-n-eq2.ensures
 
 pub rows_code_at-requires-then-a-eq0-2 : goal.rows_code_at-requires-then-a-eq0-2
-rows_code_at-requires-then-a-eq0-2 c = has (goal.at.rows_code_at-requires-then-a-eq0-2 c).Start 3 0 c.if-n-eq3.true c.if-a-eq0-2.true
+rows_code_at-requires-then-a-eq0-2 c = has (goal.at.rows_code_at-requires-then-a-eq0-2 c).Start 3 0 c.if-n-eq3.true
+    c.if-a-eq0-2.true
 
 pub returns-then-a-eq0-2 : goal.returns-then-a-eq0-2
 returns-then-a-eq0-2 c = rw (c.if-n-eq3.true, c.if-a-eq0-2.true) c.rows_code_at-then-a-eq0-2.ensures

@@ -24,7 +24,8 @@ loop-n-init c = (
 
 pub returns-in_default : goal.returns-in_default
 returns-in_default c =
-    let is = called c.args.f.now c.args.t.now c.args.s c.loop-n.left c.loop-n.invariant.1 c.take-r.result c.take-r.ensures in
+    let is = called c.args.f.now c.args.t.now c.args.s c.loop-n.left c.loop-n.invariant.1 c.take-r.result
+    c.take-r.ensures in
     let k = c.in_default.not-Given in
     let none = ap (λ (x : Step). was_given x.answer) (sym is) ∙ not_given c.take-r.result.answer k in
     taking_stops c.loop-n.invariant.0 none

@@ -9,8 +9,12 @@ use Rattle.skipping.proofs.are_far.Goals as goal
 
 pub far-requires : goal.far-requires
 far-requires c =
-    let s = c in
-    (card_least s.args.n s.requires.n_value.0, card_small s.args.n s.requires.n_value.0, s.requires.n_value.2, s.requires.n_value.3)
+    let s = c in (
+      card_least s.args.n s.requires.n_value.0,
+      card_small s.args.n s.requires.n_value.0,
+      s.requires.n_value.2,
+      s.requires.n_value.3,
+    )
 
 pub returns-then-field : goal.returns-then-field
 returns-then-field c =
@@ -24,8 +28,12 @@ returns-then-field c =
 
 pub far-requires-2 : goal.far-requires-2
 far-requires-2 c =
-    let s = c in
-    (card_least s.args.n s.requires.n_value.0, card_small s.args.n s.requires.n_value.0, s.requires.n_value.1, s.requires.n_value.3)
+    let s = c in (
+      card_least s.args.n s.requires.n_value.0,
+      card_small s.args.n s.requires.n_value.0,
+      s.requires.n_value.1,
+      s.requires.n_value.3,
+    )
 
 pub returns : goal.returns
 returns c =

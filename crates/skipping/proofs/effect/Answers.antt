@@ -46,13 +46,15 @@ pub returns-then-row_count-gt32 : goal.returns-then-row_count-gt32
 returns-then-row_count-gt32 c =
     let at = c in
     let s = at.args in
-    effect_open s.full s.low s.q (table s.n s.x.now) (table s.n s.y.now) (kept (goal.at.returns-then-row_count-gt32 c).Else-are_far)
+    effect_open s.full s.low s.q (table s.n s.x.now) (table s.n s.y.now)
+    (kept (goal.at.returns-then-row_count-gt32 c).Else-are_far)
 
 pub returns-then-any_beside : goal.returns-then-any_beside
 returns-then-any_beside c =
     let at = c in
     let s = at.args in
-    effect_open s.full s.low s.q (table s.n s.x.now) (table s.n s.y.now) (kept (goal.at.returns-then-any_beside c).Else-are_far)
+    effect_open s.full s.low s.q (table s.n s.x.now) (table s.n s.y.now)
+    (kept (goal.at.returns-then-any_beside c).Else-are_far)
 
 pub returns : goal.returns
 returns c =

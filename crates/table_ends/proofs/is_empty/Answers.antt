@@ -17,7 +17,8 @@ is_withdrawn-requires c =
 
 pub returns-then-depth-gt0 : goal.returns-then-depth-gt0
 unfolding is_empty
-returns-then-depth-gt0 c = simp (ne_eqb _ _ c.if-rows-eq0.false, lt-ltb _ _ c.if-depth-gt0.true, c.is_withdrawn.ensures) refl
+returns-then-depth-gt0 c = simp
+    (ne_eqb _ _ c.if-rows-eq0.false, lt-ltb _ _ c.if-depth-gt0.true, c.is_withdrawn.ensures) refl
 
 pub returns : goal.returns
 unfolding is_empty

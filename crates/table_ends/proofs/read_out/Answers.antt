@@ -14,7 +14,8 @@ returns-then-depth-rows c = simp (eq-eqb _ _ c.if-depth-rows.true) refl
 
 pub returns-then-depth-eq0 : goal.returns-then-depth-eq0
 unfolding read_out withdrawn_within
-returns-then-depth-eq0 c = simp (c.if-depth-eq0.true, ne_eqb 0 _ (λ e. c.if-depth-rows.false (c.if-depth-eq0.true ∙ e))) refl
+returns-then-depth-eq0 c = simp
+    (c.if-depth-eq0.true, ne_eqb 0 _ (λ e. c.if-depth-rows.false (c.if-depth-eq0.true ∙ e))) refl
 
 pub is_withdrawn-requires : goal.is_withdrawn-requires
 is_withdrawn-requires c =

@@ -37,7 +37,8 @@ returns-then-code-ne0 c =
     let f = asked_field s.query.now s.f.now in
     let t = asked_trim s.query.now s.t.now in
     let end =
-    refused (asked (goal.at.returns-then-code-ne0 c).After-asked_code-code) (λ (q : Query). length (list q f t)) (λ (q : Query). answered q f t s.out.now)
+    refused (asked (goal.at.returns-then-code-ne0 c).After-asked_code-code) (λ (q : Query). length (list q f t))
+    (λ (q : Query). answered q f t s.out.now)
     s.out.now
     c.if-code-ne0.true in
     record {
@@ -54,7 +55,8 @@ put_numbers-requires c =
 pub overflow_cast-result : goal.overflow_cast-result
 overflow_cast-result c =
     let s = c.args in
-    let few = count_few (asked_field s.query.now s.f.now) (asked_trim s.query.now s.t.now) c.run-run.result (outcome_is (asked (goal.at.overflow_cast-result c).After-asked_code-code)) in
+    let few = count_few (asked_field s.query.now s.f.now) (asked_trim s.query.now s.t.now) c.run-run.result
+    (outcome_is (asked (goal.at.overflow_cast-result c).After-asked_code-code)) in
     record { sfits = omega arith }
 
 pub returns : goal.returns
