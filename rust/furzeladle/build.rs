@@ -1,14 +1,15 @@
 //! Links target/staticlib/libfurzeladle.a. Where it is missing or older than the crates that it is made of, the Rattle
-//! kit's command `rt` proves and makes it first.
+//! kit, by `tools/make`, proves and makes it first.
 use std::path::{Path, PathBuf};
 use std::process::{exit, Command};
 use std::time::SystemTime;
 
-/// When a file, or the newest below a folder, was last changed.
+/// When a file, or the newest below a folder, was last changed; what the kit made, in folders `out`, aside.
 fn changed(path: &Path) -> Option<SystemTime> {
     let own = path.metadata().and_then(|about| about.modified()).ok();
     let below = std::fs::read_dir(path).into_iter().flatten().flatten();
     below
+        .filter(|entry| entry.file_name() != "out")
         .filter_map(|entry| changed(&entry.path()))
         .chain(own)
         .max()
@@ -16,15 +17,14 @@ fn changed(path: &Path) -> Option<SystemTime> {
 
 /// Proves and makes the library, or says in words what is missing.
 fn make(root: &Path) {
-    let staticlib = Command::new("rt")
-        .args(["staticlib", "furzeladle"])
-        .current_dir(root)
+    let staticlib = Command::new(root.join("tools/make"))
+        .arg("furzeladle")
         .output();
     let why = match staticlib {
         Ok(made) if made.status.success() => return,
-        Ok(_) => "`rt staticlib furzeladle` failed: run it in the repository's folder to see why".into(),
+        Ok(_) => "`tools/make furzeladle` failed: run it in the repository's folder to see why".into(),
         Err(fault) => format!(
-            "cannot run `rt` ({fault}): install the Rattle kit, which proves and makes the library, \
+            "cannot run `tools/make` ({fault}): install the Rattle kit, which proves and makes the library, \
              or copy a made libfurzeladle.a to target/staticlib"
         ),
     };
