@@ -22,7 +22,7 @@ returns-then-not-k-block c =
     let k = c.column_at-k in
     let b = c.column_at-block in
     let r = c.column_at-radius in
-    let size = eq-eqb _ _ c.if-input-ne-INPUT_LENGTH.false in
+    let size = eq-eqb (length c.args.input.now) input_length (omega arith) in
     simp c.evenly-none.ensures
     (input_bad c.args.input.now k.result b.result r.result k.ensures b.ensures r.ensures size c.if-not-k-block.true)
 
@@ -31,7 +31,7 @@ returns c =
     let k = c.column_at-k in
     let b = c.column_at-block in
     let r = c.column_at-radius in
-    let size = eq-eqb _ _ c.if-input-ne-INPUT_LENGTH.false in
+    let size = eq-eqb (length c.args.input.now) input_length (omega arith) in
     let good =
     input_good c.args.input.now k.result b.result r.result k.ensures b.ensures r.ensures size c.if-not-k-block.false in
     let x : to_z w32 (of_z w32 k.result.number) ≡ k.result.number = search rules in
