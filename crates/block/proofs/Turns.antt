@@ -1,88 +1,96 @@
--- What a turn of the block join makes of the numbers that stand for the pairs held. Assumes nothing.
-use mathlib.Core.Path.{◌≡◌, subst, ◌∙◌}
-use mathlib.Core.Bool.{true, false}
-use mathlib.Core.List.{List}
-use Prim.Native.Nat.{ℕ, ◌+◌, ◌%◌, ◌≤◌, ◌<◌}
-use native.Mathlib.Omega.{arith}
-use lib.Dec.{ltb}
-use lib.ListN.{length, get_or, take, length-take}
+-- What turns of the block join make of the keys of the pairs held: one row of x first, then all. Assumes nothing.
+use Rattle.std.proofs.Common.{◌≡◌, false, true, List, ℕ, ◌+◌, ◌≤◌, ◌<◌, subst, ◌∙◌, arith, length, add-one}
 use Rattle.lists.specs.Words.{Ordered}
 use Rattle.rules.specs.declared.Pair.{Pair}
 use Rattle.rules.specs.Tables.{Terms, Block, row, row_count, pair_at, ahead}
-use Rattle.keys.specs.Held.{key_of, Narrow, Keyed, Put}
+use Rattle.keys.specs.Held.{Narrow, Keyed, Put, falls_off}
 use Rattle.keys.specs.Keys.{keyed_length}
-use Rattle.near_rows.specs.Near.{NextNear}
-use Rattle.block.specs.Block.{met_row, met_rows, Joined}
-use Rattle.block.specs.Full.{off, put_off, to_ordered}
-use Rattle.block.specs.Twin.{met_to, to_next, row_joins, row_leaves, row_skips, rows_skip, met_is}
+use Rattle.near_rows.specs.Near.{NoneNear}
+use Rattle.block.specs.Block.{met_row, met_rows, Joined, RowJoined}
+use Rattle.block.specs.Full.{off, put_off, row_ordered, rows_ordered}
+use Rattle.block.specs.Twin.{row_joins, row_leaves, row_skips, rows_skip, met_is}
 
-module _ (w : Terms) (room : ℕ) (x y : Block) (n : ℕ) (a : List ℕ) where
-  -- b holds g pairs: of those that a held and of the pairs of rows passed
-  abbrev pub Met : ℕ → ℕ → ℕ → List ℕ → Type 0
-  Met i j g b = (l : List Pair) → Keyed l (take n a) → Ordered ahead l → Keyed (met_to w room x y l i j) (take g b)
+module _ (w : Terms) (room : ℕ) (x y : Block) where
+  -- Row i + 1 of x
 
-  pub start : Met 0 0 n a
-  unfolding met_row met_rows
-  start = λ l h o. h
+  module _ (i : ℕ) (ks : List ℕ) where
+    -- `after` stands for the pairs of ks and those of the row with the first j rows of y
+    abbrev pub RowMet : ℕ → List ℕ → Type 0
+    RowMet j after = (l : List Pair) → Keyed l ks → Ordered ahead l → Keyed (met_row w room x y i l j) after
 
-  module _ (i g : ℕ) (b : List ℕ) where
-    -- rows that do not lie near are passed
-    pub skipped : (live j k : ℕ) → NextNear w x.rows i y.rows live j k → Met i j g b → Met i k g b
-    skipped live j k near met =
-        λ l h o. subst (λ (m : List Pair). Keyed m (take g b))
-        (row_skips w room x y i (met_rows w room x y l i) j k near.from near.none_before) (met l h o)
-
-    -- a near pair is put
-    pub joined : (k r : ℕ) (b' : List ℕ) (p : Pair) → Met i k g b
-        → w.near (row x.rows i) (row y.rows k) ≡ true → p ≡ pair_at w x y i k
-        → Put g room p b r b' → Met i (k + 1) r b'
-    joined k r b' p met q e put =
-        λ l h o.
-        subst (λ (m : List Pair). Keyed m (take r b'))
-        (row_joins w room x y i k (met_rows w room x y l i) p q e)
-        (put.held (met_to w room x y l i k) (met l h o))
-
-    -- a pair would fall off, and so would all later ones of its row
-    pub rest_fallen : (k : ℕ) → Met i k g b → k ≤ row_count y.rows
-        → ((j : ℕ) → k ≤ j → j < row_count y.rows → Narrow (pair_at w x y i j)
-        × (ltb (get_or b ((room + 63) % 64) 0) (key_of (pair_at w x y i j)) ≡ true))
-        → length b ≡ 64 → room ≤ 64 → g ≡ room → Met (i + 1) 0 g b
-    rest_fallen k met few later long fits full =
-        λ l h o.
-        let m = met_to w room x y l i k in
-        subst (λ (m : List Pair). Keyed m (take g b))
-        (row_leaves w room x y i (met_rows w room x y l i) k (row_count y.rows) few
-        (λ j a c.
-        put_off (w.near (row x.rows i) (row y.rows j)) room (pair_at w x y i j) m
-        (off b m g room (pair_at w x y i j) long (met l h o) (later j a c).0 (to_ordered w room x y l i k o) fits full
-        (later j a c).1))
-        ∙ to_next w room x y l i)
-        (met l h o)
-
-    -- row i + 1 of x has met all of y that may lie near
-    pub next : (k : ℕ) → k ≤ row_count y.rows
-        → ((j : ℕ) → k ≤ j → j < row_count y.rows → w.near (row x.rows i) (row y.rows j) ≡ false)
-        → Met i k g b → Met (i + 1) 0 g b
-    next k few none met =
-        λ l h o.
-        subst (λ (m : List Pair). Keyed m (take g b))
-        (row_skips w room x y i (met_rows w room x y l i) k (row_count y.rows) few none ∙ to_next w room x y l i)
-        (met l h o)
-
-    -- all rows of x have that may lie near any
-    pub all_met : i ≤ row_count x.rows
-        → ((k : ℕ) → i ≤ k → k < row_count x.rows → (j : ℕ) → j < row_count y.rows
-        → w.near (row x.rows k) (row y.rows j) ≡ false)
-        → Met i 0 g b → n ≤ room → g ≤ room → length b ≡ 64
-        → Joined w room x y n a g b
+    pub row_starts : RowMet 0 ks
     unfolding met_row
-    all_met last none met few few-after long =
-        record {
-          few = few-after;
-          long = long;
-          held =
-              λ l h o.
-              let short : length l ≤ room = omega (arith, keyed_length l (take n a) h, length-take n a) in
-              subst (λ (m : List Pair). Keyed m (take g b))
-              (rows_skip w room x y l i (row_count x.rows) last none ∙ met_is w room x y l o short) (met l h o);
-        }
+    row_starts l h o = h
+
+    module _ (after : List ℕ) where
+      -- rows that do not lie near are passed
+      pub skipped : (j k : ℕ) → j ≤ k → NoneNear w x.rows i y.rows j k → RowMet j after → RowMet k after
+      skipped j k from none met =
+          λ l h o. subst (λ (m : List Pair). Keyed m after) (row_skips w room x y i l j k from none) (met l h o)
+
+      -- a near pair is put
+      pub joined : (k : ℕ) (next : List ℕ) (p : Pair) → RowMet k after
+          → w.near (row x.rows i) (row y.rows k) ≡ true → p ≡ pair_at w x y i k
+          → Put room p after next → RowMet (k + 1) next
+      joined k next p met q e put =
+          λ l h o.
+          subst (λ (m : List Pair). Keyed m next) (row_joins w room x y i k l p q e)
+          (put.held (met_row w room x y i l k) (met l h o))
+
+      module _ (k : ℕ) (met : RowMet k after) (upto : k ≤ row_count y.rows) (few : length after ≤ room) where
+        -- none of those left lies near
+        pub row_ends : NoneNear w x.rows i y.rows k (row_count y.rows) → RowJoined w room x y i ks after
+        row_ends none = record { few = few; held = skipped k (row_count y.rows) upto none met }
+
+        -- a pair would fall off, and so would all later ones of the row
+        pub rest_fallen : ((j : ℕ) → k ≤ j → j < row_count y.rows → Narrow (pair_at w x y i j)
+            × (0 < room → falls_off room after (pair_at w x y i j) ≡ true))
+            → RowJoined w room x y i ks after
+        rest_fallen later =
+            record {
+              few = few;
+              held =
+                  λ l h o.
+                  let m = met_row w room x y i l k in
+                  subst (λ (m : List Pair). Keyed m after)
+                  (row_leaves w room x y i l k (row_count y.rows) upto
+                  (λ j a c.
+                  put_off (w.near (row x.rows i) (row y.rows j)) room (pair_at w x y i j) m
+                  (off room after m (pair_at w x y i j) (met l h o) few (later j a c).0 (row_ordered w room x y i l k o)
+                  (later j a c).1)))
+                  (met l h o);
+            }
+
+  -- All rows of x
+
+  module _ (ks : List ℕ) where
+    -- the first i of them
+    abbrev pub Met : ℕ → List ℕ → Type 0
+    Met i after = (l : List Pair) → Keyed l ks → Ordered ahead l → Keyed (met_rows w room x y l i) after
+
+    pub starts : Met 0 ks
+    unfolding met_rows
+    starts l h o = h
+
+    module _ (i : ℕ) (after : List ℕ) where
+      pub next_row : Met i after → (next : List ℕ) → RowJoined w room x y i after next → Met (i + 1) next
+      unfolding met_rows
+      next_row met next row =
+          λ l h o.
+          rw (add-one i) (row.held (met_rows w room x y l i) (met l h o) (rows_ordered w room x y l i o))
+
+      -- rows that are left lie near none of y
+      pub all_met : Met i after → length ks ≤ room → length after ≤ room → i ≤ row_count x.rows
+          → ((k : ℕ) → i ≤ k → k < row_count x.rows → (j : ℕ) → j < row_count y.rows
+          → w.near (row x.rows k) (row y.rows j) ≡ false)
+          → Joined w room x y ks after
+      all_met met few few_after last none =
+          record {
+            few = few_after;
+            held =
+                λ l h o.
+                subst (λ (m : List Pair). Keyed m after)
+                (rows_skip w room x y l i (row_count x.rows) last none
+                ∙ met_is w room x y l o (omega (arith, keyed_length l ks h)))
+                (met l h o);
+          }

@@ -15,13 +15,12 @@ pub record RowsPassed (a : ℕ) (rows : Table) : Type 0 where
   pub range : (i : ℕ) → i < row_count rows → row_in_range rows i ≡ true
   pub falls : (i j : ℕ) → i ≤ j → j < row_count rows → (row rows j).score ≤ (row rows i).score
 
--- the pairs of x and y that qualify among the n pairs that a holds, of which at most `room` are kept: r of them, which
--- a' holds
-pub record Joined (w : Terms) (room : ℕ) (x y : Block) (n : ℕ) (a : List ℕ) (r : ℕ) (a' : List ℕ) : Type 0 where
-  pub few : r ≤ room
-  pub long : length a' ≡ 64
-  pub held : (l : List Pair) → Keyed l (take n a) → Ordered ahead l
-      → Keyed (take room (sort ahead (l ++ qualifying w x y))) (take r a')
+-- the pairs of x and y that qualify among those that keys stand for, of which at most `room` are kept: those that
+-- `after` stands for
+pub record Joined (w : Terms) (room : ℕ) (x y : Block) (ks after : List ℕ) : Type 0 where
+  pub few : length after ≤ room
+  pub held : (l : List Pair) → Keyed l ks → Ordered ahead l
+      → Keyed (take room (sort ahead (l ++ qualifying w x y))) after
 
 -- p among the pairs held, of which at most `room` are kept, if it qualifies
 abbrev pub put_if : Bool → ℕ → Pair → List Pair → List Pair
@@ -37,3 +36,8 @@ met_row w room x y i l (suc j) =
 unfoldable pub met_rows : Terms → ℕ → Block → Block → List Pair → ℕ → List Pair
 met_rows w room x y l zero = l
 met_rows w room x y l (suc i) = met_row w room x y i (met_rows w room x y l i) (row_count y.rows)
+
+-- row i + 1 of x with all rows of y
+pub record RowJoined (w : Terms) (room : ℕ) (x y : Block) (i : ℕ) (ks after : List ℕ) : Type 0 where
+  pub few : length after ≤ room
+  pub held : (l : List Pair) → Keyed l ks → Ordered ahead l → Keyed (met_row w room x y i l (row_count y.rows)) after

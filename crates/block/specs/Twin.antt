@@ -79,7 +79,7 @@ module _ (w : Terms) (room : ℕ) (x y : Block) where
       ∙ map-append (pair_at w x y i) (keep (test i) (range 0 j)) (cons_if (test i j) j [])
 
   row_is : (i : ℕ) (l : List Pair) (j : ℕ) → met_row w room x y i l j ≡ put_all room l (pairs_of i j)
-  unfolding met_row pairs_of test range keep put_all
+  unfolding met_row pairs_of range keep put_all
   row_is i l zero = refl
   row_is i l (suc j) =
       ap (put_if (test i j) room (pair_at w x y i j)) (row_is i l j)
@@ -108,7 +108,7 @@ module _ (w : Terms) (room : ℕ) (x y : Block) where
       ∙ ap (put_all room l) (sym (pairs_to_suc i))
 
   all_is : pairs_to (row_count x.rows) ≡ qualifying w x y
-  unfolding pairs_to pairs_of test qualifying
+  unfolding pairs_to pairs_of qualifying
   all_is = refl
 
   -- the block join, pair by pair, is the rule's
@@ -176,12 +176,3 @@ module _ (w : Terms) (room : ℕ) (x y : Block) where
           before (omega arith) (λ b a c. none b a (omega (arith, c)))
           ∙ row_skips r (met_rows w room x y l r) 0 (row_count y.rows) (omega arith)
           (λ j a c. none r (omega arith) (omega arith) j c)
-
-  -- the pairs held when the first i rows of x have met all of y, and row i + 1 its first j rows
-  abbrev pub met_to : List Pair → ℕ → ℕ → List Pair
-  met_to l i j = met_row w room x y i (met_rows w room x y l i) j
-
-  -- row i + 1 has met all of y
-  pub to_next : (l : List Pair) (i : ℕ) → met_to l i (row_count y.rows) ≡ met_to l (i + 1) 0
-  unfolding met_row met_rows
-  to_next l i = sym (rw add-one)

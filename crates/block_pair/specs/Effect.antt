@@ -1,9 +1,9 @@
 -- A block pair that is skipped, or has no qualifying pair, changes nothing but the joined count. Assumes nothing.
 use Rattle.std.specs.Prelude.{◌≡◌, Bool, cond, take}
-use Rattle.std.proofs.Math.Path.{refl, sym, ap}
+use Rattle.std.proofs.Math.Path.{sym, ap}
 use Rattle.std.proofs.Common.{◌∙◌}
 use mathlib.Core.List.{List, [], append-nil}
-use Prim.Native.Nat.{ℕ, zero, suc, ◌+◌, ◌-◌}
+use Prim.Native.Nat.{ℕ, ◌+◌, ◌-◌}
 use native.Mathlib.Omega.{arith}
 use Rattle.std.proofs.Math.Seq.{take_all}
 use Rattle.lists.specs.Lists.{sort}
@@ -14,6 +14,8 @@ use Rattle.rules.specs.Tables.{terms, Block, qualifying, ahead}
 use Rattle.rules.specs.Session.{held_pairs}
 use Rattle.rules.specs.Read.{skipped, best_held, holding, meet_by, meet}
 use Rattle.rules.specs.Qualifying.{none_qualifying}
+use Rattle.skipping.specs.declared.Joining.{Joining}
+use Rattle.skipping.specs.declared.Joining.TheVariants.{Skipped, Quiet, PairByPair}
 use Rattle.skipping.specs.Effect.{Effect, skips}
 use Rattle.choosing.specs.Ready.{Ready}
 
@@ -21,9 +23,9 @@ use Rattle.choosing.specs.Ready.{Ready}
 abbrev pub joined_pair : Session → Block → Block → Session
 joined_pair s x y = holding s (best_held s (qualifying (terms s.query) x y))
 
--- so many block pairs more are joined
-unfoldable pub joined_more : Session → ℕ → Session
-joined_more s w =
+-- one block pair more is joined
+unfoldable pub joined_one : Session → Session
+joined_one s =
     record {
       query = s.query;
       rows = s.rows;
@@ -32,7 +34,7 @@ joined_more s w =
       out = s.out;
       held = s.held;
       pairs = s.pairs;
-      joined = s.joined + w;
+      joined = s.joined + 1;
     }
 
 module _ (s : Session) (r : Ready s) where
@@ -44,8 +46,8 @@ module _ (s : Session) (r : Ready s) where
       (ap (sort ahead) (append-nil (held_pairs s)) ∙ ordered_sort ahead (held_pairs s) r.order)
       ∙ take_all (s.query.k - s.out) (held_pairs s) (omega (arith, r.count, r.room))
 
-  holding_same : holding s (held_pairs s) ≡ joined_more s 1
-  unfolding holding joined_more
+  holding_same : holding s (held_pairs s) ≡ joined_one s
+  unfolding holding joined_one
   holding_same =
       λ i.
       record {
@@ -59,43 +61,26 @@ module _ (s : Session) (r : Ready s) where
         joined = s.joined + 1;
       }
 
-  counted_none : joined_more s 0 ≡ s
-  unfolding joined_more
-  counted_none =
-      let e : s.joined + 0 ≡ s.joined = omega arith in
-      λ i.
-      record {
-        query = s.query;
-        rows = s.rows;
-        depth = s.depth;
-        last = s.last;
-        out = s.out;
-        held = s.held;
-        pairs = s.pairs;
-        joined = e i;
-      }
-
   -- `full` and `low` are the code's numbers: whether k pairs are held or out, and the lowest held sum
-  module _ (full : Bool) (low : ℕ) (x y : Block) (test : skips full low s.query x.rows y.rows ≡ skipped s x y)
-      (w : ℕ) (f : Effect full low s.query x.rows y.rows w) where
+  module _ (full : Bool) (low : ℕ) (x y : Block) (test : skips full low s.query x.rows y.rows ≡ skipped s x y) where
     abbrev met : Bool → Session
     met skip = cond skip s (joined_pair s x y)
 
-    pub effect_joins : w ≡ 2 → joined_pair s x y ≡ meet s x y
-    unfolding meet_by
-    effect_joins e = sym (ap met (sym test ∙ f.joined e))
+    abbrev Comes : Joining → Type 0
+    Comes = Effect full low s.query x.rows y.rows
 
-    pub effect_counts : (w ≡ 2 → ⊥) → joined_more s w ≡ meet s x y
+    pub meet_skipped : Comes Skipped → s ≡ meet s x y
     unfolding meet_by
-    effect_counts h = go w f h
-      where
-        go : (w : ℕ) → Effect full low s.query x.rows y.rows w → (w ≡ 2 → ⊥) → joined_more s w ≡ meet s x y
-        go zero f h = counted_none ∙ sym (ap met (sym test ∙ f.skip refl))
-        go (suc zero) f h =
-            let q = f.quiet refl in
-            sym
-            (ap met (sym test ∙ q.0)
-            ∙ ap (λ (l : List Pair). holding s (best_held s l)) (none_qualifying (terms s.query) x y q.1)
-            ∙ ap (holding s) same_held
-            ∙ holding_same)
-        go (suc (suc w)) f h = absurd (h (omega (arith, f.most)))
+    meet_skipped e = sym (ap met (sym test ∙ e))
+
+    pub meet_joined : Comes PairByPair → joined_pair s x y ≡ meet s x y
+    unfolding meet_by
+    meet_joined e = sym (ap met (sym test ∙ e))
+
+    pub meet_quiet : Comes Quiet → joined_one s ≡ meet s x y
+    meet_quiet e =
+        sym
+        (ap (λ (l : List Pair). holding s (best_held s l)) (none_qualifying (terms s.query) x y e.1)
+        ∙ ap (holding s) same_held
+        ∙ holding_same)
+        ∙ meet_joined e.0

@@ -1,10 +1,9 @@
--- A record's held pairs as keys, and its counts beside them, while blocks are met. Assumes nothing.
-use Rattle.std.specs.Prelude.{◌≡◌, Bool, ◌&&◌, ◌||◌, List, ℕ, ◌+◌, ◌-◌, ◌%◌, ◌≤◌, ◌<◌, get_or, take}
+-- A record's held pairs as keys, its count of joined block pairs beside them, while blocks are met. Assumes nothing.
+use Rattle.std.specs.Prelude.{◌≡◌, Bool, ◌&&◌, ◌||◌, List, ℕ, ◌+◌, ◌-◌, ◌≤◌, ◌<◌, get_or, length}
 use Rattle.std.proofs.Math.Path.{refl, sym, ap}
-use Rattle.std.proofs.Common.{subst, ◌∙◌, arith, length-take-le, get_or-take, eq-eqb, ne_eqb, eqb-true}
+use Rattle.std.proofs.Common.{subst, ◌∙◌, arith, eq-eqb, ne_eqb, eqb-true}
 use Rattle.std.proofs.Math.Bool.{true, false}
 use Rattle.std.proofs.Math.Dec.{ltb, eqb}
-use Rattle.std.proofs.Math.ListN.{length}
 use Rattle.std.proofs.lemmas.Bool.{eqb-false}
 use Rattle.rules.specs.Meaning.{first_scores}
 use Rattle.rules.specs.declared.Pair.{Pair}
@@ -13,151 +12,135 @@ use Rattle.rules.specs.declared.Session.{Session}
 use Rattle.rules.specs.Tables.{terms, Block, qualifying}
 use Rattle.rules.specs.Session.{no_pair, held_pairs}
 use Rattle.rules.specs.Read.{lowest, skipped_by, skipped, best_held, holding, meet}
-use Rattle.securing.specs.Last.{last_of, lowest_is_last}
-use Rattle.keys.specs.Held.{pair_of, Keyed}
-use Rattle.keys.specs.Keys.{keyed_length, keyed_at}
+use Rattle.securing.specs.Last.{lowest_is_last}
+use Rattle.keys.specs.Held.{place_at, Keyed}
+use Rattle.keys.specs.Keys.{keyed_length, keyed_place}
 use Rattle.keys.specs.Places.{list_of_places}
 use Rattle.block.specs.Block.{Joined}
-use Rattle.block_pair.specs.declared.Met.{Met}
 use Rattle.choosing.specs.Ready.{Ready}
 use Rattle.skipping.specs.Effect.{Effect, skips}
-use Rattle.block_pair.specs.Effect.{joined_pair, joined_more, effect_joins, effect_counts}
+use Rattle.skipping.specs.declared.Joining.{Joining}
+use Rattle.skipping.specs.declared.Joining.TheVariants.{Skipped, Quiet, PairByPair}
+use Rattle.block_pair.specs.Effect.{joined_pair, joined_one, meet_skipped, meet_quiet, meet_joined}
 
--- 64 numbers, of which the first stand for the pairs that a record holds
-pub record Keys (r : Session) (keys : List ℕ) : Type 0 where
-  pub long : length keys ≡ 64
-  pub keyed : Keyed (held_pairs r) (take r.held keys)
+-- keys of the pairs that a record holds, and how many block pairs it has joined
+pub record Stands (r : Session) (n : ℕ) (ks : List ℕ) : Type 0 where
+  pub held : length ks ≡ r.held
+  pub joined : n ≡ r.joined
+  pub keyed : Keyed (held_pairs r) ks
 
--- the same, with the numbers of a record that change while blocks are met
-pub record Stands (r : Session) (m : Met) (keys : List ℕ) : Type 0 where
-  pub held : m.held ≡ r.held
-  pub joined : m.joined ≡ r.joined
-  pub pairs : Keys r keys
+-- one block pair more is met, whatever the record is that the keys stand for
+pub record Meets (q : Query) (room : ℕ) (x y : Block) (n : ℕ) (ks : List ℕ) (m : ℕ) (after : List ℕ) : Type 0 where
+  pub few : length after ≤ room
+  pub one : m ≤ n + 1
+  pub meets : (r : Session) → Ready r → r.query ≡ q → r.query.k - r.out ≡ room → Stands r n ks
+      → Stands (meet r x y) m after
 
--- one block pair more is met, whatever the record is that the numbers stand for
-pub record Meets (q : Query) (room : ℕ) (x y : Block) (m : Met) (keys : List ℕ) (after : Met) (left : List ℕ)
-    : Type 0 where
-  pub few : after.held ≤ room
-  pub one : after.joined ≤ m.joined + 1
-  pub long : length left ≡ 64
-  pub meets : (r : Session) → Ready r → r.query ≡ q → r.query.k - r.out ≡ room → Stands r m keys
-      → Stands (meet r x y) after left
+-- the sum of the last pair that keys stand for
+abbrev pub last_sum : List ℕ → ℕ
+last_sum ks = (place_at ks (length ks - 1)).sum
 
--- the last of the pairs that keys stand for
-keyed_last : (l : List Pair) (n : ℕ) (keys : List ℕ) → 0 < n → n ≤ length keys → Keyed l (take n keys)
-    → pair_of (get_or keys (n - 1) 0) ≡ last_of l
-keyed_last l n keys some h k =
-    let e : n ≡ length l = sym (length-take-le n keys h) ∙ keyed_length l (take n keys) k in
-    sym (ap pair_of (get_or-take n keys (n - 1) 0 (omega arith)))
-    ∙ keyed_at l (take n keys) (n - 1) k (omega arith)
-    ∙ ap (λ (i : ℕ). get_or l (i - 1) no_pair) e
+-- what a block pair comes to for the code, which looks at the keys
+abbrev pub Comes : Query → ℕ → Block → Block → List ℕ → Joining → Type 0
+Comes q room x y ks = Effect (eqb (length ks) room) (last_sum ks) q x.rows y.rows
 
-module _ (r : Session) (ready : Ready r) (room : ℕ) (left : r.query.k - r.out ≡ room) (m : Met) (keys : List ℕ)
-    (stands : Stands r m keys) where
+module _ (r : Session) (ready : Ready r) (room : ℕ) (left : r.query.k - r.out ≡ room) (n : ℕ) (ks : List ℕ)
+    (stands : Stands r n ks) where
   -- k pairs are held or out
-  full_is : eqb m.held room ≡ eqb (r.out + r.held) r.query.k
-  full_is = go (eqb m.held room) refl
+  full_is : eqb (length ks) room ≡ eqb (r.out + r.held) r.query.k
+  full_is = go (eqb (length ks) room) refl
     where
-      go : (b : Bool) → eqb m.held room ≡ b → b ≡ eqb (r.out + r.held) r.query.k
+      go : (b : Bool) → eqb (length ks) room ≡ b → b ≡ eqb (r.out + r.held) r.query.k
       go true e =
           sym
           (eq-eqb (r.out + r.held) r.query.k
-          (omega (arith, eqb-true m.held room e, ready.wanted, stands.held)))
+          (omega (arith, eqb-true (length ks) room e, ready.wanted, stands.held)))
       go false e =
           sym
           (ne_eqb (r.out + r.held) r.query.k
-          (λ h. eqb-false m.held room e (omega (arith, h, ready.wanted, stands.held))))
+          (λ h. eqb-false (length ks) room e (omega (arith, h, ready.wanted, stands.held))))
 
   -- the lowest held sum: of the last key
-  abbrev pub low_sum : ℕ
-  low_sum = (pair_of (get_or keys ((m.held + 63) % 64) 0)).sum
-
-  low_is : eqb m.held room ≡ true → low_sum ≡ lowest (held_pairs r)
+  low_is : eqb (length ks) room ≡ true → last_sum ks ≡ lowest (held_pairs r)
   low_is e =
-      let n = m.held in
-      let full : n ≡ room = eqb-true n room e in
-      let some : 0 < n = omega (arith, ready.wanted) in
-      let few : n ≤ 64 = omega (arith, ready.query.k.1) in
-      let at : (n + 63) % 64 ≡ n - 1 = omega arith in
-      let keyed : Keyed (held_pairs r) (take n keys) = rw stands.held stands.pairs.keyed in
-      ap (λ (i : ℕ). (pair_of (get_or keys i 0)).sum) at
-      ∙ ap (λ (p : Pair). p.sum) (keyed_last (held_pairs r) n keys some (omega (arith, stands.pairs.long)) keyed)
-      ∙ sym (lowest_is_last (held_pairs r) (omega (arith, ready.count, stands.held)) ready.order)
+      let l = held_pairs r in
+      let some : 0 < length ks = omega (arith, eqb-true (length ks) room e, ready.wanted) in
+      let many : length ks ≡ length l = keyed_length l ks stands.keyed in
+      ap (λ (p : Pair). p.sum)
+      (keyed_place l ks (length ks - 1) stands.keyed
+      ∙ ap (λ (i : ℕ). get_or l (i - 1) no_pair) many)
+      ∙ sym (lowest_is_last l (omega arith) ready.order)
 
   -- the code's test of a skipped block pair is the rule's
-  skips_is : (x y : Block) → skips (eqb m.held room) low_sum r.query x.rows y.rows ≡ skipped r x y
+  skips_is : (x y : Block) → skips (eqb (length ks) room) (last_sum ks) r.query x.rows y.rows ≡ skipped r x y
   unfolding skipped_by
   skips_is x y =
       ap (λ (b : Bool). b || (terms r.query).far x.rows y.rows)
-      (go (eqb m.held room) refl
+      (go (eqb (length ks) room) refl
       ∙ ap (λ (b : Bool). b && ltb (first_scores r.query x.rows y.rows) (lowest (held_pairs r))) full_is)
     where
-      go : (b : Bool) → eqb m.held room ≡ b
-          → (b && ltb (first_scores r.query x.rows y.rows) low_sum)
+      go : (b : Bool) → eqb (length ks) room ≡ b
+          → (b && ltb (first_scores r.query x.rows y.rows) (last_sum ks))
           ≡ (b && ltb (first_scores r.query x.rows y.rows) (lowest (held_pairs r)))
       go true e = ap (ltb (first_scores r.query x.rows y.rows)) (low_is e)
       go false e = refl
 
-  module _ (x y : Block) (w : ℕ)
-      (effect : Effect (eqb m.held room) low_sum r.query x.rows y.rows w) where
-    best : (n : ℕ) (after : List ℕ) → Joined (terms r.query) room x y m.held keys n after
-        → Stands (joined_pair r x y) (record { held = n; joined = m.joined + 1 }) after
+  module _ (x y : Block) where
+    -- a block pair that is skipped
+    pub stands_skipped : Comes r.query room x y ks Skipped → Stands (meet r x y) n ks
+    stands_skipped e = rw (sym (meet_skipped r ready _ _ x y (skips_is x y) e)) stands
+
+    same : Stands (joined_one r) (n + 1) ks
+    unfolding joined_one
+    same = record { held = stands.held; joined = ap (λ (i : ℕ). i + 1) stands.joined; keyed = stands.keyed }
+
+    -- one that has no qualifying pair
+    pub stands_quiet : Comes r.query room x y ks Quiet → Stands (meet r x y) (n + 1) ks
+    stands_quiet e = rw (sym (meet_quiet r ready _ _ x y (skips_is x y) e)) same
+
+    best : (after : List ℕ) → Joined (terms r.query) room x y ks after → Stands (joined_pair r x y) (n + 1) after
     unfolding holding best_held
-    best n after k =
+    best after k =
         let l = best_held r (qualifying (terms r.query) x y) in
-        let keyed : Keyed (held_pairs r) (take m.held keys) = rw stands.held stands.pairs.keyed in
-        let got : Keyed l (take n after) = rw left (k.held (held_pairs r) keyed ready.order) in
-        let count : n ≡ length l =
-        sym (length-take-le n after (omega (arith, k.few, k.long, ready.query.k.1)))
-        ∙ keyed_length l (take n after) got in
+        let got : Keyed l after = rw left (k.held (held_pairs r) stands.keyed ready.order) in
         record {
-          held = count;
+          held = keyed_length l after got;
           joined = ap (λ (i : ℕ). i + 1) stands.joined;
-          pairs = record { long = k.long; keyed = rw (list_of_places l, ← count) got };
+          keyed = rw (list_of_places l) got;
         }
 
-    -- a block pair that is joined
-    pub stands_joined : w ≡ 2 → (n : ℕ) (after : List ℕ) → Joined (terms r.query) room x y m.held keys n after
-        → Stands (meet r x y) (record { held = n; joined = m.joined + 1 }) after
-    stands_joined e n after k =
-        rw (sym (effect_joins r ready (eqb m.held room) low_sum x y (skips_is x y) w effect e)) (best n after k)
+    -- one that is joined pair by pair
+    pub stands_joined : Comes r.query room x y ks PairByPair → (after : List ℕ)
+        → Joined (terms r.query) room x y ks after
+        → Stands (meet r x y) (n + 1) after
+    stands_joined e after k = rw (sym (meet_joined r ready _ _ x y (skips_is x y) e)) (best after k)
 
-    same : Stands (joined_more r w) (record { held = m.held; joined = m.joined + w }) keys
-    unfolding joined_more
-    same =
-        record {
-          held = stands.held;
-          joined = ap (λ (i : ℕ). i + w) stands.joined;
-          pairs = record { long = stands.pairs.long; keyed = stands.pairs.keyed };
-        }
+-- a block pair, whatever the record is
+module _ (q : Query) (room : ℕ) (x y : Block) (n : ℕ) (ks : List ℕ) (few : length ks ≤ room) where
+  pub meets_skipped : Comes q room x y ks Skipped → Meets q room x y n ks n ks
+  meets_skipped e =
+      record {
+        few = few;
+        one = omega arith;
+        meets = λ r ready same left stands. stands_skipped r ready room left n ks stands x y (rw same e);
+      }
 
-    -- one that is skipped, or has no qualifying pair
-    pub stands_counted : (w ≡ 2 → ⊥) → Stands (meet r x y) (record { held = m.held; joined = m.joined + w }) keys
-    stands_counted h = rw (sym (effect_counts r ready (eqb m.held room) low_sum x y (skips_is x y) w effect h)) same
+  pub meets_quiet : Comes q room x y ks Quiet → Meets q room x y n ks (n + 1) ks
+  meets_quiet e =
+      record {
+        few = few;
+        one = omega arith;
+        meets = λ r ready same left stands. stands_quiet r ready room left n ks stands x y (rw same e);
+      }
 
--- a block pair that comes to w, whatever the record is
-module _ (q : Query) (room : ℕ) (x y : Block) (m : Met) (keys : List ℕ) (w : ℕ)
-    (effect : Effect (eqb m.held room) (pair_of (get_or keys ((m.held + 63) % 64) 0)).sum q x.rows
-    y.rows w) where
-  pub meets_joined : w ≡ 2 → (n : ℕ) (after : List ℕ) → Joined (terms q) room x y m.held keys n after
-      → Meets q room x y m keys (record { held = n; joined = m.joined + 1 }) after
-  meets_joined e n after k =
+  pub meets_joined : Comes q room x y ks PairByPair → (after : List ℕ) → Joined (terms q) room x y ks after
+      → Meets q room x y n ks (n + 1) after
+  meets_joined e after k =
       record {
         few = k.few;
         one = omega arith;
-        long = k.long;
         meets =
             λ r ready same left stands.
-            let own = subst (λ (p : Query). Joined (terms p) room x y m.held keys n after) (sym same) k in
-            stands_joined r ready room left m keys stands x y w (rw same effect) e n after own;
-      }
-
-  pub meets_counted : (w ≡ 2 → ⊥) → m.held ≤ room → length keys ≡ 64
-      → Meets q room x y m keys (record { held = m.held; joined = m.joined + w }) keys
-  meets_counted h few long =
-      record {
-        few = few;
-        one = omega (arith, effect.most, h);
-        long = long;
-        meets = λ r ready same left stands. stands_counted r ready room left m keys stands x y w (rw same effect) h;
+            let own = subst (λ (p : Query). Joined (terms p) room x y ks after) (sym same) k in
+            stands_joined r ready room left n ks stands x y (rw same e) after own;
       }

@@ -11,7 +11,9 @@ ghost use Rattle.skipping.specs.Effect.{Effect};
 ghost use Rattle.block_pair.specs.Spans.{SpanFits, span_block};
 ghost use Rattle.block_pair.specs.Stands.{Meets};
 
+use keys::Keys;
 use rules::Query;
+use skipping::Joining;
 
 // Some rows of a table: those after row `from`, down to row `to`.
 #[derive(Clone, Copy)]
@@ -20,8 +22,8 @@ pub struct Span {
     pub to: usize,
 }
 
-// Rows of the field table and rows of the trim table, each as a part of its table, are joined: of the pairs held, which
-// `keys` stands for, and the qualifying ones the best, at most room. How many are held then.
+// Rows of the field table and rows of the trim table, each as a part of its table, are joined: of the pairs held and
+// the qualifying ones the best, at most room.
 fn join_parts(
     n: u32,
     q: Query,
@@ -30,17 +32,15 @@ fn join_parts(
     x: Span,
     t: &[i32],
     y: Span,
-    keys: &mut [u64; 64],
-    held: usize,
-) -> usize
-    requires held_le_room { (held ≤ room) × (room ≤ 64) × (length keys.old ≡ 64) }
+    keys: &mut Keys,
+)
+    requires held_le_room { (length keys.old ≤ room) × (room ≤ 64) }
     requires query_fits { QueryFits q × (is_card n ≡ true) × SpanFits x (table n f.now) × SpanFits y (table n t.now) }
-    ensures { Joined (terms q) room (span_block (table n f.now) x)
-        (span_block (table n t.now) y) held keys.old result keys.new }
+    ensures { Joined (terms q) room (span_block (table n f.now) x) (span_block (table n t.now) y) keys.old keys.new }
 {
     let fields = tables::rows(n, f, x.from, x.to);
     let trims = tables::rows(n, t, y.from, y.to);
-    block::join(n, q, room, fields, x.from, trims, y.from, keys, held)
+    block::join(n, q, room, fields, x.from, trims, y.from, keys);
 }
 
 // The effect of rows of the field table and rows of the trim table. The rectangle of the new ones, of the field table
@@ -56,7 +56,7 @@ fn effect_parts(
     x: Span,
     t: &[i32],
     y: Span,
-) -> u64
+) -> Joining
     requires query_fits { QueryFits q × (is_card n ≡ true) × SpanFits x (table n f.now) × SpanFits y (table n t.now) }
     requires sides_value { sides_in n sides.now
         ≡ rectangle (cond field (span_block (table n f.now) x).rows (span_block (table n t.now) y).rows) }
@@ -68,14 +68,7 @@ fn effect_parts(
     skipping::effect(n, full, low, q, field, sides, fields, trims)
 }
 
-// How many pairs are held and how many block pairs are joined.
-#[derive(Clone, Copy)]
-pub struct Met {
-    pub held: usize,
-    pub joined: u64,
-}
-
-// One block pair is met: skipped, or joined and counted. `sides` as above.
+// One block pair is met: skipped, or joined and counted; `joined` counts those joined before. `sides` as above.
 pub fn meet_parts(
     n: u32,
     q: Query,
@@ -86,29 +79,22 @@ pub fn meet_parts(
     x: Span,
     t: &[i32],
     y: Span,
-    keys: &mut [u64; 64],
-    m: Met,
-) -> Met
-    requires held_le_room { (m.held ≤ room) × (room ≤ 64) × (m.joined < 2 ^ 63) × (length keys.old ≡ 64) }
+    keys: &mut Keys,
+    joined: u64,
+) -> u64
+    requires held_le_room { (length keys.old ≤ room) × (room ≤ 64) × (joined < 2 ^ 63) }
     requires query_fits { QueryFits q × (is_card n ≡ true) × SpanFits x (table n f.now) × SpanFits y (table n t.now) }
     requires sides_value { sides_in n sides.now
         ≡ rectangle (cond field (span_block (table n f.now) x).rows (span_block (table n t.now) y).rows) }
-    ensures { Meets q room (span_block (table n f.now) x) (span_block (table n t.now) y) m
+    ensures { Meets q room (span_block (table n f.now) x) (span_block (table n t.now) y) joined
         keys.old result keys.new }
 {
-    let full = m.held == room;
-    let last = (m.held + 63) % 64;
-    let p = keys::pair(keys[last]);
-    let w = effect_parts(n, full, p.sum, q, field, sides, f, x, t, y);
-    if w == 2 {
-        let held = join_parts(n, q, room, f, x, t, y, keys, m.held);
-        return Met {
-            held,
-            joined: m.joined + 1,
-        };
+    let full = keys.held() == room;
+    let low = keys.last().sum;
+    match effect_parts(n, full, low, q, field, sides, f, x, t, y) {
+        Joining::Skipped => return joined,
+        Joining::Quiet => {}
+        Joining::PairByPair => join_parts(n, q, room, f, x, t, y, keys),
     }
-    Met {
-        held: m.held,
-        joined: m.joined + w,
-    }
+    joined + 1
 }

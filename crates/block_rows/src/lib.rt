@@ -44,12 +44,10 @@ pub fn live_rows(n: u32, x: &[i32]) -> usize
     requires { WithdrawnBelow (table n x.now) }
     ensures { Live (table n x.now) result }
 {
-    let mut m = tables::row_count(n, x);
-    while 0 < m {
-        if !tables::is_withdrawn(n, x, m - 1) {
-            return m;
+    for i in (0..tables::row_count(n, x)).rev() {
+        if !tables::is_withdrawn(n, x, i) {
+            return i + 1;
         }
-        m -= 1;
     }
-    m
+    0
 }

@@ -1,248 +1,329 @@
 // What the rules ask of a session, found from the double loop: which answers are due, and which record.
-use crate::plain::{Asked, Sums};
-use crate::record::Record;
-use crate::{plain, record};
-use rules::{Answer, Pair};
-use std::num::{wrapping_add_u32, wrapping_sub_u32};
+use crate::calls::Call;
+use crate::plain::{self, Asked, Sums, Tables};
+use crate::two_tables::{Both, Rows, Which};
+use rules::{
+    Answer, Counts, FieldRows, FieldTolerance, FieldWeight, Meaning, NO_PAIR, PLACES, Pair, Query,
+    Refusal, Session, Tolerances, TrimRows, TrimTolerance, TrimWeight, TwoTables, Weights,
+};
 
-// Answers as numbers; a refusal is its own number.
-pub const OPENED: u32 = 20;
+// An answer, but for the pair.
+#[derive(Clone, Copy, PartialEq, Eq)]
+pub enum Said {
+    Refused(Refusal),
+    Opened,
+    Read,
+    Settled,
+    Given,
+    NotYet,
+    Finished,
+}
 
-pub const READ: u32 = 21;
-
-pub const SETTLED: u32 = 22;
-
-pub const GIVEN: u32 = 23;
-
-pub const NOT_YET: u32 = 24;
-
-pub const FINISHED: u32 = 25;
-
-pub fn number(a: Answer) -> u32 {
-    match a {
-        Answer::Refused(n) => n,
-        Answer::Opened => OPENED,
-        Answer::Read => READ,
-        Answer::Settled => SETTLED,
-        Answer::Given(_) => GIVEN,
-        Answer::NotYet => NOT_YET,
-        Answer::Finished => FINISHED,
+impl From<Answer> for Said {
+    fn from(answer: Answer) -> Said {
+        match answer {
+            Answer::Refused(by) => Said::Refused(by),
+            Answer::Opened => Said::Opened,
+            Answer::Read => Said::Read,
+            Answer::Settled => Said::Settled,
+            Answer::Given(_) => Said::Given,
+            Answer::NotYet => Said::NotYet,
+            Answer::Finished => Said::Finished,
+        }
     }
 }
 
-// What is asked of two tables in short, whether no shades can meet it, how many rows the tables have and how many of
-// these stand above a withdrawn one, and the most rows that may be read of one.
+// The rows that a session has read.
+pub fn read(s: &Session) -> Rows {
+    Both {
+        field: s.depth.field.0,
+        trim: s.depth.trim.0,
+    }
+}
+
+fn depth(read: Rows) -> Counts {
+    Counts {
+        field: FieldRows(read.field),
+        trim: TrimRows(read.trim),
+    }
+}
+
+// The record of zeros.
+pub const NO_SESSION: Session = Session {
+    query: Query {
+        k: 0,
+        block: 0,
+        radius: 0,
+        weights: Weights {
+            field: FieldWeight(0),
+            trim: TrimWeight(0),
+        },
+        tolerances: Tolerances {
+            field: FieldTolerance(0),
+            trim: TrimTolerance(0),
+        },
+        meaning: Meaning::Possibly,
+    },
+    rows: TwoTables {
+        field: FieldRows(0),
+        trim: TrimRows(0),
+        card: 0,
+    },
+    depth: Counts {
+        field: FieldRows(0),
+        trim: TrimRows(0),
+    },
+    last: 0,
+    out: 0,
+    held: 0,
+    pairs: [NO_PAIR; PLACES],
+    joined: 0,
+};
+
+// The session of an opening.
+pub fn opened(asked: Asked, rows: Rows) -> Session {
+    Session {
+        query: asked.query,
+        rows: TwoTables {
+            field: FieldRows(rows.field),
+            trim: TrimRows(rows.trim),
+            card: asked.card.coordinates(),
+        },
+        ..NO_SESSION
+    }
+}
+
+// What is asked of two tables, what the double loop says of them, whether no shades can meet the query, how many rows
+// the tables have and how many of these stand above a withdrawn one, and the most rows that may be read of one.
 #[derive(Clone, Copy)]
 pub struct Case {
-    pub k: u32,
-    pub block: u32,
+    pub asked: Asked,
+    pub sums: Sums,
     pub none: bool,
-    pub fields: u32,
-    pub trims: u32,
-    pub live_fields: u32,
-    pub live_trims: u32,
+    pub rows: Rows,
+    pub live: Rows,
     pub limit: u32,
 }
 
-// Whether a table of so many rows, so many of them live, is read out at a depth: all its rows, or a withdrawn one, are
-// read.
-fn is_out(rows: u32, live: u32, depth: u32) -> bool {
-    (depth == rows) | (live < depth)
-}
-
-fn field_out(c: Case, p: u32) -> bool {
-    is_out(c.fields, c.live_fields, p)
-}
-
-fn trim_out(c: Case, q: u32) -> bool {
-    is_out(c.trims, c.live_trims, q)
-}
-
-// Whether it counts as empty.
-fn is_empty(rows: u32, live: u32, depth: u32) -> bool {
-    (rows == 0) | ((live == 0) & (0 < depth))
-}
-
-// Whether nothing can qualify, a table is empty, or both are read out.
-fn all_read(c: Case, p: u32, q: u32) -> bool {
-    let field = is_empty(c.fields, c.live_fields, p);
-    let trim = is_empty(c.trims, c.live_trims, q);
-    (c.none | (field | trim)) | (field_out(c, p) & trim_out(c, q))
-}
-
-// A number, where it is so, else the next.
-pub fn when(so: bool, x: u32, next: u32) -> u32 {
-    if so { x } else { next }
-}
-
-// How many of the pairs read no pair with an unread row can outdo.
-fn secured(c: Case, m: &Sums, p: u32, q: u32) -> u32 {
-    let field = when(field_out(c, p), 0, plain::sum_at(m, p, 1));
-    let trim = when(trim_out(c, q), 0, plain::sum_at(m, 1, q));
-    plain::reaching(m, p, q, plain::higher(field, trim))
-}
-
-// Whether the reading is sure of k.
-pub fn sure(c: Case, m: &Sums, p: u32, q: u32) -> bool {
-    all_read(c, p, q) | (c.k <= secured(c, m, p, q))
-}
-
-// The lesser of `least` and the deeper depth of this reading, if it is one and is sure.
-fn lesser(c: Case, m: &Sums, p: u32, q: u32, least: u32) -> u32 {
-    let is_reading = (p <= c.fields) & (q <= c.trims);
-    let deeper = plain::lower(least, plain::higher(p, q));
-    when(is_reading & sure(c, m, p, q), deeper, least)
-}
-
-// The least deeper depth of a sure reading.
-fn least_sure(c: Case, m: &Sums) -> u32 {
-    let mut least = 12;
-    for x in 0u32..169 {
-        least = lesser(c, m, x / 13, x % 13, least);
+impl Case {
+    pub fn new(tables: &Tables) -> Case {
+        let mut case = Case {
+            asked: tables.asked,
+            sums: tables.sums(),
+            none: plain::none_qualify(&tables.asked),
+            rows: tables.rows,
+            live: Both {
+                field: plain::live(tables.field, tables.rows.field),
+                trim: plain::live(tables.trim, tables.rows.trim),
+            },
+            limit: 0,
+        };
+        case.limit = case
+            .least_sure()
+            .wrapping_add(tables.asked.query.block)
+            .wrapping_sub(1);
+        case
     }
-    least
-}
 
-pub fn case_of(
-    a: Asked,
-    fields: u32,
-    trims: u32,
-    live_fields: u32,
-    live_trims: u32,
-    m: &Sums,
-) -> Case {
-    let mut c = Case {
-        k: a.k,
-        block: a.block,
-        none: plain::none_qualify(a),
-        fields,
-        trims,
-        live_fields,
-        live_trims,
-        limit: 0,
-    };
-    c.limit = wrapping_sub_u32(wrapping_add_u32(least_sure(c, m), a.block), 1);
-    c
-}
-
-// What a read must answer, or a take with so many pairs out.
-pub fn answer(c: Case, m: &Sums, p: u32, q: u32, out: u32, is_read: bool) -> u32 {
-    if is_read {
-        return when(sure(c, m, p, q), SETTLED, READ);
+    // Whether a table has no row.
+    pub fn has_empty(&self) -> bool {
+        self.rows.field == 0 || self.rows.trim == 0
     }
-    let ends = (out == c.k) | all_read(c, p, q);
-    let is_given = (out < c.k) & (out < secured(c, m, p, q));
-    when(is_given, GIVEN, when(ends, FINISHED, NOT_YET))
+
+    pub fn k(&self) -> usize {
+        self.asked.query.k as usize
+    }
+
+    // Whether a table of which so many rows are read is read out: all its rows, or a withdrawn one, are read.
+    fn is_out(&self, which: Which, read: Rows) -> bool {
+        let depth = read.of(which);
+        depth == self.rows.of(which) || self.live.of(which) < depth
+    }
+
+    // Whether it counts as empty.
+    fn is_empty(&self, which: Which, read: Rows) -> bool {
+        self.rows.of(which) == 0 || (self.live.of(which) == 0 && 0 < read.of(which))
+    }
+
+    // Whether nothing can qualify, a table is empty, or both are read out.
+    fn all_read(&self, read: Rows) -> bool {
+        self.none
+            || self.is_empty(Which::Field, read)
+            || self.is_empty(Which::Trim, read)
+            || (self.is_out(Which::Field, read) && self.is_out(Which::Trim, read))
+    }
+
+    // The sum of the row of a table that was read last with the first row of the other.
+    fn last_sum(&self, which: Which, read: Rows) -> u32 {
+        let rows = which.both(read.of(which), 1);
+        self.sums.sum(rows.field, rows.trim)
+    }
+
+    // No pair with an unread row of a table has a higher sum than this.
+    fn ceiling(&self, which: Which, read: Rows) -> u32 {
+        if self.is_out(which, read) {
+            return 0;
+        }
+        self.last_sum(which, read)
+    }
+
+    // How many of the pairs read no pair with an unread row can outdo.
+    fn secured(&self, read: Rows) -> usize {
+        let field = self.ceiling(Which::Field, read);
+        let trim = self.ceiling(Which::Trim, read);
+        self.sums.reaching(read, field.max(trim))
+    }
+
+    // Whether the reading is sure of k.
+    pub fn sure(&self, read: Rows) -> bool {
+        self.all_read(read) || self.k() <= self.secured(read)
+    }
+
+    // The least deeper depth of a sure reading.
+    fn least_sure(&self) -> u32 {
+        let mut least = 12;
+        for field in 0u32..13 {
+            for trim in 0u32..13 {
+                let read = Both { field, trim };
+                if field <= self.rows.field && trim <= self.rows.trim && self.sure(read) {
+                    least = least.min(field.max(trim));
+                }
+            }
+        }
+        least
+    }
+
+    // What a call must answer, with so many pairs out.
+    pub fn answer(&self, read: Rows, out: usize, call: Call) -> Said {
+        match call {
+            Call::Read if self.sure(read) => Said::Settled,
+            Call::Read => Said::Read,
+            Call::Take if out < self.k() && out < self.secured(read) => Said::Given,
+            Call::Take if out == self.k() || self.all_read(read) => Said::Finished,
+            Call::Take => Said::NotYet,
+        }
+    }
+
+    // The table that is read next.
+    fn next(&self, read: Rows) -> Which {
+        if read.field == 0 {
+            return Which::Field;
+        }
+        if read.trim == 0 || self.is_out(Which::Field, read) {
+            return Which::Trim;
+        }
+        if self.is_out(Which::Trim, read) {
+            return Which::Field;
+        }
+        let best = self.sums.sum(1, 1);
+        let field = best.abs_diff(self.last_sum(Which::Field, read));
+        let trim = best.abs_diff(self.last_sum(Which::Trim, read));
+        if field < trim || (field == trim && read.field <= read.trim) {
+            return Which::Field;
+        }
+        Which::Trim
+    }
 }
 
-// Whether the field table is read next.
-fn field_next(c: Case, m: &Sums, p: u32, q: u32) -> bool {
-    if (p == 0) | (q == 0) {
-        return p == 0;
-    }
-    if field_out(c, p) | trim_out(c, q) {
-        return !field_out(c, p);
-    }
-    let first = plain::sum_at(m, 1, 1);
-    let x = plain::apart(first, plain::sum_at(m, p, 1));
-    let y = plain::apart(first, plain::sum_at(m, 1, q));
-    (x < y) | ((x == y) & (p <= q))
+// A block that is read: the table, the rows above it, the row that it ends with, and how many the other table has read.
+#[derive(Clone, Copy)]
+struct Block {
+    of: Which,
+    after: u32,
+    end: u32,
+    other: u32,
 }
 
-// How many pairs have this sum or a higher one, of so many rows of the table that is read and of the other.
-fn reaching(m: &Sums, of_field: bool, own: u32, other: u32, least: u32) -> u32 {
-    if of_field {
-        return plain::reaching(m, own, other, least);
+impl Case {
+    // How many pairs have this sum or a higher one, of so many rows of the table that is read and of the other.
+    fn reaching(&self, of: Which, own: u32, other: u32, least: u32) -> usize {
+        self.sums.reaching(of.both(own, other), least)
     }
-    plain::reaching(m, other, own, least)
-}
 
-// Whether rows a + 1 to e of one table join the block after row c of the other, read to d: not if k pairs of what was
-// met before have a higher sum than the blocks' first rows i and j, and not if the blocks lie too far apart.
-fn joins(c: Case, m: &Sums, of_field: bool, a: u32, e: u32, b: u32, d: u32) -> bool {
-    let i = wrapping_add_u32(when(of_field, a, b), 1);
-    let j = wrapping_add_u32(when(of_field, b, a), 1);
-    let above = wrapping_add_u32(plain::sum_at(m, i, j), 1);
-    let before = reaching(m, of_field, a, d, above);
-    let old = reaching(m, of_field, a, b, above);
-    let new = reaching(m, of_field, e, b, above);
-    let room = wrapping_add_u32(before, plain::apart(new, old)) < c.k;
-    plain::begins(c.block, b) & (room & !plain::has_mark(m, i, j, plain::FAR))
-}
-
-// How many block pairs are joined where rows a + 1 to e of one table meet the other, read to d.
-fn joined(c: Case, m: &Sums, of_field: bool, a: u32, e: u32, d: u32) -> u32 {
-    let mut n = 0;
-    for b in 0..d {
-        n = wrapping_add_u32(n, joins(c, m, of_field, a, e, b, d) as u32);
+    // Whether a block joins the other table's block after so many rows: not if k pairs of what was met before have a
+    // higher sum than the blocks' first rows, and not if the blocks lie too far apart.
+    fn joins(&self, block: Block, after: u32) -> bool {
+        let Block {
+            of,
+            after: own,
+            end,
+            other,
+        } = block;
+        let above = of.both(own, after);
+        let first = self
+            .sums
+            .at(above.field.wrapping_add(1), above.trim.wrapping_add(1));
+        let least = first.pair.sum.wrapping_add(1);
+        let before = self.reaching(of, own, other, least);
+        let old = self.reaching(of, own, after, least);
+        let new = self.reaching(of, end, after, least);
+        let has_room = before.wrapping_add(new.abs_diff(old)) < self.k();
+        plain::begins(self.asked.query.block, after) && has_room && !first.far
     }
-    n
-}
 
-// The record with one block more read.
-fn read_on(c: Case, m: &Sums, s: &Record) -> Record {
-    let p = s[record::FIELD_DEPTH];
-    let q = s[record::TRIM_DEPTH];
-    let of_field = field_next(c, m, p, q);
-    let own = when(of_field, p, q);
-    let other = when(of_field, q, p);
-    let rows = when(of_field, c.fields, c.trims);
-    let end = plain::lower(wrapping_add_u32(own, c.block), rows);
-    let n = joined(c, m, of_field, own, end, other);
-    let mut r = *s;
-    r[record::FIELD_DEPTH] = when(of_field, end, p);
-    r[record::TRIM_DEPTH] = when(of_field, q, end);
-    r[record::LAST] = when(of_field, 1, 2);
-    r[record::JOINED] = wrapping_add_u32(s[record::JOINED], n);
-    r
-}
+    // How many block pairs are joined where a block is read.
+    fn joined(&self, block: Block) -> u64 {
+        let mut n = 0u64;
+        for after in 0..block.other {
+            n = n.wrapping_add(u64::from(self.joins(block, after)));
+        }
+        n
+    }
 
-// What the double loop says of the pairs that are not among the first n given.
-fn without_given(m: &Sums, given: [Pair; 64], n: u32) -> Sums {
-    let mut r = *m;
-    for i in 0..n {
-        let p = given[(i % 64) as usize];
-        r[plain::at(p.field, p.trim) % 169] = 0;
+    // The session with one block more read.
+    fn read_on(&self, s: &Session) -> Session {
+        let now = read(s);
+        let of = self.next(now);
+        let after = now.of(of);
+        let block = Block {
+            of,
+            after,
+            end: after
+                .wrapping_add(self.asked.query.block)
+                .min(self.rows.of(of)),
+            other: now.of(of.other()),
+        };
+        Session {
+            depth: depth(now.with(of, block.end)),
+            last: match of {
+                Which::Field => 1,
+                Which::Trim => 2,
+            },
+            joined: s.joined.wrapping_add(self.joined(block)),
+            ..*s
+        }
     }
-    r
-}
 
-// The kept numbers of a record and those of its reading, with no pair held.
-fn without_held(s: &Record) -> Record {
-    let mut r = [0u32; 209];
-    for i in 0usize..16 {
-        r[i] = s[i];
+    // The session with the pairs that it must hold: the best-ranked of those read and not out, at most k less those
+    // out.
+    fn with_held(&self, s: &Session, given: &[Pair]) -> Session {
+        let now = read(s);
+        let mut left = self.sums;
+        for p in given {
+            left.remove(*p);
+        }
+        let room = self.k().saturating_sub(s.out as usize);
+        let mut held = 0u32;
+        let mut pairs = [NO_PAIR; PLACES];
+        for place in pairs.iter_mut().take(room) {
+            if let Some(p) = left.best(now) {
+                *place = p;
+                held = held.wrapping_add(1);
+                left.remove(p);
+            }
+        }
+        Session { held, pairs, ..*s }
     }
-    r
-}
 
-// The record with the pairs that it must hold: the best-ranked of those read and not out, at most k less those out.
-fn with_held(c: Case, m: &Sums, s: &Record, given: [Pair; 64]) -> Record {
-    let p = s[record::FIELD_DEPTH];
-    let q = s[record::TRIM_DEPTH];
-    let left = without_given(m, given, s[record::OUT]);
-    let room = wrapping_sub_u32(c.k, s[record::OUT]);
-    let held = plain::lower(room, plain::reaching(&left, p, q, 0));
-    let mut r = without_held(s);
-    r[record::HELD] = held;
-    let mut cut = plain::cut_after(&left, p, q, plain::pair(plain::PAST, 0, 0));
-    for i in 0..held {
-        record::put(&mut r, i, cut.next);
-        cut = plain::cut_after(&left, p, q, cut.next);
+    // The session that a call with s must give back which answered so, these pairs being out.
+    pub fn session(&self, s: &Session, said: Said, given: &[Pair]) -> Session {
+        match said {
+            Said::Read => self.with_held(&self.read_on(s), given),
+            Said::Given => {
+                let out = s.out.wrapping_add(1);
+                self.with_held(&Session { out, ..*s }, given)
+            }
+            _ => *s,
+        }
     }
-    r
-}
-
-// The record that a call with s must give back which answered so, these pairs being out.
-pub fn record(c: Case, m: &Sums, s: &Record, said: u32, given: [Pair; 64]) -> Record {
-    if said == READ {
-        let r = read_on(c, m, s);
-        return with_held(c, m, &r, given);
-    }
-    let mut r = *s;
-    if said == GIVEN {
-        r[record::OUT] = wrapping_add_u32(s[record::OUT], 1);
-        return with_held(c, m, &r, given);
-    }
-    r
 }

@@ -1,77 +1,30 @@
 // Tables and queries made from a seed: ties, plateaus, zero scores, empty tables, extreme shades, shades that drift; on
 // the new card many that only L tells apart.
-use crate::plain::{Asked, Table};
-use crate::{dice, plain};
-use std::num::wrapping_add_u32;
+use crate::dice::Dice;
+use crate::plain::{Asked, NO_ROW, Row, Table};
+use crate::two_tables::Card;
+use rules::{
+    FieldTolerance, FieldWeight, Meaning, Query, Tolerances, TrimTolerance, TrimWeight, Weights,
+};
 
 // How scores and shades are spread.
 #[derive(Clone, Copy)]
-pub struct Spread {
-    pub top: u32,
+struct Spread {
+    dice: Dice,
+    card: Card,
+    top: u32,
     // The most that a score falls from row to row, and where it stops.
-    pub fall: u32,
-    pub least: u32,
+    fall: u32,
+    least: u32,
     // Scores fall over the first three rows only.
-    pub plateau: bool,
+    plateau: bool,
     // How many of the small shades there are beside the first.
-    pub shades: u32,
-    pub extreme: bool,
+    shades: u32,
+    extreme: bool,
     // How many of the lights there are beside the first.
-    pub lights: u32,
+    lights: u32,
     // a, or L on the new card, goes on from row to row.
-    pub drifting: bool,
-    pub card: u32,
-}
-
-// On the new card every second table has a and b 0 throughout.
-fn shades(seed: u64, card: u32) -> u32 {
-    if card == 3 {
-        dice::pick(seed, 4, [0, 0, 0, 0, 1, 3, 7, 11])
-    } else {
-        dice::pick(seed, 4, [0, 1, 3, 3, 5, 7, 9, 11])
-    }
-}
-
-// Every fourth seed's shades drift: those of both tables of a case.
-fn spread_of(seed: u64, card: u32) -> Spread {
-    let least = dice::pick(seed, 14, [0, 0, 0, 1, 1, 1, 1, 1]);
-    let top = dice::pick(seed, 1, [0, 1, 3, 8, 20, 60, 400, 9999]);
-    Spread {
-        top: plain::higher(top, least),
-        fall: dice::pick(seed, 2, [1, 1, 2, 2, 5, 5, 60, 1000]),
-        least,
-        plateau: dice::one_in(seed, 3, 3),
-        shades: shades(seed, card),
-        extreme: dice::one_in(seed, 5, 6),
-        lights: dice::pick(seed, 15, [0, 1, 1, 3, 5, 7, 9, 11]),
-        drifting: seed % 4 == 3,
-        card,
-    }
-}
-
-// On the new card also just less than L's range, and all of it.
-fn radius(seed: u64, card: u32) -> u32 {
-    if card == 3 {
-        dice::pick(seed, 8, [0, 1, 5, 13, 40, 9999, 10000, 25500])
-    } else {
-        dice::pick(seed, 8, [0, 1, 2, 5, 13, 40, 25500, 40000])
-    }
-}
-
-// What is asked on a card. Weights are often equal, so that ties are, and some make ties of unlike scores; tolerances
-// are small, so that every place within them can be looked at, and often none.
-pub fn asked(seed: u64, card: u32) -> Asked {
-    Asked {
-        card,
-        k: dice::pick(seed, 6, [1, 2, 3, 4, 5, 8, 8, 64]),
-        block: dice::pick(seed, 7, [1, 1, 2, 2, 3, 4, 4, 1024]),
-        radius: radius(seed, card),
-        field_weight: dice::pick(seed, 12, [1, 1, 1, 1, 2, 3, 9, 9]),
-        trim_weight: dice::pick(seed, 13, [1, 1, 1, 2, 3, 4, 9, 9]),
-        field_tolerance: dice::pick(seed, 16, [0, 0, 0, 0, 0, 1, 1, 2]),
-        trim_tolerance: dice::pick(seed, 17, [0, 0, 0, 0, 0, 1, 1, 2]),
-        surely: dice::one_in(seed, 18, 2),
-    }
+    drifting: bool,
 }
 
 const EXTREME: [i32; 5] = [-12800, 12700, -12800, 12700, 0];
@@ -88,73 +41,140 @@ const FADING: [i32; 16] = [
     0, 3, 9, 13, 20, 33, 40, 41, 60, 73, 90, 95, 100, 140, 150, 160,
 ];
 
-// The one of row i + 1, or one of the next three.
-fn drifted(seed: u64, place: u64, i: u32, of: [i32; 16]) -> i32 {
-    let at = wrapping_add_u32(i % 12, dice::below(seed, place, 4));
-    of[(at % 16) as usize]
+// On the new card every second table has a and b 0 throughout.
+fn shades(dice: Dice, card: Card) -> u32 {
+    match card {
+        Card::Old => dice.pick(4, [0, 1, 3, 3, 5, 7, 9, 11]),
+        Card::New => dice.pick(4, [0, 0, 0, 0, 1, 3, 7, 11]),
+    }
 }
 
-fn shade(seed: u64, place: u64, w: Spread) -> i32 {
-    if w.extreme {
-        return EXTREME[(dice::below(seed, place, 5) % 5) as usize];
+impl Spread {
+    // Every fourth seed's shades drift: those of both tables of a case.
+    fn new(dice: Dice, card: Card) -> Spread {
+        let least = dice.pick(14, [0, 0, 0, 1, 1, 1, 1, 1]);
+        let top = dice.pick(1, [0, 1, 3, 8, 20, 60, 400, 9999]);
+        Spread {
+            dice,
+            card,
+            top: least.max(top),
+            fall: dice.pick(2, [1, 1, 2, 2, 5, 5, 60, 1000]),
+            least,
+            plateau: dice.one_in(3, 3),
+            shades: shades(dice, card),
+            extreme: dice.one_in(5, 6),
+            lights: dice.pick(15, [0, 1, 1, 3, 5, 7, 9, 11]),
+            drifting: dice.0 % 4 == 3,
+        }
     }
-    let i = dice::below(seed, place, wrapping_add_u32(w.shades, 1));
-    SMALL[(i % 12) as usize]
-}
 
-// The a of row i + 1.
-fn first_shade(seed: u64, place: u64, i: u32, w: Spread) -> i32 {
-    if w.drifting & (w.card == 2) {
-        return drifted(seed, place, i, DRIFTING);
+    // The one of row i + 1, or one of the next three.
+    fn drifted(&self, place: u64, i: u32, of: [i32; 16]) -> i32 {
+        let on = self.dice.below(place, 4);
+        of[(i.wrapping_add(on) % 16) as usize]
     }
-    shade(seed, place, w)
-}
 
-// The score of row i + 1, after a row of score s.
-fn score(seed: u64, i: u32, w: Spread, s: u32) -> u32 {
-    if (i == 0) | (w.plateau & (2 < i)) {
-        return s;
+    fn shade(&self, place: u64) -> i32 {
+        if self.extreme {
+            return EXTREME[self.dice.below(place, 5) as usize];
+        }
+        let i = self.dice.below(place, self.shades.wrapping_add(1));
+        SMALL[(i % 12) as usize]
     }
-    let fall = dice::below(seed, i as u64, wrapping_add_u32(w.fall, 1));
-    if s < fall {
-        return w.least;
-    }
-    plain::higher(s - fall, w.least)
-}
 
-// The L of row i + 1; 0 on the old card.
-fn light(seed: u64, place: u64, i: u32, w: Spread) -> i32 {
-    if w.card == 2 {
-        return 0;
+    // The a of row i + 1.
+    fn first_shade(&self, place: u64, i: u32) -> i32 {
+        if self.drifting && self.card == Card::Old {
+            return self.drifted(place, i, DRIFTING);
+        }
+        self.shade(place)
     }
-    if w.drifting {
-        return drifted(seed, place, i, FADING);
-    }
-    let n = dice::below(seed, place, wrapping_add_u32(w.lights, 1));
-    LIGHTS[(n % 12) as usize]
-}
 
-// Sets row i + 1.
-fn put_row(t: &mut Table, seed: u64, i: u32, w: Spread, s: u32) {
-    let row = i % 12;
-    let place = row as u64;
-    let n = dice::pick(seed, place + 100, [0, 0, 1, 2, 77, 500000, 999997, 999998]);
-    let at = (5 * row) as usize;
-    t[at] = (n % 999999 + 1) as i32;
-    t[at + 1] = (s % 10000) as i32;
-    t[at + 2] = first_shade(seed, place + 200, i, w);
-    t[at + 3] = shade(seed, place + 300, w);
-    t[at + 4] = light(seed, place + 400, i, w);
+    // The L of row i + 1; 0 on the old card.
+    fn light(&self, place: u64, i: u32) -> i32 {
+        if self.card == Card::Old {
+            return 0;
+        }
+        if self.drifting {
+            return self.drifted(place, i, FADING);
+        }
+        let n = self.dice.below(place, self.lights.wrapping_add(1));
+        LIGHTS[(n % 12) as usize]
+    }
+
+    // The score of row i + 1, after a row of score s.
+    fn score(&self, i: u32, s: u32) -> u32 {
+        if i == 0 || (self.plateau && 2 < i) {
+            return s;
+        }
+        let fall = self.dice.below(u64::from(i), self.fall.wrapping_add(1));
+        s.saturating_sub(fall).max(self.least)
+    }
+
+    // Row i + 1, of score s.
+    fn row(&self, i: u32, score: u32) -> Row {
+        let place = u64::from(i);
+        Row {
+            pattern: self
+                .dice
+                .pick(place + 100, [1, 1, 2, 3, 78, 500001, 999998, 999999]),
+            score,
+            a: self.first_shade(place + 200, i),
+            b: self.shade(place + 300),
+            light: self.light(place + 400, i),
+        }
+    }
 }
 
 // A legal table of 12 rows.
-pub fn table(seed: u64, card: u32) -> Table {
-    let w = spread_of(seed, card);
-    let mut t = [0i32; 60];
-    let mut s = w.top;
+pub fn table(dice: Dice, card: Card) -> Table {
+    let spread = Spread::new(dice, card);
+    let mut t = [NO_ROW; 12];
+    let mut s = spread.top;
     for i in 0u32..12 {
-        s = score(seed, i, w, s);
-        put_row(&mut t, seed, i, w, s);
+        s = spread.score(i, s);
+        t[i as usize] = spread.row(i, s);
     }
     t
+}
+
+// On the new card also just less than L's range, and all of it.
+fn radius(dice: Dice, card: Card) -> u32 {
+    match card {
+        Card::Old => dice.pick(8, [0, 1, 2, 5, 13, 40, 25500, 40000]),
+        Card::New => dice.pick(8, [0, 1, 5, 13, 40, 9999, 10000, 25500]),
+    }
+}
+
+// Weights are often equal, so that ties are, and some make ties of unlike scores.
+fn weights(dice: Dice) -> Weights {
+    Weights {
+        field: FieldWeight(dice.pick(12, [1, 1, 1, 1, 2, 3, 9, 9])),
+        trim: TrimWeight(dice.pick(13, [1, 1, 1, 2, 3, 4, 9, 9])),
+    }
+}
+
+// Tolerances are small, so that every place within them can be looked at, and often none.
+fn tolerances(dice: Dice) -> Tolerances {
+    Tolerances {
+        field: FieldTolerance(dice.pick(16, [0, 0, 0, 0, 0, 1, 1, 2])),
+        trim: TrimTolerance(dice.pick(17, [0, 0, 0, 0, 0, 1, 1, 2])),
+    }
+}
+
+// What is asked on a card.
+pub fn asked(dice: Dice, card: Card) -> Asked {
+    let query = Query {
+        k: dice.pick(6, [1, 2, 3, 4, 5, 8, 8, 64]),
+        block: dice.pick(7, [1, 1, 2, 2, 3, 4, 4, 1024]),
+        radius: radius(dice, card),
+        weights: weights(dice),
+        tolerances: tolerances(dice),
+        meaning: if dice.one_in(18, 2) {
+            Meaning::Surely
+        } else {
+            Meaning::Possibly
+        },
+    };
+    Asked { card, query }
 }

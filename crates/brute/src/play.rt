@@ -1,11 +1,13 @@
 // A whole session, read and taken from in one of several orders; each answer and record is compared.
-use crate::due::{Case, when};
-use crate::judge::Seen;
-use crate::plain::{Asked, Sums};
-use crate::record::Record;
-use crate::{calls, dice, due, judge, plain, record, refused, tally};
-use rules::{Answer, Pair, Session};
-use std::num::{wrapping_add_u32, wrapping_add_u64, wrapping_sub_u32};
+use crate::calls::Call;
+use crate::dice::Dice;
+use crate::due::{Case, Said};
+use crate::judge::{Fault, Seen, UNSEEN};
+use crate::plain::Asked;
+use crate::tally::{Tally, count_if};
+use crate::two_tables::{Card, Lent};
+use crate::{calls, due, judge, refused};
+use rules::{Answer, PLACES, Session};
 
 // A session, and what its caller has seen of it.
 #[derive(Clone, Copy)]
@@ -14,168 +16,148 @@ pub struct Played {
     pub seen: Seen,
 }
 
+// The order of reads and takes: a take after each read; reads, then takes; takes while possible; or as a coin falls.
+#[derive(Clone, Copy)]
+enum Order {
+    TakeAfterRead,
+    ReadsThenTakes,
+    TakesWhilePossible,
+    Coin,
+}
+
+impl Order {
+    fn of(dice: Dice) -> Order {
+        match dice.below(9, 4) {
+            0 => Order::TakeAfterRead,
+            1 => Order::ReadsThenTakes,
+            2 => Order::TakesWhilePossible,
+            _ => Order::Coin,
+        }
+    }
+
+    // The next call, going by the last answer.
+    fn next(self, said: Said, coin: bool) -> Call {
+        let reads = match self {
+            Order::TakeAfterRead => !matches!(said, Said::Read | Said::Settled),
+            Order::ReadsThenTakes => !matches!(said, Said::Settled | Said::Given),
+            Order::TakesWhilePossible => matches!(said, Said::NotYet),
+            Order::Coin => coin,
+        };
+        if reads { Call::Read } else { Call::Take }
+    }
+}
+
 // What is seen with one answer more.
-fn told(seen: Seen, a: Answer) -> Seen {
+fn told(seen: Seen, answer: Answer) -> Seen {
     let mut next = seen;
-    next.said = due::number(a);
-    if let Answer::Given(p) = a {
-        next.given[(seen.count % 64) as usize] = p;
-        next.count = wrapping_add_u32(seen.count, 1);
+    next.said = Said::from(answer);
+    if let Answer::Given(p) = answer {
+        next.given[seen.count % PLACES] = p;
+        next.count = seen.count.wrapping_add(1);
     }
     next
-}
-
-// The comparison after a call, by the answer that was due, the record and what is wrong with it.
-fn compared(c: Case, m: &Sums, seen: Seen, due: u32, r: &Record, fault: u32) -> Seen {
-    let mut next = seen;
-    next.due = due;
-    next.depth = plain::higher(r[record::FIELD_DEPTH], r[record::TRIM_DEPTH]);
-    next.record = fault;
-    next.fault = judge::or(seen.fault, judge::fault(c, m, next));
-    next
-}
-
-// A session just opened.
-fn opened(c: Case, m: &Sums, f: &[i32], t: &[i32], a: Asked) -> Played {
-    let step = calls::open(f, t, a);
-    let session = step.session;
-    let answer = step.answer;
-    let r = record::numbers(session);
-    let due = record::opened(a, c.fields, c.trims);
-    let fault = judge::differs(&due, &r);
-    let seen = told(judge::unseen(), answer);
-    Played {
-        session,
-        seen: compared(c, m, seen, due::OPENED, &r, fault),
-    }
 }
 
 // After a read as many rows must be shown as were read.
-pub fn hidden<'a>(
-    f: &'a [i32],
-    t: &'a [i32],
-    after: Session,
-    s: &Record,
-    r: &Record,
-    said: u32,
-) -> u32 {
-    let fields = wrapping_sub_u32(r[record::FIELD_DEPTH], s[record::FIELD_DEPTH]);
-    let trims = wrapping_sub_u32(r[record::TRIM_DEPTH], s[record::TRIM_DEPTH]);
-    let read = calls::numbers(r[record::CARD], wrapping_add_u32(fields, trims));
-    let shows = calls::shown(f, t, after) == read;
-    when((said == due::READ) & !shows, judge::SHOWN, 0)
+pub fn hidden(
+    card: Card,
+    lent: Lent,
+    before: &Session,
+    after: &Session,
+    said: Said,
+) -> Option<Fault> {
+    let old = due::read(before);
+    let new = due::read(after);
+    let fields = new.field.wrapping_sub(old.field);
+    let trims = new.trim.wrapping_sub(old.trim);
+    let read = card.numbers(fields.wrapping_add(trims));
+    let shows = calls::shown(lent, *after) == read;
+    (said == Said::Read && !shows).then_some(Fault::Shown)
 }
 
-// One call, and the comparison after it.
-fn called<'a>(
-    c: Case,
-    m: &Sums,
-    f: &'a [i32],
-    t: &'a [i32],
-    before: Played,
-    is_read: bool,
-) -> Played {
-    let seen = before.seen;
-    let s = record::numbers(before.session);
-    let p = s[record::FIELD_DEPTH];
-    let due = due::answer(c, m, p, s[record::TRIM_DEPTH], seen.count, is_read);
-    let step = calls::call(f, t, before.session, is_read);
-    let session = step.session;
-    let answer = step.answer;
-    let next = told(seen, answer);
-    let given = next.given;
-    let r = record::numbers(session);
-    let fault = judge::record_fault(c, m, &s, &r, next.said, given);
-    let any = judge::or(fault, hidden(f, t, session, &s, &r, next.said));
-    Played {
-        session,
-        seen: compared(c, m, next, due, &r, any),
-    }
+// A case that is played: what is due, its tables as they are lent, and its dice.
+#[derive(Clone, Copy)]
+pub struct Game<'a> {
+    pub case: &'a Case,
+    pub lent: Lent<'a>,
+    pub dice: Dice,
 }
 
-// Whether the next call is a read, going by the last answer: a take after each read; reads, then takes; takes while
-// possible; or as a coin falls.
-fn read_next(order: u32, said: u32, coin: bool) -> bool {
-    match order {
-        0 => (said != due::READ) & (said != due::SETTLED),
-        1 => (said != due::SETTLED) & (said != due::GIVEN),
-        2 => said == due::NOT_YET,
-        _ => coin,
-    }
-}
-
-// Whether the last two of n pairs have the same sum.
-fn is_tie(given: [Pair; 64], n: u32) -> bool {
-    let last = given[(wrapping_add_u32(n, 63) % 64) as usize];
-    let other = given[(wrapping_add_u32(n, 62) % 64) as usize];
-    (1 < n) & (last.sum == other.sum)
-}
-
-fn counted(seen: Seen, tally: &mut [u64; 48]) {
-    let given = seen.given;
-    tally::count(tally, seen.said);
-    let tie = (seen.said == due::GIVEN) & is_tie(given, seen.count);
-    tally::count_if(tally, tie, tally::TIES);
-}
-
-// A seed for a step of a seed's session.
-fn step_seed(seed: u64, step: u64) -> u64 {
-    wrapping_add_u64(seed << 16, step)
-}
-
-// The calls that must be refused before a step.
-fn refused_at<'a>(
-    c: Case,
-    m: &Sums,
-    f: &'a [i32],
-    t: &'a [i32],
-    now: Session,
-    seed: u64,
-    tally: &mut [u64; 48],
-) {
-    let s = record::numbers(now);
-    let sure = due::sure(c, m, s[record::FIELD_DEPTH], s[record::TRIM_DEPTH]);
-    refused::calls_at(f, t, &s, seed, tally);
-    refused::reads_at(f, t, &s, sure, seed, tally);
-}
-
-// A session from its opening to its end, and a read and a take after it.
-pub fn whole<'a>(
-    c: Case,
-    m: &Sums,
-    f: &'a [i32],
-    t: &'a [i32],
-    a: Asked,
-    seed: u64,
-    tally: &mut [u64; 48],
-) -> Played {
-    let order = dice::below(seed, 9, 4);
-    let mut now = opened(c, m, f, t, a);
-    for step in 1000u64..1600 {
-        let said = now.seen.said;
-        if said != due::FINISHED {
-            let is_read = read_next(order, said, dice::one_in(seed, step, 2));
-            refused_at(c, m, f, t, now.session, step_seed(seed, step), tally);
-            now = called(c, m, f, t, now, is_read);
-            counted(now.seen, tally);
+impl Game<'_> {
+    // The comparison after a call, by what is wrong with the record.
+    fn compared(&self, session: Session, seen: Seen, record: Option<Fault>) -> Played {
+        let read = due::read(&session);
+        let mut next = seen;
+        next.depth = read.field.max(read.trim);
+        next.record = record;
+        next.fault = seen.fault.or(judge::first_fault(self.case, &next));
+        Played {
+            session,
+            seen: next,
         }
     }
-    called(c, m, f, t, called(c, m, f, t, now, true), false)
+
+    // A session just opened.
+    fn opened(&self) -> Played {
+        let step = calls::open(self.lent, self.case.asked);
+        let due = due::opened(self.case.asked, self.case.rows);
+        let fault = judge::differs(&due, &step.session);
+        self.compared(step.session, told(UNSEEN, step.answer), fault)
+    }
+
+    // One call, and the comparison after it.
+    fn called(&self, before: Played, call: Call) -> Played {
+        let Played { session, seen } = before;
+        let step = call.on(self.lent, session);
+        let mut next = told(seen, step.answer);
+        next.due = self.case.answer(due::read(&session), seen.count, call);
+        let due = self.case.session(&session, next.said, next.pairs());
+        let hidden = hidden(
+            self.case.asked.card,
+            self.lent,
+            &session,
+            &step.session,
+            next.said,
+        );
+        let fault = judge::differs(&due, &step.session).or(hidden);
+        self.compared(step.session, next, fault)
+    }
+
+    // A session from its opening to its end, and a read and a take after it.
+    pub fn whole(&self, tally: &mut Tally) -> Played {
+        let order = Order::of(self.dice);
+        let mut now = self.opened();
+        for step in 1000u64..1600 {
+            if now.seen.said == Said::Finished {
+                break;
+            }
+            let call = order.next(now.seen.said, self.dice.one_in(step, 2));
+            refused::calls(self, &now.session, self.dice.at_step(step), tally);
+            now = self.called(now, call);
+            counted(&now.seen, tally);
+        }
+        self.called(self.called(now, Call::Read), Call::Take)
+    }
+}
+
+fn counted(seen: &Seen, tally: &mut Tally) {
+    tally.answer(seen.said);
+    count_if(&mut tally.ties, seen.said == Said::Given && seen.is_tie());
 }
 
 // A whole query at once, as its caller sees it.
-pub fn at_once(f: &[i32], t: &[i32], a: Asked) -> Seen {
-    let run = calls::run(f, t, a);
-    let given = run.pairs;
-    let refused = (run.opening != 0) | (run.reading != 0);
-    let depth = run.session.depth;
+pub fn at_once(lent: Lent, asked: Asked) -> Seen {
+    let run = calls::run(lent, asked);
+    let read = due::read(&run.session);
     Seen {
-        given,
-        count: (run.count % 65) as u32,
-        said: when(refused, 0, due::FINISHED),
-        due: due::FINISHED,
-        depth: plain::higher(depth.field.0, depth.trim.0),
-        record: 0,
-        fault: 0,
+        given: run.pairs,
+        count: run.count % 65,
+        said: match run.opening.and(run.reading) {
+            Ok(()) => Said::Finished,
+            Err(by) => Said::Refused(by),
+        },
+        due: Said::Finished,
+        depth: read.field.max(read.trim),
+        ..UNSEEN
     }
 }

@@ -1,43 +1,59 @@
-// Counters. Places 1 to 19 count refused calls, 20 to 25 answers, by their number.
+// What is counted over all cases.
+use crate::due::Said;
+use rules::Refusal;
 
-pub const CASES: u32 = 30;
-
-pub const EMPTY: u32 = 31;
-
-pub const TIES: u32 = 32;
-
-pub const EXACT: u32 = 33;
-
-// Of these, with blocks of 2 rows or more.
-pub const EXACT_BLOCKS: u32 = 34;
-
-pub const MISMATCHES: u32 = 36;
-
-pub const WITHDRAWN: u32 = 37;
-
-// With pairs that L alone keeps apart.
-pub const BY_LIGHT: u32 = 40;
-
-// With block pairs too far apart; of these, with others that are joined.
-pub const FAR: u32 = 41;
-
-pub const FAR_AND_JOINED: u32 = 42;
-
-// With pairs that tolerances decide; with a query that nothing can meet.
-pub const BY_TOLERANCE: u32 = 43;
-
-pub const UNSATISFIABLE: u32 = 44;
-
-pub fn count(tally: &mut [u64; 48], i: u32) {
-    if i < 48 {
-        let at = i as usize;
-        let x = tally[at];
-        tally[at] = std::num::wrapping_add_u64(x, 1);
-    }
+#[derive(Clone, Copy, Default)]
+pub struct Tally {
+    pub cases: u64,
+    // With pairs that L alone keeps apart; with pairs that tolerances decide; with a query that nothing can meet.
+    pub by_light: u64,
+    pub by_tolerance: u64,
+    pub unsatisfiable: u64,
+    // With block pairs too far apart; of these, with others that are joined.
+    pub far: u64,
+    pub far_and_joined: u64,
+    pub empty: u64,
+    pub withdrawn: u64,
+    // The row limit is met exactly; of these, with blocks of 2 rows or more.
+    pub exact: u64,
+    pub exact_blocks: u64,
+    pub mismatches: u64,
+    // Calls, by answer.
+    pub read: u64,
+    pub settled: u64,
+    pub given: u64,
+    pub not_yet: u64,
+    pub finished: u64,
+    // Refused calls, by the refusal's number.
+    pub refused: [u64; 20],
+    // Pairs of the same sum as the one before.
+    pub ties: u64,
 }
 
-pub fn count_if(tally: &mut [u64; 48], counts: bool, i: u32) {
-    if counts {
-        count(tally, i);
+// Counts one more, if it is so.
+pub fn count_if(n: &mut u64, is_so: bool) {
+    *n = n.wrapping_add(u64::from(is_so));
+}
+
+impl Tally {
+    // Counts a refused call.
+    pub fn refusal(&mut self, by: Refusal) {
+        let number = u32::from(by) as usize;
+        if number < self.refused.len() {
+            count_if(&mut self.refused[number], true);
+        }
+    }
+
+    // Counts an answer.
+    pub fn answer(&mut self, said: Said) {
+        match said {
+            Said::Refused(by) => self.refusal(by),
+            Said::Opened => {}
+            Said::Read => count_if(&mut self.read, true),
+            Said::Settled => count_if(&mut self.settled, true),
+            Said::Given => count_if(&mut self.given, true),
+            Said::NotYet => count_if(&mut self.not_yet, true),
+            Said::Finished => count_if(&mut self.finished, true),
+        }
     }
 }

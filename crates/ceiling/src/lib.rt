@@ -1,7 +1,7 @@
 // The ceiling: the threshold of the rules' sessions.
 #![tactic(auto)]
 
-ghost use Rattle.std.specs.Prelude.{◌≡◌, cond, max};
+ghost use Rattle.std.specs.Prelude.{◌≡◌};
 ghost use Rattle.rules.specs.Session.{ceiling};
 ghost use Rattle.rules.specs.Tables.{table};
 ghost use Rattle.table_ends.specs.BothRead.{BothRead};
@@ -10,21 +10,9 @@ ghost use Rattle.ceiling.specs.Bare.{bare};
 use rules::{Counts, Weights};
 use table_ends::read_out;
 
-fn pick(t: bool, a: u64, b: u64) -> u64
-    ensures { result ≡ cond t a b }
-{
-    if t { a } else { b }
-}
-
-fn higher(a: u64, b: u64) -> u64
-    ensures { result ≡ max a b }
-{
-    if a < b { b } else { a }
-}
-
 // The ceiling: the higher of HF + LT, unless trim is read out, and LF + HT, unless field is. Each score counts
-// by its table's weight. Of a session it asks the card, the row counts, the depths and the weights alone: a whole
-// session would be copied.
+// by its table's weight. Of a session it asks the card, the row counts, the depths and the weights alone.
+#[tactic(auto, unfolding(rules::specs::Session::ceiling_by))]
 pub fn threshold(f: &[i32], t: &[i32], n: u32, rows: Counts, depth: Counts, weights: Weights) -> u64
     requires { BothRead (table n f.now) (table n t.now) depth }
     ensures { result ≡ ceiling (table n f.now) (table n t.now) (bare n rows depth weights) }
@@ -39,7 +27,7 @@ pub fn threshold(f: &[i32], t: &[i32], n: u32, rows: Counts, depth: Counts, weig
     let ht = tables::weighted(w, n, t, 0);
     let trim_out = read_out(n, t, rows.trim.0, e);
     let field_out = read_out(n, f, rows.field.0, d);
-    let a = pick(trim_out, 0, hf + lt);
-    let b = pick(field_out, 0, lf + ht);
-    higher(a, b)
+    let a = tables::pick(trim_out, 0, hf + lt);
+    let b = tables::pick(field_out, 0, lf + ht);
+    a.max(b)
 }

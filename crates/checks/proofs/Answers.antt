@@ -10,6 +10,7 @@ use Rattle.rules.specs.Session.{settled}
 use Rattle.rules.specs.Read.{read_block}
 use Rattle.rules.specs.Calls.{call_code, new_block_code, step, read_call_by, read_call}
 use Rattle.rules.specs.Query.{was_read, was_given}
+use Rattle.rules.specs.Numbers.{refused}
 
 -- a read never answers that a session was opened
 not_opened : (f t : Table) (s : Session) → (read_call f t s).answer ≡ Opened → ⊥
@@ -17,11 +18,11 @@ unfolding read_call_by
 not_opened f t s = go (eqb (call_code f t s) 0) (settled f t s) (eqb (new_block_code f t s) 0)
   where
     unread : Step
-    unread = step (Refused (new_block_code f t s)) s
+    unread = step (refused (new_block_code f t s)) s
 
     go : (a b c : Bool)
         → (cond a (cond b (step Settled s) (cond c (step Read (read_block f t s)) unread))
-        (step (Refused (call_code f t s)) s)).answer
+        (step (refused (call_code f t s)) s)).answer
         ≡ Opened
         → ⊥
     go true true c e = cc

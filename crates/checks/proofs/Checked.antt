@@ -21,10 +21,10 @@ pub record Checked (f t : Table) (s : Session) (code : ℕ) : Type 0 where
   pub known : code ≡ 0 → Accepted f t s
   pub last_known : code ≡ 0 → LastHeld s (get_or s.pairs ((s.held + 63) % 64) no_pair)
 
-pub checked : (f t : List ℤ) (s : Session) (fits : Bool) (code : ℕ) → fits ≡ record_fits s
+pub call_checked : (f t : List ℤ) (s : Session) (fits : Bool) (code : ℕ) → fits ≡ record_fits s
     → code ≡ call_of fits s.rows s.depth f t
     → Checked (lent_table s f) (lent_table s t) s code
-checked f t s fits code looked found = record { code_is = is; known = accepted; last_known = last }
+call_checked f t s fits code looked found = record { code_is = is; known = accepted; last_known = last }
   where
     is : code ≡ call_code (lent_table s f) (lent_table s t) s
     is = found ∙ ap (λ (b : Bool). call_of b s.rows s.depth f t) looked ∙ call_is f t s

@@ -1,17 +1,23 @@
 -- The numbers that a call is refused by, of what the checks look at: whether 5 has passed, row counts and depths, and
 -- the two slices. Assumes nothing.
-use Rattle.std.specs.Prelude.{◌≡◌, Bool, true, List, [], ◌∷◌, ℕ, ◌-◌, ◌≤◌, ◌<◌, ℤ, get_or}
+use Rattle.std.specs.Prelude.{◌≡◌, Bool, true, false, List, [], ◌∷◌, ℕ, ◌-◌, ◌≤◌, ◌<◌, eqb, ℤ, get_or}
+use Rattle.std.specs.Prelude.{Result, Ok, Err}
 use Rattle.std.proofs.Math.Path.{refl}
-use Rattle.std.proofs.Common.{arith}
+use Rattle.std.proofs.Common.{sym, ap, ◌∙◌, arith}
+use Rattle.std.specs.Result.{is_ok}
+use borrow.Author.Tests.{ne_eqb}
+use Rattle.rules.specs.declared.Answer.TheVariants.{Refused}
+use Rattle.rules.specs.declared.Refusal.{Refusal}
 use Rattle.rules.specs.declared.Counts.{Counts}
 use Rattle.rules.specs.declared.TwoTables.{TwoTables}
 use Rattle.rules.specs.declared.Pair.{Pair}
 use Rattle.rules.specs.declared.Session.{Session}
 use Rattle.rules.specs.Tables.{table, most_rows}
-use Rattle.rules.specs.Numbers.{bad_record, unless, first}
+use Rattle.rules.specs.Numbers.{bad_record, unless, first, code, number_of, refusal_of, refused}
 use Rattle.rules.specs.Session.{lent_table, no_pair}
 use Rattle.rules.specs.Calls.{same_size_code, rows_code, record_fits, record_code, lent_code, call_code}
 use Rattle.rules.specs.Checks.{first_out, unless_out}
+use Rattle.codes.specs.Steps.{passed, stopped, coded}
 use Rattle.session_laws.specs.Record.{record_out}
 use Rattle.session_laws.specs.Calls.{SameSize, same_size_out}
 
@@ -66,6 +72,16 @@ lent_of_out fits rows f t h =
       (same_size_out rows.field.0 x (passes 1), same_size_out rows.trim.0 y (passes 2)),
     )
 
+-- the check of 5 and 4 passes just where the rules' code is 0
+pub lent_passes : {A : Type 0} (f t : List ℤ) (s : Session) (fits : Bool) (r : Result A Refusal) → fits ≡ record_fits s
+    → code r ≡ lent_of fits s.rows f t
+    → eqb (lent_code (lent_table s f) (lent_table s t) s) 0 ≡ is_ok r
+lent_passes f t s fits r looked found =
+    ap (λ (n : ℕ). eqb n 0) (sym (found ∙ ap (λ (b : Bool). lent_of b s.rows f t) looked ∙ lent_is f t s)) ∙ coded r
+
 -- the pair in the last held place, where one is held
 abbrev pub LastHeld : Session → Pair → Type 0
 LastHeld s p = 0 < s.held → p ≡ get_or s.pairs (s.held - 1) no_pair
+
+-- one check after the other
+pub ruleset steps = (passed, stopped)

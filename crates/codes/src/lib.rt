@@ -1,25 +1,25 @@
-// A code is the number of the first of a list of checks that refuses: 0 where none does.
+// A check refuses, or it passes: of several, made one after the other with `?`, the first that refuses decides.
 #![tactic(auto)]
 
 ghost use Rattle.std.specs.Prelude.{◌≡◌, [], ◌∷◌};
-ghost use Rattle.rules.specs.Numbers.{unless, first};
+ghost use Rattle.rules.specs.Numbers.{unless, first, code, number_of};
 
-// A refusal's number, unless its test passes: then 0.
-pub fn unless(passes: bool, number: u32) -> u32
-    ensures { result ≡ unless passes number }
+use rules::Refusal;
+
+// A refusal, unless its test passes.
+pub fn unless(passes: bool, refusal: Refusal) -> Result<(), Refusal>
+    ensures { code result ≡ unless passes (number_of refusal) }
 {
     if passes {
-        return 0;
+        return Ok(());
     }
-    number
+    Err(refusal)
 }
 
-// The number of the first of two checks that refuses; 0 where neither does.
-pub fn first(code: u32, next: u32) -> u32
-    ensures { result ≡ first (code ∷ next ∷ []) }
+// The first of two checks that refuses.
+pub fn first(check: Result<(), Refusal>, next: Result<(), Refusal>) -> Result<(), Refusal>
+    ensures { code result ≡ first (code check ∷ code next ∷ []) }
 {
-    if code == 0 {
-        return next;
-    }
-    code
+    check?;
+    next
 }

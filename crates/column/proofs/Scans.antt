@@ -6,7 +6,8 @@ use Prim.Native.Nat.{ℕ, suc, ◌+◌, ◌*◌, ◌-◌, ◌≤◌, ◌<◌}
 use native.Mathlib.Nat.{mul-le-mul, mul-zero}
 use native.Mathlib.Omega.{arith}
 use lib.Dec.{leb, eqb}
-use lib.IntN.{pos, neg_ℤ}
+use lib.IntN.{ℤ, pos, neg_ℤ}
+use Rattle.std.proofs.Common.{Option, Some, None}
 use lib.ListN.{length}
 use borrow.Author.Tests.{ne_eqb, eqb-true, eqb-false, le-leb, lt-leb}
 use Rattle.lists.specs.Lists.{every}
@@ -18,26 +19,19 @@ use Rattle.file_laws.specs.Places.{place_value_at, by_places, place_tenfold, dig
 use Rattle.column_scan.specs.declared.Scan.{Scan}
 use Rattle.column_scan.specs.Scan.{byte_worth, stepped, start, scanned}
 use Rattle.column_scan.proofs.Bytes.{digit_worth}
-use Rattle.column.specs.declared.Column.{Column}
-use Rattle.column.specs.Column.{column_held}
-use Rattle.column.specs.Held.{least_of, signed_worth, held_of}
+use Rattle.column.specs.Column.{column_held, number_held_lem}
+use Rattle.column.specs.Held.{least_of, signed_worth, scan_fits, held_of}
 
-abbrev unfit : Column
-unfit = record { fits = false; number = pos 0 }
-
--- number n, after a minus or not, of a column that fits, and of one that may not
-abbrev fitting : Bool → ℕ → Column
-fitting m n = record { fits = true; number = cond m (neg_ℤ (pos n)) (pos n) }
-
-abbrev held_as : Bool → Bool → ℕ → Column
-held_as m fits n = record { fits = fits; number = cond fits (cond m (neg_ℤ (pos n)) (pos n)) (pos 0) }
+-- number n, after a minus or not, of a column that fits
+abbrev held_as : Bool → Bool → ℕ → Option ℤ
+held_as m fits n = cond fits (Some (cond m (neg_ℤ (pos n)) (pos n))) None
 
 -- a column of so many digits that are worth n
-abbrev digits_held : Bool → ℕ → ℕ → Column
+abbrev digits_held : Bool → ℕ → ℕ → Option ℤ
 digits_held m c n = held_as m (leb (least_of c) n && not (m && eqb n 0)) n
 
 -- a column of these digits, after a minus or not
-number_held : Bool → List ℕ → Column
+number_held : Bool → List ℕ → Option ℤ
 number_held m ds = let n = by_places ds in held_as m (digits_fit ds && not (m && eqb n 0)) n
 
 -- a scan that has met so many digits, and one that has met a minus only
@@ -47,14 +41,23 @@ in_digits m c n = record { seen = true; digits = c; negative = m; bad = false; w
 abbrev at_minus : Scan
 at_minus = record { seen = true; digits = 0; negative = true; bad = false; worth = 0 }
 
-bad_held : (s : Scan) → s.bad ≡ true → held_of s ≡ unfit
+-- a scan that holds a number has met it
+met : (s : Scan) (z : ℤ) → held_of s ≡ Some z → signed_worth s ≡ z
+unfolding held_of
+met s z = go (scan_fits s)
+  where
+    go : (t : Bool) → cond t (Some (signed_worth s)) None ≡ Some z → signed_worth s ≡ z
+    go true e = cc
+    go false e = cc
+
+bad_held : (s : Scan) → s.bad ≡ true → held_of s ≡ None
 unfolding held_of
 bad_held s h = rw h
 
-unfit_first : (m : Bool) (b : ℕ) (l : List ℕ) → is_digit b ≡ false → number_held m (b ∷ l) ≡ unfit
+none_first : (m : Bool) (b : ℕ) (l : List ℕ) → is_digit b ≡ false → number_held m (b ∷ l) ≡ None
 unfolding number_held digits_fit
-unfit_first m b [] h = rw h
-unfit_first m b (c ∷ l) h = rw h
+none_first m b [] h = rw h
+none_first m b (c ∷ l) h = rw h
 
 -- ---- So many digits that do not begin with 0 are worth so much at least, others less
 
@@ -93,7 +96,7 @@ module _ (b : ℕ) (l : List ℕ) (d : is_digit b ≡ true) (short : length l �
 
 -- where all are digits, what they are worth tells whether the first is 0
 told : (m : Bool) (b : ℕ) (l : List ℕ) → is_digit b ≡ true → length l ≤ 6 →
-    cond (every is_digit l) (digits_held m (suc (length l)) (place_value_at (length l) * (b - 48) + by_places l)) unfit
+    cond (every is_digit l) (digits_held m (suc (length l)) (place_value_at (length l) * (b - 48) + by_places l)) None
     ≡
     number_held m (b ∷ l)
 unfolding number_held by_places digits_fit every
@@ -112,7 +115,7 @@ told m b (c ∷ l) d h = go (every is_digit (c ∷ l)) refl
     zero_or_not e = first_tells b (c ∷ l) d h e ∙ rw (d, and_true (not (eqb b 48))) refl
 
     go : (t : Bool) → every is_digit (c ∷ l) ≡ t →
-        cond t (digits_held m (suc (length (c ∷ l))) n) unfit ≡
+        cond t (digits_held m (suc (length (c ∷ l))) n) None ≡
         held_as m ((is_digit b && (not (eqb b 48) && t)) && not (m && eqb n 0)) n
     go true e = ap (λ (t : Bool). held_as m (t && not (m && eqb n 0)) n) (zero_or_not e)
     go false e = simp (d, and-false)
@@ -123,7 +126,7 @@ module _ (signed : Bool) where
   bad_stays s [] h = h
   bad_stays s (b ∷ l) h = bad_stays (stepped signed (place_value_at (length l)) s b) l (rw h)
 
-  bad_ends : (s : Scan) (l : List ℕ) → s.bad ≡ true → held_of (scanned signed s l) ≡ unfit
+  bad_ends : (s : Scan) (l : List ℕ) → s.bad ≡ true → held_of (scanned signed s l) ≡ None
   bad_ends s l h = bad_held (scanned signed s l) (bad_stays s l h)
 
   digit_step : (p : ℕ) (s : Scan) (b : ℕ) → is_digit b ≡ true → s.bad ≡ false →
@@ -157,7 +160,7 @@ module _ (signed : Bool) where
 
   from_digits : (m : Bool) (c n : ℕ) (l : List ℕ) →
       held_of (scanned signed (in_digits m c n) l) ≡
-      cond (every is_digit l) (digits_held m (c + length l) (n + by_places l)) unfit
+      cond (every is_digit l) (digits_held m (c + length l) (n + by_places l)) None
   unfolding scanned held_of signed_worth every by_places
   from_digits m c n [] =
       let count : c + 0 ≡ c = omega arith in
@@ -170,15 +173,15 @@ module _ (signed : Bool) where
 
       go : (t : Bool) → is_digit b ≡ t →
           held_of (scanned signed (in_digits m (c + 1) (n + p * (b - 48))) l) ≡
-          cond (every is_digit l) (digits_held m (c + 1 + length l) ((n + p * (b - 48)) + by_places l)) unfit →
+          cond (every is_digit l) (digits_held m (c + 1 + length l) ((n + p * (b - 48)) + by_places l)) None →
           held_of (scanned signed (stepped signed p (in_digits m c n) b) l) ≡
-          cond (t && every is_digit l) (digits_held m (c + suc (length l)) (n + (p * (b - 48) + by_places l))) unfit
+          cond (t && every is_digit l) (digits_held m (c + suc (length l)) (n + (p * (b - 48) + by_places l))) None
       go true d below =
           let count : c + 1 + length l ≡ c + suc (length l) = omega arith in
           let same : (n + p * (b - 48)) + by_places l ≡ n + (p * (b - 48) + by_places l) = omega arith in
           ap (λ (s : Scan). held_of (scanned signed s l)) (digit_step p (in_digits m c n) b d refl)
           ∙ below
-          ∙ ap₂ (λ (i k : ℕ). cond (every is_digit l) (digits_held m i k) unfit) count same
+          ∙ ap₂ (λ (i k : ℕ). cond (every is_digit l) (digits_held m i k) None) count same
       go false d below = bad_ends (stepped signed p (in_digits m c n) b) l (astray p (in_digits m c n) b d refl)
 
   -- from the first digit on
@@ -188,7 +191,7 @@ module _ (signed : Bool) where
       let n = place_value_at (length l) * (b - 48) in
       let count : 1 + length l ≡ suc (length l) = omega arith in
       from_digits m 1 n l
-      ∙ ap (λ (c : ℕ). cond (every is_digit l) (digits_held m c (n + by_places l)) unfit) count
+      ∙ ap (λ (c : ℕ). cond (every is_digit l) (digits_held m c (n + by_places l)) None) count
       ∙ told m b l d short
 
   from_minus : (l : List ℕ) → length l ≤ 7 → held_of (scanned signed at_minus l) ≡ number_held true l
@@ -205,7 +208,7 @@ module _ (signed : Bool) where
           let same : 0 + p * (b - 48) ≡ p * (b - 48) = omega arith in
           ap (λ (s : Scan). held_of (scanned signed s l)) (digit_step p at_minus b d refl ∙ ap (in_digits true 1) same)
           ∙ first_digit true b l (omega arith) d
-      go false d = bad_ends (stepped signed p at_minus b) l (astray p at_minus b d refl) ∙ sym (unfit_first true b l d)
+      go false d = bad_ends (stepped signed p at_minus b) l (astray p at_minus b d refl) ∙ sym (none_first true b l d)
 
   -- a first byte that is no blank: a minus, a digit, or another
   first_byte : (b : ℕ) (l : List ℕ) → length l ≤ 6 → eqb b 32 ≡ false →
@@ -226,7 +229,7 @@ module _ (signed : Bool) where
           ap (λ (s : Scan). held_of (scanned signed s l)) (digit_step p start b d refl ∙ ap (in_digits false 1) same)
           ∙ first_digit false b l short d
       go false m false d =
-          bad_ends (stepped signed p start b) l (neither p b other m d) ∙ sym (unfit_first false b l d)
+          bad_ends (stepped signed p start b) l (neither p b other m d) ∙ sym (none_first false b l d)
 
   placed_holds : (l : List ℕ) → length l ≤ 7 →
       held_of (scanned signed start l) ≡
@@ -258,11 +261,5 @@ module _ (signed : Bool) where
   -- a column that fits: the scan has met its number
   pub scan_number : (l : List ℕ) → length l ≤ 7 → column_fits signed l ≡ true →
       signed_worth (scanned signed start l) ≡ column_number signed l
-  unfolding held_of column_held
   scan_number l short f =
-      let same = scan_holds l short in
-      let s = scanned signed start l in
-      let worth = s.worth in
-      let fits : (not s.bad && (leb (least_of s.digits) worth && not (s.negative && eqb worth 0))) ≡ true =
-      ap (λ (c : Column). c.fits) same ∙ f in
-      simp (fits, f) at (ap (λ (c : Column). c.number) same)
+      met (scanned signed start l) (column_number signed l) (scan_holds l short ∙ number_held_lem signed l f)

@@ -1,4 +1,4 @@
-// One column of a strict file, the rules' "A number is right-justified": whether it is formed so, and its number.
+// One column of a strict file, the rules' "A number is right-justified": its number, if it is formed so.
 #![tactic(auto)]
 
 ghost use Rattle.std.specs.Prelude.{◌≡◌, true, ◌+◌, ◌≤◌, ◌<◌, length};
@@ -7,13 +7,6 @@ ghost use Rattle.column.specs.Column.{column_held};
 ghost use Rattle.column.specs.Held.{least_of, signed_worth, held_of};
 
 use column_scan::{Scan, scan_from};
-
-// What a column holds: whether it is formed as a number, and the number (0 where it isn't).
-#[derive(Clone, Copy)]
-pub struct Column {
-    pub fits: bool,
-    pub number: i32,
-}
 
 // The least that so many digits are worth which write a number: 0 is one digit, others do not begin with 0. No scan is
 // worth what stands for no digits.
@@ -27,36 +20,32 @@ fn least_of(digits: usize) -> u32
 }
 
 // The number that a scan has met.
+#[tactic(auto, unfolding(crate::specs::Held::signed_worth))]
 fn signed_worth(s: Scan) -> i32
     requires { s.worth < 20000000 }
     ensures { result ≡ signed_worth s }
 {
     if s.negative {
-        return 0 - (s.worth as i32);
+        return -(s.worth as i32);
     }
     s.worth as i32
 }
 
-// What a column holds by its scan. A minus never stands before 0.
-fn held(s: Scan) -> Column
+// The number of a column by its scan; none where it is not formed as one. A minus never stands before 0.
+#[tactic(auto, unfolding(crate::specs::Held::held_of))]
+fn held(s: Scan) -> Option<i32>
     requires { (s.worth < 20000000) × (s.digits < 8) }
     ensures { result ≡ held_of s }
 {
     let least = least_of(s.digits as usize);
-    if !(!s.bad & ((least <= s.worth) & !(s.negative & (s.worth == 0)))) {
-        return Column {
-            fits: false,
-            number: 0,
-        };
+    if !s.bad & ((least <= s.worth) & !(s.negative & (s.worth == 0))) {
+        return Some(signed_worth(s));
     }
-    Column {
-        fits: true,
-        number: signed_worth(s),
-    }
+    None
 }
 
-// What a column of `width` bytes holds, the first of them at `at`.
-pub fn column_at(bytes: &[u8], at: usize, width: usize, signed: bool) -> Column
+// The number of a column of `width` bytes, the first of them at `at`; none where it is not formed as one.
+pub fn column_at(bytes: &[u8], at: usize, width: usize, signed: bool) -> Option<i32>
     requires { (width ≤ 7) × (at + width ≤ length bytes.now) }
     ensures { result ≡ column_held signed (columns bytes.now at width) }
 {

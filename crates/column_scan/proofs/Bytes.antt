@@ -48,6 +48,10 @@ unfolding byte_worth
 worth_small true b = omega arith
 worth_small false b = omega (arith, mod-lt b {m = 16} (omega arith))
 
+-- a byte is worth at most 15 at a place of at most 1,000,000
+pub worth_most : (m : Bool) (b p : ℕ) → p ≤ 1000000 → p * byte_worth m b ≤ 15000000
+worth_most m b p h = omega (arith, mul-le-mul h (worth_small m b))
+
 pub one_most : (t : Bool) → bool_byte t ≤ 1
 one_most true = omega arith
 one_most false = omega arith

@@ -31,16 +31,18 @@ fn place_value(i: usize) -> u32
 }
 
 // What a byte is worth as a digit: a blank and a minus nothing.
+#[tactic(auto, unfolding(crate::specs::Scan::byte_worth))]
 fn byte_worth(byte: u8, minus: bool) -> u32
     ensures { result ≡ byte_worth minus byte }
 {
     if minus {
         return 0;
     }
-    (byte % 16) as u32
+    u32::from(byte % 16)
 }
 
 // One byte more, of this place value.
+#[tactic(auto, using(crate::proofs::Bytes::worth_most), unfolding(crate::specs::Scan::stepped))]
 fn step(s: Scan, byte: u8, signed: bool, place: u32) -> Scan
     requires { (s.worth < 20000000) × (s.digits < 7) × (place ≤ 1000000) }
     ensures { result ≡ stepped signed place s byte }
@@ -51,7 +53,7 @@ fn step(s: Scan, byte: u8, signed: bool, place: u32) -> Scan
     let astray = !digit & (s.seen | !(blank | minus));
     Scan {
         seen: !blank,
-        digits: s.digits + digit as u32,
+        digits: s.digits + u32::from(digit),
         negative: s.negative | minus,
         bad: s.bad | astray,
         worth: s.worth + place * byte_worth(byte, minus),
@@ -71,11 +73,9 @@ pub fn scan_from(bytes: &[u8], at: usize, end: usize, signed: bool) -> Scan
         bad: false,
         worth: 0,
     };
-    let mut i = at;
-    while i < end {
+    for i in at..end {
         let place = place_value(end - 1 - i);
         s = step(s, bytes[i], signed, place);
-        i += 1;
     }
     s
 }

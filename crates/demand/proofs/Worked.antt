@@ -8,12 +8,13 @@ use Rattle.rules.specs.declared.Pair.{Pair}
 use Rattle.rules.specs.declared.Session.{Session}
 use Rattle.rules.specs.declared.Step.{Step}
 use Rattle.rules.specs.declared.Answer.{Answer}
-use Rattle.rules.specs.declared.Answer.TheVariants.{Refused, Opened, Read, Given, Finished}
+use Rattle.rules.specs.declared.Answer.TheVariants.{Opened, Read, Given, Finished}
 use Rattle.rules.specs.Tables.{Table, old_table, nat_of, Row, row, rows_qualify}
 use Rattle.rules.specs.Session.{weights, exact_query}
 use Rattle.rules.specs.Sure.{Sure, qualifying_sums}
 use Rattle.rules.specs.Calls.{open_call}
 use Rattle.rules.specs.Run.{run}
+use Rattle.rules.specs.Numbers.{refused}
 use Rattle.rules.proofs.Example as Example
 use Rattle.tables_join.specs.Sure.{is_sure, read_out_by, empty_by, ceiling_at, sure_is_test}
 use Rattle.demand.specs.Demand.{reading, taking, Line, Sequence, Qualifying, sum_of, outs, IsIn, Out, last_record}
@@ -95,7 +96,7 @@ second = record { sum = 110; field = 2; trim = 3 }
 -- what the sequence is: its answers, the pairs out, the depths
 abbrev twelve : List Answer
 twelve =
-    Read ∷ Read ∷ Read ∷ Read ∷ Read ∷ Given first ∷ Refused 4 ∷ Read ∷ Read ∷ Read ∷ Given second ∷ Finished ∷ []
+    Read ∷ Read ∷ Read ∷ Read ∷ Read ∷ Given first ∷ refused 4 ∷ Read ∷ Read ∷ Read ∷ Given second ∷ Finished ∷ []
 
 pub answers : map (λ l. l.gave.answer) lines ≡ twelve
 unfolding run

@@ -17,7 +17,7 @@ use Rattle.rules.specs.Tables.{Table, row_count, legal}
 use Rattle.rules.specs.Session.{settled, secured, a_table_is_empty}
 use Rattle.rules.specs.Read.{field_next, read_table, read_block}
 use Rattle.rules.specs.Take.{first_held, gives_pair_by, gives_pair, moved_out, finished}
-use Rattle.rules.specs.Numbers.{said}
+use Rattle.rules.specs.Numbers.{said, refusal_of}
 use Rattle.rules.specs.Calls.{call_code, new_block_code, step, read_call_by, read_call, take_call_by, take_call}
 use Rattle.rules.specs.Query.{given}
 use Rattle.session_laws.specs.Calls.{call_accepted, call_record, new_block_accepted, read_settled, read_goes}
@@ -42,7 +42,7 @@ module _ (f t : Table) (s : Session) where
   read_outcome = go (eqb (call_code f t s) 0) (settled f t s) (eqb (new_block_code f t s) 0) refl refl refl
     where
       refused_by : ℕ → Step
-      refused_by n = step (Refused n) s
+      refused_by n = step (Refused (refusal_of n)) s
 
       go : (x y z : Bool) → eqb (call_code f t s) 0 ≡ x → settled f t s ≡ y → eqb (new_block_code f t s) 0 ≡ z
           → Happened f t s reading
@@ -51,8 +51,8 @@ module _ (f t : Table) (s : Session) where
       go true true z a b c = settling refl (eqb-true (call_code f t s) 0 a) b refl
       go true false true a b c = going refl (eqb-true (call_code f t s) 0 a) b (eqb-true (new_block_code f t s) 0 c)
           refl
-      go true false false a b c = refused (new_block_code f t s) refl
-      go false y z a b c = refused (call_code f t s) refl
+      go true false false a b c = refused (refusal_of (new_block_code f t s)) refl
+      go false y z a b c = refused (refusal_of (call_code f t s)) refl
 
   take_outcome : Happened f t s taking (take_call f t s)
   unfolding take_call_by
@@ -63,11 +63,12 @@ module _ (f t : Table) (s : Session) where
 
       go : (x y z : Bool) → eqb (call_code f t s) 0 ≡ x → gives_pair f t s ≡ y → finished f t s ≡ z
           → Happened f t s taking
-          (cond x (cond y given (cond z (step Finished s) (step NotYet s))) (step (Refused (call_code f t s)) s))
+          (cond x (cond y given (cond z (step Finished s) (step NotYet s)))
+          (step (Refused (refusal_of (call_code f t s))) s))
       go true true z a b c = giving refl (eqb-true (call_code f t s) 0 a) b refl
       go true false true a b c = finishing refl (eqb-true (call_code f t s) 0 a) b c refl
       go true false false a b c = waiting refl (eqb-true (call_code f t s) 0 a) b c refl
-      go false y z a b c = refused (call_code f t s) refl
+      go false y z a b c = refused (refusal_of (call_code f t s)) refl
 
   outcome : (c : Call) → Happened f t s c (ruled c f t s)
   outcome reading = read_outcome
@@ -82,7 +83,7 @@ module _ (f t f₁ t₁ : Table) (s : Session) (c : Call) (g : Step)
       let k = same (ap (λ g. (said g.answer).accepted) e ∙ z) in subst₂ (λ f t. Happened f t s c g) k.0 k.1 o
 
   happened_here : Happened f₁ t₁ s c g → Happened f t s c g
-  happened_here (refused n e) = refused n e
+  happened_here (refused r e) = refused r e
   happened_here (settling a b d e) = accepted_here Settled s e refl (settling a b d e)
   happened_here (going a b d h e) = accepted_here Read (read_block f₁ t₁ s) e refl (going a b d h e)
   happened_here (giving a b d e) = accepted_here (Given (first_held s)) (moved_out s) e refl (giving a b d e)
@@ -102,7 +103,7 @@ module _ (f t : Table) (s : Session) (c : Call) (g : Step) where
       kept (ap (λ g. g.session) e) (ap (λ g. given g.answer) e ∙ b) (ap (λ g. reads_of g.answer) e ∙ r)
 
   pub changed : Happened f t s c g → Changed f t s g
-  changed (refused n e) = record_kept (Refused n) e refl refl
+  changed (refused r e) = record_kept (Refused r) e refl refl
   changed (settling a b d e) = record_kept Settled e refl refl
   changed (going a b d h e) = deeper d e
   changed (giving a b d e) = fewer d e

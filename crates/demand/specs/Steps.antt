@@ -2,6 +2,7 @@
 use Rattle.std.specs.Prelude.{ℕ, ◌≡◌, true, false, []}
 use Rattle.rules.specs.declared.Session.{Session}
 use Rattle.rules.specs.declared.Step.{Step}
+use Rattle.rules.specs.declared.Refusal.{Refusal}
 use Rattle.rules.specs.declared.Answer.{Answer}
 use Rattle.rules.specs.declared.Answer.TheVariants.{Refused, Opened, Read, Settled, Given, NotYet, Finished}
 use Rattle.rules.specs.Session.{settled}
@@ -14,7 +15,7 @@ use Rattle.rules.specs.Tables.{Table}
 
 -- the call c, given record s, gave g: refused it gave s back; else it was lent tables f and t, and did one of five
 pub data Happened (f t : Table) (s : Session) (c : Call) (g : Step) : Type 0 where
-  refused : (n : ℕ) → g ≡ step (Refused n) s → Happened f t s c g
+  refused : (r : Refusal) → g ≡ step (Refused r) s → Happened f t s c g
   settling : c ≡ reading → call_code f t s ≡ 0 → settled f t s ≡ true → g ≡ step Settled s → Happened f t s c g
   going : c ≡ reading → call_code f t s ≡ 0 → settled f t s ≡ false → new_block_code f t s ≡ 0
       → g ≡ step Read (read_block f t s) → Happened f t s c g
@@ -27,7 +28,7 @@ pub data Happened (f t : Table) (s : Session) (c : Call) (g : Step) : Type 0 whe
 
 -- 1 for a call that read a block
 abbrev pub reads_of : Answer → ℕ
-reads_of (Refused n) = 0
+reads_of (Refused r) = 0
 reads_of Opened = 0
 reads_of Read = 1
 reads_of Settled = 0

@@ -12,6 +12,7 @@ ghost use Rattle.depth_checks.specs.Grounds.{mark_of, depths_of};
 use rules::{Counts, Query};
 
 // A table's row count and depth: at most 65,535 rows, of which the depth is a number of whole blocks, or all.
+#[tactic(auto, unfolding(rules::specs::Calls::counts_fit))]
 pub fn counts_fit(block: u32, rows: u32, depth: u32) -> bool
     requires { 0 < block }
     ensures { result ≡ counts_fit block rows depth }
@@ -20,21 +21,18 @@ pub fn counts_fit(block: u32, rows: u32, depth: u32) -> bool
 }
 
 // The last-read mark, of the two depths.
+#[tactic(auto, unfolding(crate::specs::Grounds::mark_of))]
 pub fn mark_fits(last: u32, depth: Counts) -> bool
     ensures { result ≡ mark_of last depth }
 {
     let field = depth.field.0;
     let trim = depth.trim.0;
-    if last == 0 {
-        return (field == 0) & (trim == 0);
+    match last {
+        0 => (field == 0) & (trim == 0),
+        1 => 0 < field,
+        2 => 0 < trim,
+        _ => false,
     }
-    if last == 1 {
-        return 0 < field;
-    }
-    if last == 2 {
-        return 0 < trim;
-    }
-    false
 }
 
 // How many blocks the first rows are, a short last one included.
@@ -42,10 +40,11 @@ pub fn block_count(block: u32, depth: u32) -> u64
     requires { (0 < block) × (block ≤ 1024) × (depth ≤ most_rows) }
     ensures { (result ≡ block_count block depth) × (result ≤ most_rows) }
 {
-    ((depth + block - 1) / block) as u64
+    u64::from(depth.div_ceil(block))
 }
 
 // Of a query that nothing can meet, no row is read.
+#[tactic(auto, unfolding(crate::specs::Grounds::depths_of))]
 pub fn depths_fit(q: Query, card: u32, depth: Counts) -> bool
     requires { TolerancesFit q }
     ensures { result ≡ depths_of q card depth }

@@ -9,60 +9,27 @@ ghost use Rattle.rules.specs.Squares.{square_at};
 ghost use Rattle.tolerances.specs.Counted.{counted, Beyond};
 ghost use Rattle.distance.specs.Small.{Small};
 
-// How far apart two numbers lie.
-fn apart(x: i32, y: i32) -> u64
-    ensures { (result ≡ gap x y) × (result < 2 ^ 32) }
-{
-    let a = x as i64;
-    let b = y as i64;
-    if b <= a {
-        return (a - b) as u64;
-    }
-    (b - a) as u64
-}
-
 // How far apart two shades lie in coordinate k, from 0 on, squared.
+#[tactic(auto, unfolding(rules::specs::Squares::square_at, rules::specs::Tables::gap))]
 fn square_at(x: &[i32], y: &[i32], k: usize) -> u64
     requires { (k < length x.now) × (k < length y.now) }
     ensures { result ≡ square_at gap (pos 0) x.now y.now k }
 {
-    let gap = apart(x[k], y[k]);
+    let gap = u64::from(x[k].abs_diff(y[k]));
     gap * gap
 }
 
-// The sum, or the largest number where 64 bits cannot hold it.
-fn add_capped(a: u64, b: u64) -> u64
-    ensures { result ≡ min (a + b) (2 ^ 64 - 1) }
-{
-    if b <= 18446744073709551615 - a {
-        return a + b;
-    }
-    18446744073709551615
-}
-
 // The squared distance of two shades; of two that lie farther apart than 64 bits can say, the largest number they can.
+#[tactic(auto, using(crate::proofs::Square::next_square), unfolding(rules::specs::Tables::squares))]
 pub fn squared_distance(x: &[i32], y: &[i32]) -> u64
     requires { length x.now ≡ length y.now }
     ensures { result ≡ min (squared_distance x.now y.now) (2 ^ 64 - 1) }
 {
     let mut sum: u64 = 0;
-    let mut k: usize = 0;
-    while k < x.len() {
-        sum = add_capped(sum, square_at(x, y, k));
-        k += 1;
+    for k in 0..x.len() {
+        sum = sum.saturating_add(square_at(x, y, k));
     }
     sum
-}
-
-// How far apart two small numbers lie.
-fn apart_small(x: i32, y: i32) -> u32
-    requires { (mag x < 16384) × (mag y < 16384) }
-    ensures { (result ≡ gap x y) × (result < 32768) }
-{
-    if y <= x {
-        return (x - y) as u32;
-    }
-    (y - x) as u32
 }
 
 // How far apart two numbers count as, a small gap raised and then lowered, not below 0.
@@ -70,8 +37,7 @@ fn counted(more: u32, less: u32, gap: u32) -> u32
     requires { (more ≤ 1000) × (gap < 32768) }
     ensures { (result ≡ gap + more - less) × (result < 33768) }
 {
-    let most = gap + more;
-    if less <= most { most - less } else { 0 }
+    (gap + more).saturating_sub(less)
 }
 
 // How far apart two small shades count as in coordinate k, squared.
@@ -80,22 +46,21 @@ fn small_square_at(more: u32, less: u32, x: &[i32], y: &[i32], k: usize) -> u32
     ensures { (result ≡ square_at (counted more less) (pos 0) x.now y.now k)
         × (result ≤ 1140210289) }
 {
-    let gap = counted(more, less, apart_small(x[k], y[k]));
+    let gap = counted(more, less, x[k].abs_diff(y[k]));
     gap * gap
 }
 
 // Whether two small shades count as within the radius: 32 bits hold the squares of three coordinates, and no branch
 // stands in the loop.
+#[tactic(auto, using(crate::proofs::Square::next_square), unfolding(rules::specs::Tables::squares))]
 pub fn near_small(radius: u32, more: u32, less: u32, x: &[i32], y: &[i32]) -> bool
     requires small { Small x.now × Small y.now × (more ≤ 1000) }
     requires x_len { (length x.now ≡ length y.now) × (length x.now ≤ 3) × (radius ≤ 43000) }
     ensures { result ≡ leb (squares (counted more less) x.now y.now) (radius * radius) }
 {
     let mut sum: u32 = 0;
-    let mut k: usize = 0;
-    while k < x.len() {
-        sum = sum + small_square_at(more, less, x, y, k);
-        k += 1;
+    for k in 0..x.len() {
+        sum += small_square_at(more, less, x, y, k);
     }
     sum <= radius * radius
 }
@@ -117,11 +82,8 @@ pub fn beside(reach: u32, x: &[i32], y: &[i32]) -> bool
     ensures { result ≡ false → Beyond reach x.now y.now }
 {
     let mut all = true;
-    let mut k: usize = 0;
-    while k < x.len() {
-        let here = no_farther(reach, x[k], y[k]);
-        all = all & here;
-        k += 1;
+    for k in 0..x.len() {
+        all &= no_farther(reach, x[k], y[k]);
     }
     all
 }

@@ -9,20 +9,22 @@ ghost use Rattle.file.specs.Put.{row_put, RowsFit};
 
 use file_check::check;
 use row_columns::{column_bytes, row_bytes, row_number};
-use rules::Loaded;
+use rules::{Refusal, Unfit};
 
 // 11 comes last: a file that is refused for its rows is told so, however short the slice of `room` numbers. The rows
 // have n coordinates.
-fn and_room(n: u32, checked: Loaded, room: usize) -> Loaded
+#[tactic(auto, unfolding(rules::specs::File::and_slice))]
+fn and_room(n: u32, checked: Result<u32, Unfit>, room: usize) -> Result<u32, Unfit>
     ensures { result ≡ and_slice n room checked }
 {
-    let Loaded::Rows(count) = checked else {
-        return checked;
-    };
-    if room < tables::width(n) * (count as usize) {
-        return Loaded::Unfit(rules::SHORT_SLICE, 0);
+    let count = checked?;
+    if room < tables::width(n) * count as usize {
+        return Err(Unfit {
+            refusal: Refusal::ShortSlice,
+            row: 0,
+        });
     }
-    checked
+    Ok(count)
 }
 
 fn put_row_at(n: u32, bytes: &[u8], o: usize, out: &mut [i32], p: usize)
@@ -30,13 +32,10 @@ fn put_row_at(n: u32, bytes: &[u8], o: usize, out: &mut [i32], p: usize)
     requires row_bytes_fit { RowBytesFit n bytes.now o }
     ensures { out.new ≡ row_put n bytes.now o p out.old }
 {
-    let width = tables::width(n);
     let mut at = o;
-    let mut j: usize = 0;
-    while j < width {
+    for j in 0..tables::width(n) {
         out[p + j] = row_number(bytes, at, j);
         at += column_bytes(j);
-        j += 1;
     }
 }
 
@@ -47,14 +46,10 @@ fn put_row(n: u32, bytes: &[u8], o: usize, out: &mut [i32], p: usize)
     requires row_bytes_fit { RowBytesFit n bytes.now o }
     ensures { out.new ≡ row_put n bytes.now o p out.old }
 {
-    if n == 2 {
-        put_row_at(2, bytes, o, out, p);
-    } else {
-        if n == 3 {
-            put_row_at(3, bytes, o, out, p);
-        } else {
-            put_row_at(n, bytes, o, out, p);
-        }
+    match n {
+        2 => put_row_at(2, bytes, o, out, p),
+        3 => put_row_at(3, bytes, o, out, p),
+        _ => put_row_at(n, bytes, o, out, p),
     }
 }
 
@@ -68,23 +63,18 @@ fn put_rows(n: u32, bytes: &[u8], count: usize, out: &mut [i32])
 {
     let size = row_bytes(n);
     let width = tables::width(n);
-    let mut i: usize = 0;
-    while i < count {
+    for i in 0..count {
         put_row(n, bytes, rules::HEADER_BYTES + size * i, out, width * i);
-        i += 1;
     }
 }
 
 // A file's rows read into the front of `out`. A refused file changes no number of it.
-pub fn load(bytes: &[u8], kind: i32, out: &mut [i32]) -> Loaded
+pub fn load(bytes: &[u8], kind: i32, out: &mut [i32]) -> Result<u32, Unfit>
     ensures value { result ≡ load_answer bytes.now kind out.old }
     ensures out_after { out.new ≡ load_numbers bytes.now kind out.old }
 {
     let n = file_header::kind_coordinates(kind);
-    let answer = and_room(n, check(bytes, kind), out.len());
-    let Loaded::Rows(count) = answer else {
-        return answer;
-    };
+    let count = and_room(n, check(bytes, kind), out.len())?;
     put_rows(n, bytes, count as usize, out);
-    answer
+    Ok(count)
 }

@@ -1,60 +1,89 @@
 -- What is read of the header: the checks of it are the rules', and its count is the file's. Assumes nothing.
-use mathlib.Core.Path.{◌≡◌, refl, ap, ◌∙◌}
-use mathlib.Core.Bool.{Bool, true, false, ◌&&◌}
-use mathlib.Core.List.{List}
-use Prim.Native.Nat.{ℕ, ◌≤◌}
-use lib.Dec.{leb}
-use lib.IntN.{ℤ}
-use lib.ListN.{length}
-use borrow.Author.Tests.{le-leb}
-use Rattle.rules.specs.Tables.{nat_of}
+use Rattle.std.proofs.Common.{◌≡◌, refl, sym, ap, ◌∙◌, Bool, true, false, cond, ◌&&◌, List, [], ◌∷◌, ℕ, ◌≤◌, ◌<◌}
+use Rattle.std.proofs.Common.{length}
+use Rattle.std.proofs.Common.{leb, eqb, ℤ, Some, None, le-leb}
+use Rattle.std.proofs.Math.Bool.{and-false}
+use Rattle.std.proofs.lemmas.Bool.{lt-leb}
+use Rattle.rules.specs.Numbers.{cut_file, bad_column, wrong_kind, table_size, unless, first}
+use Rattle.rules.specs.Tables.{most_rows, nat_of}
+use Rattle.rules.specs.Calls.{between}
 use Rattle.rules.specs.File.{columns, header_bytes, ends_line, header_fits, file_count, file_kind, kind_fits, head_code}
-use Rattle.file_laws.specs.Parts.{header_parts}
-use Rattle.file_laws.specs.Accepted.{HeadPassed}
-use Rattle.column.specs.declared.Column.{Column}
-use Rattle.column.specs.Column.{column_held, number_held_lem}
+use Rattle.rules.specs.File.{row_start, wanted}
+use Rattle.file_laws.specs.Kinds.{row_short}
+use Rattle.column.specs.Column.{column_held, held_some, held_none}
+use Rattle.codes.specs.Steps.{passed, stopped}
 use Rattle.file_header.specs.declared.Header.{Header}
-use Rattle.file_header.specs.Held.{whole_header, header_held, held_head_code}
+use Rattle.file_header.specs.Held.{header_read, header_held}
 
 module _ (bytes : List ℕ) where
-  held_whole : header_bytes ≤ length bytes → header_held bytes ≡ whole_header bytes
+  -- a header of which one column is formed otherwise, or its end
+  pub count_none : column_held false (columns bytes 0 6) ≡ None → None ≡ header_held bytes
+  unfolding header_held header_fits
+  count_none h = rw (held_none false (columns bytes 0 6) h)
+
+  pub kind_none : column_held false (columns bytes 6 6) ≡ None → None ≡ header_held bytes
+  unfolding header_held header_fits
+  kind_none h = simp (held_none false (columns bytes 6 6) h, and-false)
+
+  pub end_none : ends_line bytes 12 ≡ false → None ≡ header_held bytes
+  unfolding header_held header_fits
+  end_none h = simp (h, and-false)
+
+  -- its numbers, put together
+  pub header_some : (n k : ℤ) → column_held false (columns bytes 0 6) ≡ Some n
+      → column_held false (columns bytes 6 6) ≡ Some k → ends_line bytes 12 ≡ true
+      → Some (record { count = nat_of n; kind = nat_of k }) ≡ header_held bytes
+  unfolding header_held header_fits file_count file_kind
+  header_some n k en ek e =
+      let c = held_some false (columns bytes 0 6) n en in
+      let d = held_some false (columns bytes 6 6) k ek in
+      simp (c.0, c.1, d.0, d.1, e)
+
+  read_is : (h : Header) → header_held bytes ≡ Some h → (header_fits bytes ≡ true) × (header_read bytes ≡ h)
   unfolding header_held
-  held_whole h = rw (le-leb header_bytes (length bytes) h)
-
-  -- what its columns hold, put together
-  pub header_is : (c k : Column) → header_bytes ≤ length bytes →
-      c ≡ column_held false (columns bytes 0 6) → k ≡ column_held false (columns bytes 6 6) →
-      record {
-        fits = c.fits && (k.fits && ends_line bytes 12);
-        count = nat_of c.number;
-        kind = nat_of k.number;
-      } ≡ header_held bytes
-  unfolding header_fits column_held
-  header_is c k h ec ek = rw (held_whole h)
-      (λ i. record {
-        fits = (ec i).fits && ((ek i).fits && ends_line bytes 12);
-        count = nat_of (ec i).number;
-        kind = nat_of (ek i).number;
-      })
-
-  -- of a header that fits
-  count_whole : header_fits bytes ≡ true → (whole_header bytes).count ≡ file_count bytes
-  unfolding file_count
-  count_whole f = ap nat_of (number_held_lem false (columns bytes 0 6) (header_parts bytes f).count)
-
-  kind_whole : header_fits bytes ≡ true → (whole_header bytes).kind ≡ file_kind bytes
-  unfolding file_kind
-  kind_whole f = ap nat_of (number_held_lem false (columns bytes 6 6) (header_parts bytes f).kind)
-
-  pub count_held : (kind : ℤ) → HeadPassed bytes kind → (header_held bytes).count ≡ file_count bytes
-  count_held kind h = ap (λ (x : Header). x.count) (held_whole h.whole) ∙ count_whole h.fits
-
-  pub head_is : (kind : ℤ) → held_head_code (header_held bytes) (length bytes) kind ≡ head_code bytes kind
-  unfolding held_head_code head_code header_held kind_fits
-  head_is kind = go (leb header_bytes (length bytes)) refl (header_fits bytes) refl
+  read_is h = go (header_fits bytes)
     where
-      go : (w : Bool) → leb header_bytes (length bytes) ≡ w → (f : Bool) → header_fits bytes ≡ f →
-          held_head_code (header_held bytes) (length bytes) kind ≡ head_code bytes kind
-      go false w f e = simp w
-      go true w false e = simp (w, e)
-      go true w true e = simp (w, e, count_whole e, kind_whole e)
+      go : (t : Bool) → cond t (Some (header_read bytes)) None ≡ Some h → (t ≡ true) × (header_read bytes ≡ h)
+      go true e = (refl, cc)
+      go false e = cc
+
+  unread : header_held bytes ≡ None → header_fits bytes ≡ false
+  unfolding header_held
+  unread = go (header_fits bytes)
+    where
+      go : (t : Bool) → cond t (Some (header_read bytes)) None ≡ None → t ≡ false
+      go true e = cc
+      go false e = refl
+
+  pub count_is : (h : Header) → header_held bytes ≡ Some h → h.count ≡ file_count bytes
+  count_is h e = sym (ap (λ (x : Header). x.count) (read_is h e).1)
+
+  -- the checks of what was read, or of what could not be
+  module _ (kind : ℤ) where
+    pub cut_code : length bytes < header_bytes → cut_file ≡ head_code bytes kind
+    unfolding head_code
+    cut_code h = rw (lt-leb header_bytes (length bytes) h)
+
+    pub unread_code : header_bytes ≤ length bytes → header_held bytes ≡ None → bad_column ≡ head_code bytes kind
+    unfolding head_code
+    unread_code w h = rw (le-leb header_bytes (length bytes) w, unread h)
+
+    abbrev checks : Header → ℕ
+    checks x =
+        first
+        (unless (between 1 4 (nat_of kind) && eqb x.kind (nat_of kind)) wrong_kind
+        ∷ unless (leb x.count most_rows) table_size
+        ∷ unless (eqb (length bytes) (row_start (wanted kind) x.count)) cut_file
+        ∷ [])
+
+    pub read_code : (h : Header) → header_bytes ≤ length bytes → header_held bytes ≡ Some h
+        → checks h ≡ head_code bytes kind
+    unfolding head_code kind_fits
+    read_code h w e =
+        let r = read_is h e in
+        sym (ap checks r.1) ∙ rw (le-leb header_bytes (length bytes) w, r.0)
+
+-- the steps of reading it, and of checking it
+pub ruleset read_steps = (count_none, kind_none, end_none, header_some)
+
+pub ruleset check_steps = (passed, stopped, cut_code, unread_code, read_code, count_is, row_short)

@@ -1,23 +1,18 @@
 -- What a file that is not refused for its header, and what an accepted file has passed. Assumes nothing.
-use Rattle.std.specs.Prelude.{◌≡◌, Bool, List, [], ◌∷◌, leb, ℤ, length, get_or}
+use Rattle.std.specs.Prelude.{◌≡◌, Bool, List, [], ◌∷◌, leb, ℤ, length, get_or, Ok, Err}
 use Rattle.std.proofs.Math.Path.{refl, ap}
 use Rattle.std.proofs.Common.{sym, ◌∙◌, arith}
 use Rattle.std.proofs.Math.Bool.{true, false, cond}
 use Prim.Native.Nat.{ℕ, zero, suc, ◌+◌, ◌≤◌, ◌<◌}
 use Rattle.std.proofs.Math.Dec.{ltb, eqb}
 use borrow.Author.Tests.{leb-true, ltb-true, ltb-false, eqb-true}
-use Rattle.rules.specs.declared.Loaded.{Loaded}
-use Rattle.rules.specs.declared.Loaded.TheVariants.{Rows, Unfit}
 use Rattle.rules.specs.Tables.{Table, most_rows, row_in_range, row_in_order}
 use Rattle.rules.specs.Numbers.{table_size, row_limit, row_order, cut_file, bad_column, wrong_kind, unless}
+use Rattle.rules.specs.Numbers.{Loaded, unfit}
 use Rattle.rules.specs.Calls.{row_code}
 use Rattle.rules.specs.File.{header_bytes, header_fits, file_count, kind_fits, wanted, row_start, head_code, check_file}
 use Rattle.rules.specs.File.{row_columns_fit, file_table, file_row_code, and_row, rows_loaded}
 use Rattle.rules.specs.Checks.{unless_out, first_out}
-
--- no refusal is a row count
-pub unfit_rows : {X : Type 0} (code row n : ℕ) → Unfit code row ≡ Rows n → X
-unfit_rows code row n h = let z : ◌≡◌ {A = ℕ} 0 1 = cc in absurd (omega arith)
 
 -- ---- The header
 
@@ -84,24 +79,24 @@ module _ (bytes : List ℕ) (t : Table) where
   record Next (n m : ℕ) (x : Loaded) : Type 0 where
     pub code : file_row_code bytes t n ≡ 0
     pub count : m ≡ n + 1
-    pub before : (k : ℕ) × (x ≡ Rows k)
+    pub before : (k : ℕ) × (x ≡ Ok k)
 
-  next_passed : (n m : ℕ) (x : Loaded) → and_row bytes t n x ≡ Rows m → Next n m x
+  next_passed : (n m : ℕ) (x : Loaded) → and_row bytes t n x ≡ Ok m → Next n m x
   unfolding and_row
-  next_passed n m (Unfit code row) h = unfit_rows code row m h
-  next_passed n m (Rows k) h = go (eqb (file_row_code bytes t n) 0) refl h
+  next_passed n m (Err e) h = cc
+  next_passed n m (Ok k) h = go (eqb (file_row_code bytes t n) 0) refl h
     where
       go : (e : Bool) → eqb (file_row_code bytes t n) 0 ≡ e →
-          cond e (Rows (n + 1)) (Unfit (file_row_code bytes t n) (n + 1)) ≡ Rows m → Next n m (Rows k)
+          cond e (Ok (n + 1)) (unfit (file_row_code bytes t n) (n + 1)) ≡ Ok m → Next n m (Ok k)
       go true e g = record { code = eqb-true (file_row_code bytes t n) 0 e; count = cc; before = (k, refl) }
-      go false e g = unfit_rows (file_row_code bytes t n) (n + 1) m g
+      go false e g = cc
 
-  pub rows_counted : (n m : ℕ) → rows_loaded bytes t n ≡ Rows m → m ≡ n
+  pub rows_counted : (n m : ℕ) → rows_loaded bytes t n ≡ Ok m → m ≡ n
   unfolding rows_loaded
   rows_counted zero m h = cc
   rows_counted (suc n) m h = let p = next_passed n m (rows_loaded bytes t n) h in omega (arith, p.count)
 
-  pub rows_passed : (n m : ℕ) → rows_loaded bytes t n ≡ Rows m → (i : ℕ) → i < n → file_row_code bytes t i ≡ 0
+  pub rows_passed : (n m : ℕ) → rows_loaded bytes t n ≡ Ok m → (i : ℕ) → i < n → file_row_code bytes t i ≡ 0
   unfolding rows_loaded
   rows_passed zero m h i l = absurd (omega arith)
   rows_passed (suc n) m h i l =
@@ -124,15 +119,15 @@ pub record FileAccepted (bytes : List ℕ) (kind : ℤ) (n : ℕ) : Type 0 where
   pub size : length bytes ≡ row_start (wanted kind) n
   pub rows : (i : ℕ) → i < n → RowPassed bytes (file_table (wanted kind) bytes n) i
 
-pub accepted : (bytes : List ℕ) (kind : ℤ) (n : ℕ) → check_file bytes kind ≡ Rows n → FileAccepted bytes kind n
+pub accepted : (bytes : List ℕ) (kind : ℤ) (n : ℕ) → check_file bytes kind ≡ Ok n → FileAccepted bytes kind n
 unfolding check_file
 accepted bytes kind n h = go (eqb (head_code bytes kind) 0) refl h
   where
     go : (b : Bool) → eqb (head_code bytes kind) 0 ≡ b →
         cond b (rows_loaded bytes (file_table (wanted kind) bytes (file_count bytes)) (file_count bytes))
-        (Unfit (head_code bytes kind) 0) ≡ Rows n →
+        (unfit (head_code bytes kind) 0) ≡ Ok n →
         FileAccepted bytes kind n
-    go false e g = unfit_rows (head_code bytes kind) 0 n g
+    go false e g = cc
     go true e g =
         let m = file_count bytes in
         let t = file_table (wanted kind) bytes m in

@@ -5,7 +5,8 @@ use Rattle.lists.specs.Bools.{and_left}
 use Rattle.rules.specs.declared.Card.TheVariants.{Old, New}
 use Rattle.rules.specs.Tables.{nat_of, coordinates, kind_card, kind_coordinates}
 use Rattle.rules.specs.Calls.{between}
-use Rattle.rules.specs.File.{file_kind, kind_fits, wanted}
+use Rattle.rules.specs.File.{file_kind, kind_fits, wanted, row_bytes}
+use Rattle.file_laws.specs.Columns.{row_most}
 
 card_most : (t : Bool) → coordinates (cond t Old New) ≤ 3
 card_most true = omega arith
@@ -32,3 +33,7 @@ pub fits_least : (bytes : List ℕ) (kind : ℤ) → kind_fits bytes kind ≡ tr
 unfolding kind_fits
 fits_least bytes kind h =
     kind_least (nat_of kind) (and_left (between 1 4 (nat_of kind)) (eqb (file_kind bytes) (nat_of kind)) h)
+
+-- the rows of no kind are long
+pub row_short : (kind : ℕ) → row_bytes (kind_coordinates kind) ≤ 36
+row_short kind = omega (arith, row_most (kind_coordinates kind), kind_most kind)

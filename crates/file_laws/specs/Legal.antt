@@ -1,11 +1,10 @@
 -- An accepted file's rows are legal; a file is accepted for at most one kind; the check alone and the
 -- reading with a long enough slice agree. Assumes nothing.
 use Rattle.std.specs.Prelude.{◌≡◌, refl, Bool, true, false, ◌&&◌, List, ℕ, zero, suc, ◌+◌, ◌*◌, ◌%◌, ◌≤◌, ◌<◌, leb, ltb}
-use Rattle.std.specs.Prelude.{eqb, ℤ, pos, negsuc, length}
+use Rattle.std.specs.Prelude.{eqb, ℤ, pos, negsuc, length, Ok, Err}
 use Rattle.std.proofs.Common.{sym, ap, ◌∙◌, arith, le-leb, le-ltb, leb-true, eqb-true}
 use Rattle.lists.specs.Lists.{every, range}
-use Rattle.rules.specs.declared.Loaded.{Loaded}
-use Rattle.rules.specs.declared.Loaded.TheVariants.{Rows, Unfit}
+use Rattle.rules.specs.Numbers.{Loaded}
 use Rattle.rules.specs.Tables.{table, most_rows, nat_of, row_in_range, row_in_order, size_fits, legal, width, HasRows}
 use Rattle.rules.specs.Tables.{row_count}
 use Rattle.rules.specs.Widths.{rows_count, no_rest}
@@ -25,7 +24,7 @@ every_range test a (suc n) h =
     (every_range test (suc a) n (λ i k l. h i (omega arith) (omega arith)))
 
 -- an accepted file's rows are legal
-pub accepted_legal : (bytes : List ℕ) (kind : ℤ) (n : ℕ) → check_file bytes kind ≡ Rows n →
+pub accepted_legal : (bytes : List ℕ) (kind : ℤ) (n : ℕ) → check_file bytes kind ≡ Ok n →
     legal (file_table (wanted kind) bytes n) ≡ true
 unfolding legal size_fits file_table
 accepted_legal bytes kind n h =
@@ -42,7 +41,7 @@ accepted_legal bytes kind n h =
     simp (rows, whole, each_row, le-leb n most_rows f.few)
 
 -- a file is accepted for at most one kind
-pub one_kind : (bytes : List ℕ) (j k : ℤ) (n m : ℕ) → check_file bytes j ≡ Rows n → check_file bytes k ≡ Rows m → j ≡ k
+pub one_kind : (bytes : List ℕ) (j k : ℤ) (n m : ℕ) → check_file bytes j ≡ Ok n → check_file bytes k ≡ Ok m → j ≡ k
 unfolding kind_fits
 one_kind bytes j k n m h l =
     same j k (found j (accepted bytes j n h).head.kind_fits_lem) (found k (accepted bytes k m l).head.kind_fits_lem)
@@ -70,8 +69,8 @@ check_and_load bytes kind lent h = go (check_file bytes kind) refl
   where
     go : (x : Loaded) → check_file bytes kind ≡ x →
         and_slice (wanted kind) (length lent) (check_file bytes kind) ≡ check_file bytes kind
-    go (Unfit code row) e = ap (and_slice (wanted kind) (length lent)) e ∙ sym e
-    go (Rows n) e =
+    go (Err u) e = ap (and_slice (wanted kind) (length lent)) e ∙ sym e
+    go (Ok n) e =
         let f = accepted bytes kind n e in
         let w = width (wanted kind) in
         let same : w * file_count bytes ≡ w * n = ap (◌*◌ w) f.count in

@@ -1,13 +1,12 @@
 -- Two different accepted files of the same kind give different rows. Assumes nothing.
 use Rattle.std.specs.Prelude.{◌≡◌, refl, Bool, true, false, cond, List, [], ◌∷◌, ◌++◌, eqb, ℤ, pos, neg_ℤ, length}
-use Rattle.std.specs.Prelude.{get_or}
+use Rattle.std.specs.Prelude.{get_or, Ok}
 use Rattle.std.proofs.Common.{sym, ap₂, ◌∙◌, add-zero, take-append-drop, length-drop, drop_of_length-le, drop-drop}
 use Rattle.std.proofs.Common.{drop-cons, length-take-le, eqb-true}
 use Rattle.std.proofs.Math.Path.{ap}
 use Prim.Native.Nat.{ℕ, zero, suc, ◌+◌, ◌≤◌, ◌<◌}
 use native.Mathlib.Omega.{arith}
 use Rattle.std.proofs.Math.ListN.{drop}
-use Rattle.rules.specs.declared.Loaded.TheVariants.{Rows}
 use Rattle.rules.specs.Tables.{Table, nat_of, num, row_count, width}
 use Rattle.rules.specs.Widths.{rows_count, next_row}
 use Rattle.rules.specs.Calls.{between}
@@ -118,7 +117,7 @@ unsigned l = go (after_blanks l) (digits_from 0 (digits_of false l))
     go (b ∷ m) n = refl
 
 -- two accepted files of the same kind that give the same rows are the same bytes
-pub one_file : (l k : List ℕ) (kind : ℤ) (m p : ℕ) → check_file l kind ≡ Rows m → check_file k kind ≡ Rows p →
+pub one_file : (l k : List ℕ) (kind : ℤ) (m p : ℕ) → check_file l kind ≡ Ok m → check_file k kind ≡ Ok p →
     file_table (wanted kind) l m ≡ file_table (wanted kind) k p → l ≡ k
 unfolding file_count file_kind kind_fits file_table
 one_file l k kind m p h g t =

@@ -1,72 +1,80 @@
-// A row of a strict file: read, and the checks of what was read.
+// A row of a strict file: its columns, read, and the checks of what was read.
 #![tactic(auto)]
 
-ghost use Rattle.std.specs.Prelude.{◌≡◌, ◌+◌, ◌≤◌, length};
+ghost use Rattle.std.specs.Prelude.{◌≡◌, ◌+◌, ◌≤◌, ℤ, length};
 ghost use Rattle.rules.specs.Tables.{width};
-ghost use Rattle.rules.specs.File.{column_start, row_bytes};
-ghost use Rattle.file_row.specs.Held.{front_held, row_held, held_row_code};
+ghost use Rattle.rules.specs.Numbers.{code};
+ghost use Rattle.rules.specs.File.{column_start, row_bytes, number_at};
+ghost use Rattle.file_row.specs.Held.{follows, columns_row, held_row_code};
 
-use codes::{first, unless};
+use codes::unless;
 use column::column_at;
-use row_ranges::coordinate_fits;
+use row_ranges::{coordinate_fits, in_range};
+use rules::Refusal;
 
-// A row's score, whether its columns and LF are formed as they must be, and whether its numbers keep their ranges.
+// What is read of a row whose columns are formed as they must be: whether its numbers keep their ranges, its score, and
+// where its columns end. A flag and no `Result`: 6 comes after 9 of the whole row, which its LF is looked at for too.
 #[derive(Clone, Copy)]
-pub struct Row {
-    pub fits: bool,
-    pub inside: bool,
-    pub score: i32,
+struct Row {
+    inside: bool,
+    score: i32,
+    end: usize,
 }
 
-// The columns that rows of every card have, of a row that begins at `o`: pattern number, score, a and b. No LF yet.
-fn read_front(bytes: &[u8], o: usize) -> Row
+// The columns that rows of every card have, of a row that begins at `o`: pattern number, score, a and b.
+#[tactic(auto, unfolding(rules::specs::File::column_start))]
+fn read_front(bytes: &[u8], o: usize) -> Option<Row>
     requires { o + column_start (width 2) ≤ length bytes.now }
-    ensures { result ≡ front_held bytes.now o }
+    ensures { result ≡ columns_row 2 bytes.now o }
 {
-    let pattern = column_at(bytes, o, 6, false);
-    let score = column_at(bytes, o + 6, 6, false);
-    let a = column_at(bytes, o + 12, 7, true);
-    let b = column_at(bytes, o + 19, 7, true);
-    let inside = row_ranges::in_range(pattern.number, score.number);
-    let shade = coordinate_fits(0, a.number) & coordinate_fits(1, b.number);
-    Row {
-        fits: pattern.fits & (score.fits & (a.fits & b.fits)),
-        inside: inside & shade,
-        score: score.number,
-    }
+    let pattern = column_at(bytes, o, 6, false)?;
+    let score = column_at(bytes, o + 6, 6, false)?;
+    let a = column_at(bytes, o + 12, 7, true)?;
+    let b = column_at(bytes, o + 19, 7, true)?;
+    let shade = coordinate_fits(0, a) & coordinate_fits(1, b);
+    Some(Row {
+        inside: in_range(pattern, score) & shade,
+        score,
+        end: o + 26,
+    })
 }
 
-// The row of n coordinates that begins at `o`: the columns behind b hold one coordinate each.
-pub fn read_row(n: u32, bytes: &[u8], o: usize) -> Row
+// The columns of a row of n coordinates: those behind b hold one coordinate each.
+#[tactic(auto, using(crate::proofs::Rows::read_steps))]
+fn read_row(n: u32, bytes: &[u8], o: usize) -> Option<Row>
     requires { (2 ≤ n) × (o + row_bytes n ≤ length bytes.now) }
-    ensures { result ≡ row_held n bytes.now o }
+    ensures { result ≡ columns_row n bytes.now o }
 {
-    let front = read_front(bytes, o);
-    let mut fits = front.fits;
-    let mut inside = front.inside;
-    let mut at = o + 26;
-    let mut k: u32 = 2;
-    while k < n {
-        let column = column_at(bytes, at, 6, false);
-        let here = coordinate_fits(k as usize, column.number);
-        fits = fits & column.fits;
-        inside = inside & here;
-        at += 6;
-        k += 1;
+    let mut row = read_front(bytes, o)?;
+    for k in 2..n {
+        let x = column_at(bytes, row.end, 6, false)?;
+        row.inside &= coordinate_fits(k as usize, x);
+        row.end += 6;
     }
-    Row {
-        fits: fits & (bytes[at] == b'\n'),
-        inside: inside,
-        score: front.score,
+    Some(row)
+}
+
+// Whether a score is at most the one before, if there is one.
+fn follows(before: Option<i32>, score: i32) -> bool
+    ensures { result ≡ follows before score }
+{
+    match before {
+        Some(last) => score <= last,
+        None => true,
     }
 }
 
-// What a row is refused by, 9, 6, 7 in this order; 0 where it is not. `before` is the score of the row before.
-pub fn row_code(row: Row, initial: bool, before: i32) -> u32
-    ensures { result ≡ held_row_code row initial before }
+// The score of the row of n coordinates that begins at `o`, or what the row is refused by: 9, 6, 7 in this order.
+// `before` is the score of the row before, if there is one.
+#[tactic(auto, using(crate::proofs::Rows::check_steps))]
+pub fn check_row(n: u32, bytes: &[u8], o: usize, before: Option<i32>) -> Result<i32, Refusal>
+    requires { (2 ≤ n) × (o + row_bytes n ≤ length bytes.now) }
+    ensures number { code result ≡ held_row_code n bytes.now o before }
+    ensures score { (score : ℤ) → result ≡ Ok score → score ≡ number_at bytes.now o 1 }
 {
-    let columns = unless(row.fits, rules::BAD_COLUMN);
-    let limit = unless(row.inside, rules::ROW_LIMIT);
-    let order = unless(initial | (row.score <= before), rules::ROW_ORDER);
-    first(columns, first(limit, order))
+    let row = read_row(n, bytes, o).ok_or(Refusal::BadColumn)?;
+    unless(bytes[row.end] == b'\n', Refusal::BadColumn)?;
+    unless(row.inside, Refusal::RowLimit)?;
+    unless(follows(before, row.score), Refusal::RowOrder)?;
+    Ok(row.score)
 }

@@ -10,6 +10,7 @@ use Rattle.rules.specs.Tables.{Table, field_table, trim_table}
 use Rattle.rules.specs.Session.{lent_table}
 use Rattle.rules.specs.Take.{last_block}
 use Rattle.rules.specs.Calls.{step, lent_code, open_call, read_call, take_call}
+use Rattle.rules.specs.Numbers.{refused}
 use Rattle.record_layout.specs.Flat.{query_size, pair_size, flat_size, laid_at, laid_in, query_in, kinds_in, unflatten}
 
 -- a slice that is too short for what it is lent for
@@ -18,7 +19,7 @@ too_short least l = ltb (length l) least
 
 -- 11 for such a slice comes first, because no record can be seen then
 abbrev pub or_short : Bool → Step → Step
-or_short short s = cond short (step (Refused short_slice) s.session) s
+or_short short s = cond short (step (refused short_slice) s.session) s
 
 -- the answers that come with another record than the one lent
 abbrev pub is_new : Answer → Bool
@@ -94,7 +95,7 @@ shown_numbers f t s =
 unfoldable pub show_said : List ℤ → List ℤ → List ℕ → List ℕ → Said
 show_said f t l p =
     let s = unflatten l in
-    cond (too_short flat_size l || too_short pair_size p) (said (Refused short_slice))
+    cond (too_short flat_size l || too_short pair_size p) (said (refused short_slice))
     (record { accepted = true; number = 0; values = shown_numbers (lent_table s f) (lent_table s t) s })
 
 unfoldable pub show_number : List ℤ → List ℤ → List ℕ → List ℕ → ℤ

@@ -19,10 +19,8 @@ pub fn start(query: &[u32], f: &[i32], t: &[i32], lent: &mut [u32]) -> i32
     let q = query_taken::query_in(query);
     let kinds = query_taken::kinds_in(query);
     let step = opening::start(q, kinds, f, t);
-    let answer = step.answer;
-    if let Answer::Opened = answer {
-        let s = step.session;
-        record_packed::pack(s, lent);
+    if let Answer::Opened = step.answer {
+        record_packed::pack(step.session, lent);
     }
-    answers::told(answer)
+    answers::told(step.answer)
 }

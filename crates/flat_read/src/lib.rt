@@ -18,10 +18,8 @@ pub fn read(f: &[i32], t: &[i32], lent: &mut [u32]) -> i32
     }
     let s = record_taken::unpack(lent);
     let step = reading::read(f, t, s);
-    let answer = step.answer;
-    if let Answer::Read = answer {
-        let after = step.session;
-        record_packed::pack(after, lent);
+    if let Answer::Read = step.answer {
+        record_packed::pack(step.session, lent);
     }
-    answers::told(answer)
+    answers::told(step.answer)
 }

@@ -26,20 +26,15 @@ fn put_shown(f: &[i32], t: &[i32], s: Session, place: &mut [u32])
         ≡ laid_at 0 (shown_numbers (lent_table s f.now) (lent_table s t.now) s)
         place.old }
 {
-    let fits = pair_checks::fits(s);
-    if checks::lent_code(fits, s.rows, f, t) != 0 {
+    if checks::check_lent(pair_checks::fits(&s), s.rows, f, t).is_err() {
         record_layout::put_three(place, 0, 0, 0, 0);
         return;
     }
-    if s.last == 1 {
-        put_block(1, s.query.block, s.depth.field.0, place);
-        return;
+    match s.last {
+        1 => put_block(1, s.query.block, s.depth.field.0, place),
+        2 => put_block(2, s.query.block, s.depth.trim.0, place),
+        _ => record_layout::put_three(place, 0, 0, 0, 0),
     }
-    if s.last == 2 {
-        put_block(2, s.query.block, s.depth.trim.0, place);
-        return;
-    }
-    record_layout::put_three(place, 0, 0, 0, 0);
 }
 
 // Show: which table the rows last read came from, the first of them and how many, written into `place`.

@@ -10,6 +10,7 @@ use record_layout::{PAIR_SIZE, SIZE};
 use rules::Answer;
 
 // The pair that an answer brings out, if it does, at the front of `pair`.
+#[tactic(auto, unfolding(record_layout::specs::Flat::flat_pair))]
 fn put_given(answer: Answer, pair: &mut [u32])
     requires { pair_size ≤ length pair.old }
     ensures { pair.new ≡ written_in pair.old (said answer) }
@@ -32,11 +33,9 @@ pub fn take(f: &[i32], t: &[i32], lent: &mut [u32], pair: &mut [u32]) -> i32
     }
     let s = record_taken::unpack(lent);
     let step = taking::take(f, t, s);
-    let answer = step.answer;
-    if let Answer::Given(_) = answer {
-        let after = step.session;
-        record_packed::pack(after, lent);
+    if let Answer::Given(_) = step.answer {
+        record_packed::pack(step.session, lent);
     }
-    put_given(answer, pair);
-    answers::told(answer)
+    put_given(step.answer, pair);
+    answers::told(step.answer)
 }

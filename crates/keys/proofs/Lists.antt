@@ -2,54 +2,56 @@
 use mathlib.Core.Path.{◌≡◌, refl, sym, ap, ◌∙◌}
 use mathlib.Core.Bool.{Bool, true, false, cond}
 use mathlib.Core.List.{List, [], ◌∷◌, ◌++◌, append_assoc}
-use Prim.Native.Nat.{ℕ, zero, suc, ◌+◌, ◌≤◌, ◌<◌}
+use Prim.Native.Nat.{ℕ, zero, suc, ◌+◌, ◌-◌, ◌≤◌, ◌<◌, min}
 use native.Mathlib.Nat.{not-suc-le-zero, le_of_suc-le-suc}
 use native.Mathlib.Omega.{arith}
 use native.Mathlib.Numerals.{add-one}
 use lib.Dec.{ltb}
 use lib.ListN.{length, get_or, take, drop, set, drop_of_length-le}
-use lib.Seq.{take-suc-set, take-set-lt, drop-set-lt, drop-cons, get_or-take, length-take-le, take_all}
+use lib.Seq.{length-take-le, take-suc, take_at, append_snoc, take-take, drop-cons}
+use Rattle.std.proofs.Common.{length-append, length-drop}
+use Rattle.std.proofs.lemmas.List.{set_at, drop-take, take_min}
+use Rattle.std.specs.List.{copy_within}
+use borrow.Author.Tests.{lt-ltb, le-ltb}
 use Rattle.lists.specs.Lists.{ins}
 use Rattle.keys.specs.Held.{place_of, insert_at}
 
 -- ---- Moving up by one
 
--- one turn
-pub one_on : (b : List ℕ) (j n c d : ℕ) → j < n → n ≤ length b →
-    take (j + 1) (set b j c) ++ get_or b j d ∷ drop (j + 1) (take n (set b j c)) ≡ take j b ++ c ∷ drop j (take n b)
-one_on b j n c d h k =
-    let in_b : j < length b = omega arith in
-    let in_t : j < length (take n b) = simp (length-take-le n b k) h in
-    let s : j < suc j = omega arith in
-    simp (
-      add-one,
-      take-suc-set b j c in_b,
-      take-set-lt n b j c h,
-      drop-set-lt (suc j) (take n b) j c s,
-      append_assoc,
-      drop-cons (take n b) j d in_t,
-      get_or-take n b j d h,
-    )
-
--- after the last turn
-pub at_end : (b : List ℕ) (j n c : ℕ) → j ≤ n → n ≤ j → n < length b
-    → take (n + 1) (set b n c) ≡ take j b ++ c ∷ drop j (take n b)
-at_end b j n c h k l =
-    let e : j ≡ n = omega arith in
-    let m : length (take n b) ≤ n = simp (length-take-le n b (omega arith)) (omega arith) in
-    simp (e, add-one, take-suc-set b n c l, drop_of_length-le (take n b) {i = n} m)
+-- the numbers from i on moved up, and p at i
+pub shifted : (b : List ℕ) (i n p : ℕ) → i ≤ n → n < length b
+    → take (n + 1) (set (copy_within b i n (i + 1)) i p) ≡ insert_at i p (take n b)
+unfolding insert_at
+shifted b i n p h k =
+    let x = get_or b i 0 in
+    let t = take (n - i) (drop i b) in
+    let d = drop (i + 1 + (n - i)) b in
+    let in_b : i < length b = omega arith in
+    let front : length (take i b) ≡ i = length-take-le i b (omega arith) in
+    let moved : length t ≡ n - i = length-take-le (n - i) (drop i b) (simp (length-drop i b) (omega arith)) in
+    let copied : copy_within b i n (i + 1) ≡ take i b ++ x ∷ (t ++ d) =
+    append_assoc (take (i + 1) b) t d
+    ∙ ap (λ (l : List ℕ). l ++ (t ++ d)) (rw add-one (take-suc b i 0 in_b))
+    ∙ append_snoc (take i b) x (t ++ d) in
+    let long : length (take i b ++ p ∷ t) ≡ n + 1 = length-append (take i b) (p ∷ t) ∙ omega arith in
+    ap (λ l. take (n + 1) (set l i p)) copied
+    ∙ ap (take (n + 1)) (set_at (take i b) x (t ++ d) p i front ∙ sym (append_assoc (take i b) (p ∷ t) d))
+    ∙ take_at (take i b ++ p ∷ t) d (n + 1) long
+    ∙ ap (λ (l : List ℕ). l ++ p ∷ t) (sym (take-take i n b h))
+    ∙ ap (λ (l : List ℕ). take i (take n b) ++ p ∷ l)
+    (sym (drop-take i (n - i) b) ∙ ap (λ (m : ℕ). drop i (take m b)) (omega arith))
 
 -- ---- The place
 
--- the place of p is further on where the number at i is lower
-pub place_on : (p : ℕ) (l : List ℕ) (i : ℕ) → i < length l → ltb (get_or l i 0) p ≡ true
-    → place_of p (drop i l) ≡ suc (place_of p (drop (i + 1) l))
+-- it is further on where the number at i is lower
+pub place_on : (p : ℕ) (l : List ℕ) (i : ℕ) → i < length l → get_or l i 0 < p
+    → place_of p (drop i l) ≡ place_of p (drop (i + 1) l) + 1
 unfolding place_of
-place_on p l i h t = rw (add-one, drop-cons l i 0 h, t)
+place_on p l i h t = rw (add-one i, drop-cons l i 0 h, lt-ltb (get_or l i 0) p t) (omega arith)
 
-pub place_here : (p : ℕ) (l : List ℕ) (i : ℕ) → i < length l → ltb (get_or l i 0) p ≡ false → place_of p (drop i l) ≡ 0
+pub place_here : (p : ℕ) (l : List ℕ) (i : ℕ) → i < length l → p ≤ get_or l i 0 → place_of p (drop i l) ≡ 0
 unfolding place_of
-place_here p l i h t = rw (drop-cons l i 0 h, t)
+place_here p l i h t = rw (drop-cons l i 0 h, le-ltb (get_or l i 0) p t)
 
 pub place_none : (p : ℕ) (l : List ℕ) (i : ℕ) → length l ≤ i → place_of p (drop i l) ≡ 0
 unfolding place_of
@@ -77,39 +79,36 @@ ins_is p (q ∷ l) = go (ltb q p) (ins_is p l)
     go true h = ap (λ (r : List ℕ). q ∷ r) h
     go false h = refl
 
-length_put : (i p : ℕ) (l : List ℕ) → i ≤ length l → length (insert_at i p l) ≡ suc (length l)
-unfolding insert_at
-length_put zero p l h = refl
-length_put (suc i) p [] h = absurd (not-suc-le-zero h)
-length_put (suc i) p (q ∷ l) h = ap suc (length_put i p l (le_of_suc-le-suc h))
-
 -- p behind all of a full list falls off
-pub falls_off : (room p : ℕ) (l : List ℕ) → length l ≤ room → room ≤ place_of p l → take room (ins ltb p l) ≡ l
+pub fallen_off : (room p : ℕ) (l : List ℕ) → length l ≤ room → room ≤ place_of p l → take room (ins ltb p l) ≡ l
 unfolding place_of ins
-falls_off zero p [] h k = refl
-falls_off (suc room) p [] h k = absurd (not-suc-le-zero k)
-falls_off zero p (q ∷ l) h k = absurd (not-suc-le-zero h)
-falls_off (suc room) p (q ∷ l) h k = go (ltb q p) (falls_off room p l (le_of_suc-le-suc h)) k
+fallen_off zero p [] h k = refl
+fallen_off (suc room) p [] h k = absurd (not-suc-le-zero k)
+fallen_off zero p (q ∷ l) h k = absurd (not-suc-le-zero h)
+fallen_off (suc room) p (q ∷ l) h k = go (ltb q p) (fallen_off room p l (le_of_suc-le-suc h)) k
   where
     go : (b : Bool) → (room ≤ place_of p l → take room (ins ltb p l) ≡ l) → suc room ≤ cond b (suc (place_of p l)) 0 →
         take (suc room) (cond b (q ∷ ins ltb p l) (p ∷ q ∷ l)) ≡ q ∷ l
     go true ih m = ap (λ (r : List ℕ). q ∷ r) (ih (le_of_suc-le-suc m))
     go false ih m = absurd (not-suc-le-zero m)
 
--- where there is room, nothing falls off
-pub all_kept : (room p : ℕ) (l : List ℕ) → length l < room → take room (ins ltb p l) ≡ insert_at (place_of p l) p l
-all_kept room p l h =
-    ap (take room) (sym (ins_is p l))
-    ∙ take_all room (insert_at (place_of p l) p l) (let e = length_put (place_of p l) p l (place_le p l) in omega arith)
-
-cut : (i m p : ℕ) (l : List ℕ) → i ≤ m → m < length l → take (suc m) (insert_at i p l) ≡ insert_at i p (take m l)
+cut : (i m p : ℕ) (l : List ℕ) → i ≤ m → take (suc m) (insert_at i p l) ≡ insert_at i p (take m l)
 unfolding insert_at
-cut zero m p l h k = refl
-cut (suc i) zero p l h k = absurd (not-suc-le-zero h)
-cut (suc i) (suc m) p [] h k = absurd (not-suc-le-zero k)
-cut (suc i) (suc m) p (q ∷ l) h k = ap (λ (r : List ℕ). q ∷ r) (cut i m p l (le_of_suc-le-suc h) (le_of_suc-le-suc k))
+cut zero m p l h = refl
+cut (suc i) zero p l h = absurd (not-suc-le-zero h)
+cut (suc i) (suc m) p [] h = refl
+cut (suc i) (suc m) p (q ∷ l) h = ap (λ (r : List ℕ). q ∷ r) (cut i m p l (le_of_suc-le-suc h))
 
--- where the list is full, its last number falls off
-pub last_falls_off : (m p : ℕ) (l : List ℕ) → place_of p l ≤ m → length l ≡ suc m
-    → take (suc m) (ins ltb p l) ≡ insert_at (place_of p l) p (take m l)
-last_falls_off m p l h e = ap (take (suc m)) (sym (ins_is p l)) ∙ cut (place_of p l) m p l h (omega arith)
+-- elsewhere the last number falls off if the list is full, and none otherwise
+pub last_falls_off : (room p : ℕ) (l : List ℕ) → place_of p l < room
+    → take room (ins ltb p l) ≡ insert_at (place_of p l) p (take (min (room - 1) (length l)) l)
+last_falls_off room p l h =
+    let m = room - 1 in
+    let e : room ≡ suc m = omega arith in
+    ap (λ (n : ℕ). take n (ins ltb p l)) e
+    ∙ ap (take (suc m)) (sym (ins_is p l))
+    ∙ cut (place_of p l) m p l (omega arith)
+    ∙ ap (insert_at (place_of p l) p) (sym (take_min m l))
+
+-- where a key stands among those before it
+pub ruleset places = (place_on, place_here, place_none)

@@ -1,6 +1,6 @@
 -- Pairs held as keys, and a pair put among them. Definitions only. Assumes nothing.
-use Rattle.std.specs.Prelude.{ℕ, suc, ◌+◌, ◌*◌, ◌-◌, ◌/◌, ◌%◌, ◌≤◌, ◌<◌, ◌≡◌, cond, List, [], ◌∷◌, ◌++◌, map, ltb}
-use Rattle.std.specs.Prelude.{length, get_or, take, drop}
+use Rattle.std.specs.Prelude.{ℕ, suc, ◌+◌, ◌*◌, ◌-◌, ◌/◌, ◌%◌, ◌≤◌, ◌<◌, ◌≡◌, Bool, cond, List, [], ◌∷◌, ◌++◌, map, ltb}
+use Rattle.std.specs.Prelude.{length, get_or, take, drop, eqb, ◌&&◌}
 use Rattle.lists.specs.Lists.{ins}
 use Rattle.lists.specs.Words.{All}
 use Rattle.rules.specs.declared.Pair.{Pair}
@@ -26,9 +26,13 @@ pub record Keyed (l : List Pair) (ks : List ℕ) : Type 0 where
   pub keys : ks ≡ map key_of l
   pub narrow : All Narrow l
 
--- place i of n held: zeros beyond
-abbrev pub place_at : List ℕ → ℕ → ℕ → Pair
-place_at a i n = cond (ltb i n) (pair_of (get_or a i 0)) no_pair
+-- place i of the pairs that keys stand for: zeros beyond
+abbrev pub place_at : List ℕ → ℕ → Pair
+place_at ks i = cond (ltb i (length ks)) (pair_of (get_or ks i 0)) no_pair
+
+-- a pair that falls off, if there is room for any: the room is used up, and the last key is lower
+abbrev pub falls_off : ℕ → List ℕ → Pair → Bool
+falls_off room ks p = eqb (length ks) room && ltb (get_or ks (room - 1) 0) (key_of p)
 
 -- how many keys stand before the place of p
 unfoldable pub place_of : ℕ → List ℕ → ℕ
@@ -39,8 +43,7 @@ place_of p (q ∷ l) = cond (ltb q p) (suc (place_of p l)) 0
 unfoldable pub insert_at : ℕ → ℕ → List ℕ → List ℕ
 insert_at i p l = take i l ++ p ∷ drop i l
 
--- p among the n pairs that a holds, of which at most `room` are kept: r of them, which a' holds
-pub record Put (n room : ℕ) (p : Pair) (a : List ℕ) (r : ℕ) (a' : List ℕ) : Type 0 where
-  pub few : r ≤ room
-  pub long : length a' ≡ 64
-  pub held : (l : List Pair) → Keyed l (take n a) → Keyed (take room (ins ahead p l)) (take r a')
+-- p among the pairs that keys stand for, of which at most `room` are kept: those that `after` stands for
+pub record Put (room : ℕ) (p : Pair) (ks after : List ℕ) : Type 0 where
+  pub few : length after ≤ room
+  pub held : (l : List Pair) → Keyed l ks → Keyed (take room (ins ahead p l)) after

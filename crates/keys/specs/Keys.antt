@@ -1,7 +1,8 @@
 -- A pair is read off its number, and numbers stand in the order of their pairs. Assumes nothing.
 use Rattle.std.specs.Prelude.{ℕ, zero, suc, ◌+◌, ◌*◌, ◌-◌, ◌/◌, ◌%◌, ◌<◌, ◌≡◌, refl, Bool, true, false, cond, List, []}
 use Rattle.std.specs.Prelude.{◌∷◌, map, ltb, length, get_or, take}
-use Rattle.std.proofs.Common.{sym, ap, ◌∙◌, ⊎_elim, arith, lt-ltb, le-ltb}
+use Rattle.std.proofs.Common.{sym, ap, ◌∙◌, ⊎_elim, arith, lt-ltb, le-ltb, ltb-true, ltb-false}
+use Rattle.std.proofs.Math.ListN.{get_or-eq_default}
 use Rattle.lists.specs.Lists.{ins}
 use Rattle.lists.specs.Words.{All}
 use Rattle.lists.specs.Sorts as Sorts
@@ -9,7 +10,7 @@ use Rattle.rules.specs.declared.Pair.{Pair}
 use Rattle.rules.specs.Tables.{ahead}
 use Rattle.rules.specs.Session.{no_pair}
 use Rattle.rules.proofs.Ranking.{Before, ahead_before, ahead_tri}
-use Rattle.keys.specs.Held.{key_of, pair_of, Narrow, Keyed}
+use Rattle.keys.specs.Held.{key_of, pair_of, place_at, Narrow, Keyed}
 
 -- One pair
 
@@ -110,3 +111,12 @@ key_at l ks i h k = ap (λ (r : List ℕ). get_or r i 0) h.keys ∙ map_at l i k
 pub keyed_at : (l : List Pair) (ks : List ℕ) (i : ℕ) → Keyed l ks → i < length l
     → pair_of (get_or ks i 0) ≡ get_or l i no_pair
 keyed_at l ks i h k = ap pair_of (key_at l ks i h k) ∙ pair_key (get_or l i no_pair) (all_get_d Narrow l i h.narrow k)
+
+-- place i
+pub keyed_place : (l : List Pair) (ks : List ℕ) (i : ℕ) → Keyed l ks → place_at ks i ≡ get_or l i no_pair
+keyed_place l ks i h = go (ltb i (length ks)) refl
+  where
+    go : (b : Bool) → ltb i (length ks) ≡ b → cond b (pair_of (get_or ks i 0)) no_pair ≡ get_or l i no_pair
+    go true e = keyed_at l ks i h (omega (arith, ltb-true i (length ks) e, keyed_length l ks h))
+    go false e =
+        sym (get_or-eq_default l no_pair {n = i} (omega (arith, ltb-false i (length ks) e, keyed_length l ks h)))

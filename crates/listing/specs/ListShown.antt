@@ -10,7 +10,7 @@ use Rattle.rules.specs.declared.Pair.{Pair}
 use Rattle.rules.specs.declared.Query.{Query}
 use Rattle.rules.specs.declared.Session.{Session}
 use Rattle.rules.specs.declared.Step.{Step}
-use Rattle.rules.specs.declared.Answer.TheVariants.{Refused, Opened}
+use Rattle.rules.specs.declared.Answer.TheVariants.{Opened}
 use Rattle.rules.specs.Tables.{Table, Block, row, row_count, gap, squared_distance}
 use Rattle.rules.specs.Widths.{has_row, has_rows, shade_length}
 use Rattle.rules.specs.Squares.{square_at, squares_most}
@@ -24,6 +24,7 @@ use Rattle.rules.specs.Calls.{open_code, open_call, read_call, take_call}
 use Rattle.rules.specs.Query.{was_read, was_given, read_until_settled_by, read_until_settled, take_until_finished_by}
 use Rattle.rules.specs.Query.{take_until_finished}
 use Rattle.rules.specs.Query.{settled_session, list}
+use Rattle.rules.specs.Numbers.{refused}
 use Rattle.session_laws.specs.Shades.{row_small}
 use Rattle.session_laws.specs.Record.{card_small, first_fits}
 use Rattle.session_laws.specs.Calls.{open_out, call_out, Takes, was_read_out, was_given_out}
@@ -128,7 +129,7 @@ settled_placed q f t =
 
     go : (b : Bool) →
         (let made = step Opened (opened q (two_tables f t)) in
-        let r : Step = cond b made (step (Refused (open_code q f t)) zeros) in 0 < length r.session.pairs)
+        let r : Step = cond b made (step (refused (open_code q f t)) zeros) in 0 < length r.session.pairs)
     go true = places_placed []
     go false = places_placed []
 

@@ -38,6 +38,7 @@ fn distance(n: u32, f: &[i32], t: &[i32], p: Pair) -> u64
 }
 
 // What is told of a pair.
+#[tactic(auto, unfolding(crate::specs::Shown::line_of))]
 pub fn line_of(n: u32, f: &[i32], t: &[i32], rank: u32, p: Pair) -> Line
     requires { Shown (table n f.now) (table n t.now) p }
     ensures { result ≡ line_of (table n f.now) (table n t.now) rank p }
@@ -56,22 +57,21 @@ pub fn line_of(n: u32, f: &[i32], t: &[i32], rank: u32, p: Pair) -> Line
 }
 
 // The list's lines, from a place on.
+#[tactic(auto, using(crate::specs::ListShown::count_few))]
 fn put_pairs(out: &mut [u8], at: usize, n: u32, f: &[i32], t: &[i32], run: Outcome)
     requires { (at + line_length * place_count ≤ length out.old)
         × OutcomeOf (table n f.now) (table n t.now) run }
     ensures { out.new
         ≡ put_at at (list_lines run.query (table n f.now) (table n t.now)) out.old }
 {
-    let mut i: usize = 0;
-    while i < run.count {
-        let p = run.pairs[i];
-        let line = line_of(n, f, t, (i + 1) as u32, p);
+    for i in 0..run.count {
+        let line = line_of(n, f, t, (i + 1) as u32, run.pairs[i]);
         pair_line::put_line(out, at + pair_line::LINE_LENGTH * i, line);
-        i += 1;
     }
 }
 
 // The listing of a query that was run, from the front of `out`: how many bytes it takes.
+#[tactic(auto, using(crate::specs::ListShown::count_few))]
 pub fn put_listing(out: &mut [u8], n: u32, f: &[i32], t: &[i32], run: Outcome) -> usize
     requires { (listing_room ≤ length out.old) × OutcomeOf (table n f.now) (table n t.now) run }
     ensures upper_bound { (result ≤ listing_room)
@@ -79,10 +79,9 @@ pub fn put_listing(out: &mut [u8], n: u32, f: &[i32], t: &[i32], run: Outcome) -
     ensures out_after { out.new
         ≡ put_at 0 (listing run.query (table n f.now) (table n t.now)) out.old }
 {
-    let settled = run.session;
     let end = other_lines::QUERY_LENGTH + pair_line::LINE_LENGTH * run.count;
     other_lines::put_query(out, 0, run.query);
     put_pairs(out, other_lines::QUERY_LENGTH, n, f, t, run);
-    other_lines::put_last(out, end, settled);
+    other_lines::put_last(out, end, run.session);
     end + other_lines::LAST_LENGTH
 }

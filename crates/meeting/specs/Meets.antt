@@ -1,7 +1,7 @@
 -- Block pairs met by a record that is ready: it stays ready. Assumes nothing.
 use Rattle.std.specs.Prelude.{◌≡◌, refl, Bool, true, false, cond, List, ◌++◌, ℕ, zero, suc, ◌+◌, ◌*◌, ◌-◌, ◌≤◌, ◌<◌}
 use Rattle.std.specs.Prelude.{min, length, take}
-use Rattle.std.proofs.Common.{sym, ap, ap₂, ◌∙◌, mul-le-mul_right, suc-mul, add-one, arith, length-take}
+use Rattle.std.proofs.Common.{sym, ap, mul-le-mul_right, suc-mul, add-one, arith, length-take}
 use Rattle.lists.specs.Lists.{sort}
 use Rattle.lists.specs.Words.{Ordered}
 use Rattle.lists.specs.Sorts.{sort_ordered, take_ordered}
@@ -86,25 +86,10 @@ module _ (f t : Table) (new old : Span) where
 pub block_begins : (n block depth i : ℕ) → n * block < depth + block → i < n → i * block < depth
 block_begins n block depth i h k = omega (arith, mul-le-mul_right block k, suc-mul i block)
 
-pub block_next : (block i c : ℕ) → c ≡ i * block → c + block ≡ (i + 1) * block
-block_next block i c e =
-    let s : (i + 1) * block ≡ i * block + block = ap (λ (j : ℕ). j * block) (add-one i) ∙ suc-mul i block in
-    omega arith
-
 -- one turn: the next block is met
-pub blocks_next : (field : Bool) (s : Session) (new : Block) (t : Table) (depth i c g block : ℕ) (r r' : Session) →
-    block ≡ s.query.block →
-    c ≡ i * block →
-    r ≡ meet_blocks field s new t depth i →
-    g ≡ min (c + block) depth →
-    r' ≡ meet r (cond field new (rows_between t c g)) (cond field (rows_between t c g) new) →
-    r' ≡ meet_blocks field s new t depth (i + 1)
+pub blocks_next : (field : Bool) (s : Session) (new : Block) (t : Table) (depth i : ℕ)
+    → let old = rows_between t (i * s.query.block) (min (i * s.query.block + s.query.block) depth) in
+    meet (meet_blocks field s new t depth i) (cond field new old) (cond field old new)
+    ≡ meet_blocks field s new t depth (i + 1)
 unfolding meet_blocks_by
-blocks_next field s new t depth i c g block r r' eb ec er eg h =
-    let c_is : c ≡ i * s.query.block = ec ∙ ap (λ (b : ℕ). i * b) eb in
-    let g_is : g ≡ min (i * s.query.block + s.query.block) depth =
-    eg ∙ ap₂ (λ (x y : ℕ). min (x + y) depth) c_is eb in
-    h
-    ∙ ap₂ (λ (x : Session) (y : Block). meet x (cond field new y) (cond field y new)) er
-    (ap₂ (λ (x y : ℕ). rows_between t x y) c_is g_is)
-    ∙ sym (rw add-one)
+blocks_next field s new t depth i = sym (rw add-one)

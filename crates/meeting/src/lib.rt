@@ -1,26 +1,24 @@
-// A new block of one table meets the blocks already read of the other, in their order.
+// A new block of one table meets the blocks already read of the other, in their order. Which table it is of says a
+// flag, as in the rules (`meet_blocks field s new t depth n`).
 #![tactic(auto)]
 
 ghost use Rattle.std.specs.Prelude.{◌≡◌, cond, ◌+◌, ◌*◌, ◌≤◌, ◌<◌, ◌^◌};
 ghost use Rattle.rules.specs.Tables.{most_rows, rectangle, HasRows};
-ghost use Rattle.rules.specs.Session.{lent_table};
+ghost use Rattle.rules.specs.Session.{held_pairs, lent_table};
 ghost use Rattle.rules.specs.Read.{meet_blocks};
 ghost use Rattle.sides.specs.Sides.{sides_in};
 ghost use Rattle.choosing.specs.Ready.{Ready};
 ghost use Rattle.block_pair.specs.Spans.{FirstFit, SpanFits, span_block};
-ghost use Rattle.block_pair.specs.Stands.{Keys, Stands};
+ghost use Rattle.block_pair.specs.Stands.{Stands};
+ghost use Rattle.keys.specs.Held.{Keyed};
 
-use block_pair::{Met, Span};
+use block_pair::{Span, meet_parts};
+use keys::Keys;
 use rules::Session;
-
-fn either(first: bool, a: Span, b: Span) -> Span
-    ensures { result ≡ cond first a b }
-{
-    if first { a } else { b }
-}
+use tables::pick;
 
 // The new block, of the field table where the flag says so, meets the first n blocks of the other table, down to its
-// depth. Its rectangle stands in `sides`.
+// depth: how many block pairs are joined then. Its rectangle stands in `sides`.
 pub fn meet_blocks(
     field: bool,
     s: Session,
@@ -30,9 +28,9 @@ pub fn meet_blocks(
     depth: usize,
     n: usize,
     sides: &[i32; 6],
-    keys: &mut [u64; 64],
-) -> Met
-    requires ready { Ready s × (s.joined + n < 2 ^ 63) × Keys s keys.old }
+    keys: &mut Keys,
+) -> u64
+    requires ready { Ready s × (s.joined + n < 2 ^ 63) × Keyed (held_pairs s) keys.old }
     requires span_fits { SpanFits new (cond field (lent_table s f.now) (lent_table s t.now))
         × FirstFit (cond field (lent_table s t.now) (lent_table s f.now)) depth }
     requires depth_le_most_rows { (depth ≤ most_rows)
@@ -48,18 +46,16 @@ pub fn meet_blocks(
 {
     let block = s.query.block as usize;
     let room = (s.query.k - s.out) as usize;
-    let mut m = Met {
-        held: s.held as usize,
-        joined: s.joined,
-    };
-    let mut c: usize = 0;
-    let mut i: usize = 0;
-    while i < n {
-        let g = near_rows::lesser(c + block, depth);
-        let old = Span { from: c, to: g };
-        let x = either(field, new, old);
-        let y = either(field, old, new);
-        m = block_pair::meet_parts(
+    let mut joined = s.joined;
+    for i in 0..n {
+        let c = i * block;
+        let old = Span {
+            from: c,
+            to: (c + block).min(depth),
+        };
+        let x = pick(field, new, old);
+        let y = pick(field, old, new);
+        joined = meet_parts(
             s.rows.card,
             s.query,
             room,
@@ -70,10 +66,8 @@ pub fn meet_blocks(
             t,
             y,
             keys,
-            m,
+            joined,
         );
-        c = c + block;
-        i += 1;
     }
-    m
+    joined
 }

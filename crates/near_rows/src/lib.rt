@@ -13,12 +13,6 @@ ghost use Rattle.near_rows.specs.Candidate.{stand_near, Candidate};
 
 use rules::Query;
 
-pub fn lesser(a: usize, b: usize) -> usize
-    ensures { result ≡ min a b }
-{
-    if a <= b { a } else { b }
-}
-
 // Whether row i + 1 of x lies beside row j + 1 of y, no farther apart than this in any coordinate.
 fn beside_at(n: u32, reach: u32, x: &[i32], i: usize, y: &[i32], j: usize) -> bool
     requires has_row { HasRow (table n x.now) i × HasRow (table n y.now) j }
@@ -41,11 +35,8 @@ fn some_beside(n: u32, q: Query, x: &[i32], i: usize, y: &[i32], k: usize, e: us
 {
     let reach = tolerances::reach(q);
     let mut seen = false;
-    let mut j: usize = k;
-    while j < e {
-        let here = beside_at(n, reach, x, i, y, j);
-        seen = seen | here;
-        j += 1;
+    for j in k..e {
+        seen |= beside_at(n, reach, x, i, y, j);
     }
     seen
 }
@@ -57,11 +48,8 @@ fn any_beside_at(n: u32, q: Query, x: &[i32], y: &[i32]) -> bool
     let l = tables::rows_lent(n, x);
     let m = tables::rows_lent(n, y);
     let mut seen = false;
-    let mut i: usize = 0;
-    while i < l {
-        let here = some_beside(n, q, x, i, y, 0, m);
-        seen = seen | here;
-        i += 1;
+    for i in 0..l {
+        seen |= some_beside(n, q, x, i, y, 0, m);
     }
     seen
 }
@@ -72,10 +60,10 @@ pub fn any_beside(n: u32, q: Query, x: &[i32], y: &[i32]) -> bool
     requires { SmallPairs q (table n x.now) (table n y.now) }
     ensures { result ≡ false → NoPair (terms q) (table n x.now) (table n y.now) }
 {
-    if n == 2 {
-        return any_beside_at(2, q, x, y);
+    match n {
+        2 => any_beside_at(2, q, x, y),
+        _ => any_beside_at(3, q, x, y),
     }
-    any_beside_at(3, q, x, y)
 }
 
 fn near_by_at(n: u32, radius: u32, x: &[i32], i: usize, y: &[i32], j: usize) -> bool
@@ -95,10 +83,10 @@ fn near_by(n: u32, radius: u32, x: &[i32], i: usize, y: &[i32], j: usize) -> boo
     requires small { Small (row (table n x.now) i).shade × Small (row (table n y.now) j).shade }
     ensures { result ≡ stand_near radius (row (table n x.now) i) (row (table n y.now) j) }
 {
-    if n == 2 {
-        return near_by_at(2, radius, x, i, y, j);
+    match n {
+        2 => near_by_at(2, radius, x, i, y, j),
+        _ => near_by_at(3, radius, x, i, y, j),
     }
-    near_by_at(3, radius, x, i, y, j)
 }
 
 // Whether row i + 1 of x and row j + 1 of y, neither of them withdrawn, qualify.
@@ -127,14 +115,15 @@ fn all_far(n: u32, q: Query, x: &[i32], i: usize, y: &[i32], k: usize, e: usize)
     if (k % 16 != 0) | (1500 < reach) {
         return false;
     }
-    if n == 2 {
-        return !some_beside(2, q, x, i, y, k, e);
+    match n {
+        2 => !some_beside(2, q, x, i, y, k, e),
+        _ => !some_beside(3, q, x, i, y, k, e),
     }
-    !some_beside(3, q, x, i, y, k, e)
 }
 
 // The first of y's m live rows from row j + 1 on that may lie near row i + 1 of x, a live row too, counted from 0; m
-// where none may. Without tolerances it does. The loop is as short as the compiler wants it, to make one for each card.
+// where none may. Without tolerances it does. The loop moves on by 16 rows or by one, and is as short as the compiler
+// wants it, to make one for each card.
 fn next_candidate(n: u32, q: Query, x: &[i32], i: usize, y: &[i32], m: usize, j: usize) -> usize
     requires has_row { HasRow (table n x.now) i × (withdrawn (row (table n x.now) i) ≡ false)
         × Live (table n y.now) m × (j ≤ m) }
@@ -144,13 +133,12 @@ fn next_candidate(n: u32, q: Query, x: &[i32], i: usize, y: &[i32], m: usize, j:
     let wide = tolerances::wide(q);
     let mut k = j;
     while k < m {
-        let e = lesser(k + 16, m);
+        let e = m.min(k + 16);
         if all_far(n, q, x, i, y, k, e) {
             k = e;
+        } else if near_by(n, wide, x, i, y, k) {
+            return k;
         } else {
-            if near_by(n, wide, x, i, y, k) {
-                return k;
-            }
             k += 1;
         }
     }
@@ -164,18 +152,17 @@ fn next_counted(n: u32, q: Query, x: &[i32], i: usize, y: &[i32], m: usize, j: u
     requires small_pairs { SmallPairs q (table n x.now) (table n y.now) }
     ensures { NextNear (terms q) (table n x.now) i (table n y.now) m j result }
 {
-    let mut k = j;
-    while k < m {
+    for k in j..m {
         if counts_near(n, q, x, i, y, k) {
             return k;
         }
-        k += 1;
     }
     m
 }
 
 // The first of y's m live rows from row j + 1 on that lies near row i + 1 of x, a live row too, counted from 0; m where
-// none does. No score is looked at, and a query without tolerances does not pay for them.
+// none does. No score is looked at, and a query without tolerances does not pay for them. An `Option` is no plainer:
+// the rows before the one found are far, and where none is found those before m (`NextNear`).
 pub fn next_near(n: u32, q: Query, x: &[i32], i: usize, y: &[i32], m: usize, j: usize) -> usize
     requires has_row { HasRow (table n x.now) i × (withdrawn (row (table n x.now) i) ≡ false)
         × Live (table n y.now) m × (j ≤ m) }

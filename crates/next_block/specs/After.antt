@@ -1,5 +1,5 @@
 -- A record after a read, its pairs read off the keys. Assumes nothing.
-use Rattle.std.specs.Prelude.{◌≡◌, refl, Bool, cond, List, [], ◌∷◌, map, ℕ, take}
+use Rattle.std.specs.Prelude.{◌≡◌, refl, Bool, cond, List, [], ◌∷◌, map, ℕ, length}
 use Rattle.std.proofs.Common.{sym, ap, ◌∙◌}
 use Rattle.lists.specs.Words.{All}
 use Rattle.rules.specs.declared.Pair.{Pair}
@@ -11,22 +11,21 @@ use Rattle.keys.specs.Held.{key_of, pair_of, Narrow}
 use Rattle.keys.specs.Keys.{pair_key}
 use Rattle.keys.specs.Places.{places_of}
 use Rattle.choosing.specs.Ready.{Ready}
-use Rattle.block_pair.specs.declared.Met.{Met}
 use Rattle.block_pair.specs.Stands.{Stands}
 use Rattle.next_block.specs.declared.After.{After}
 use Rattle.next_block.specs.Side.{down_to}
 
 -- a record after a read: its numbers, and its pairs read off the keys
 unfoldable pub with_keys : Session → After → List ℕ → Session
-with_keys s r keys =
+with_keys s r ks =
     record {
       query = s.query;
       rows = s.rows;
       depth = r.depth;
       last = r.last;
       out = s.out;
-      held = r.held;
-      pairs = places_of keys r.held;
+      held = length ks;
+      pairs = places_of ks;
       joined = r.joined;
     }
 
@@ -36,18 +35,13 @@ pairs_again [] h = refl
 pairs_again (p ∷ l) h = λ i. pair_key p h.0 i ∷ pairs_again l h.1 i
 
 -- the record after a read, its pairs read off the keys
-pub read_is : (field : Bool) (e : ℕ) (s r : Session) → Kept s r → Ready r → (m : Met) (keys : List ℕ)
-    → Stands r m keys
-    → with_keys s
-    (record { depth = down_to field e s.depth; last = cond field 1 2; held = m.held; joined = m.joined }) keys
-    ≡ read_to field e r
+pub read_is : (field : Bool) (e : ℕ) (s r : Session) → Kept s r → Ready r → (n : ℕ) (ks : List ℕ) → Stands r n ks
+    → with_keys s (record { depth = down_to field e s.depth; last = cond field 1 2; joined = n }) ks ≡ read_to field e r
 unfolding read_to down_to with_keys places_of
-read_is field e s r kept ready m keys stands =
-    let l = held_pairs r in
-    let held : places (map pair_of (take m.held keys)) ≡ r.pairs =
-    ap (λ (n : ℕ). places (map pair_of (take n keys))) stands.held
-    ∙ ap (λ (k : List ℕ). places (map pair_of k)) stands.pairs.keyed.keys
-    ∙ ap places (pairs_again l stands.pairs.keyed.narrow)
+read_is field e s r kept ready n ks stands =
+    let pairs : places (map pair_of ks) ≡ r.pairs =
+    ap (λ (k : List ℕ). places (map pair_of k)) stands.keyed.keys
+    ∙ ap places (pairs_again (held_pairs r) stands.keyed.narrow)
     ∙ sym ready.zeros in
     λ i.
     record {
@@ -57,6 +51,6 @@ read_is field e s r kept ready m keys stands =
       last = cond field 1 2;
       out = sym kept.out i;
       held = stands.held i;
-      pairs = held i;
+      pairs = pairs i;
       joined = stands.joined i;
     }

@@ -8,6 +8,7 @@ use depth_checks::{block_count, counts_fit, depths_fit, mark_fits};
 use rules::{Counts, Query, TwoTables};
 
 // All grounds but those of the pair places.
+#[tactic(auto, using(crate::specs::Passed::passing), unfolding(crate::specs::Grounds::numbers_fit))]
 pub fn numbers_fit(
     q: Query,
     rows: TwoTables,
@@ -19,7 +20,7 @@ pub fn numbers_fit(
 ) -> bool
     ensures { result ≡ numbers_fit q rows depth last out held joined }
 {
-    if query_checks::query_code(q) != 0 {
+    if query_checks::check_query(q).is_err() {
         return false;
     }
     if !counts_fit(q.block, rows.field.0, depth.field.0) {
@@ -28,7 +29,7 @@ pub fn numbers_fit(
     if !counts_fit(q.block, rows.trim.0, depth.trim.0) {
         return false;
     }
-    let few = (out as u64) + (held as u64) <= (q.k as u64);
+    let few = u64::from(out) + u64::from(held) <= u64::from(q.k);
     let mark = mark_fits(last, depth);
     let most = block_count(q.block, depth.field.0) * block_count(q.block, depth.trim.0);
     let card = cards::is_card(rows.card);

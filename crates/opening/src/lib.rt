@@ -1,4 +1,4 @@
-// Opening: a query and two lent tables in, a record with nothing read out, or the number that refuses them.
+// Opening: a query and two lent tables in, a record with nothing read out, or what refuses them.
 #![tactic(auto)]
 
 ghost use Rattle.std.specs.Prelude.{◌≡◌};
@@ -12,6 +12,7 @@ use rules::{
 };
 
 // A record with nothing read.
+#[tactic(auto, unfolding(rules::specs::Session::opened, rules::specs::Session::places))]
 fn fresh(q: Query, rows: TwoTables) -> Session
     ensures { result ≡ opened q rows }
 {
@@ -32,6 +33,7 @@ fn fresh(q: Query, rows: TwoTables) -> Session
 }
 
 // The record of a refused opening.
+#[tactic(auto, unfolding(rules::specs::Session::zeros))]
 fn all_zeros() -> Session
     ensures { result ≡ zeros }
 {
@@ -59,18 +61,16 @@ fn all_zeros() -> Session
     fresh(q, rows)
 }
 
-// Opening: a record with nothing read, or the number that it is refused by and a record of zeros.
+// Opening: a record with nothing read, or what it is refused by and a record of zeros.
 pub fn start(q: Query, kinds: Kinds, f: &[i32], t: &[i32]) -> Step
     ensures { result ≡ open_call q (field_table kinds f.now) (trim_table kinds t.now) }
 {
     let m = cards::field_coordinates(kinds);
     let n = cards::trim_coordinates(kinds);
-    let code = opening_checks::open_code(q, m, f, n, t);
-    if code != 0 {
-        let s = all_zeros();
+    if let Err(refusal) = opening_checks::check_opening(q, m, f, n, t) {
         return Step {
-            answer: Answer::Refused(code),
-            session: s,
+            answer: Answer::Refused(refusal),
+            session: all_zeros(),
         };
     }
     let rows = TwoTables {
@@ -78,9 +78,8 @@ pub fn start(q: Query, kinds: Kinds, f: &[i32], t: &[i32]) -> Step
         trim: TrimRows(tables::rows_lent(n, t) as u32),
         card: m,
     };
-    let s = fresh(q, rows);
     Step {
         answer: Answer::Opened,
-        session: s,
+        session: fresh(q, rows),
     }
 }

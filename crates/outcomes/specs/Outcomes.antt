@@ -1,5 +1,5 @@
 -- What a whole query comes to: what its calls refuse, the record when it is settled, the list. Assumes nothing.
-use Rattle.std.specs.Prelude.{◌≡◌, Bool, cond, ℕ}
+use Rattle.std.specs.Prelude.{◌≡◌, Bool, cond, ℕ, Result, Err}
 use Rattle.std.proofs.Math.Path.{refl, sym, ap, ap₂}
 use Rattle.std.proofs.Common.{subst, ◌∙◌, eqb-true}
 use Rattle.std.proofs.Math.Bool.{true, false}
@@ -10,12 +10,16 @@ use Rattle.rules.specs.declared.Pair.{Pair}
 use Rattle.rules.specs.declared.Query.{Query}
 use Rattle.rules.specs.declared.Session.{Session}
 use Rattle.rules.specs.declared.Step.{Step}
-use Rattle.rules.specs.declared.Answer.TheVariants.{Refused, Opened}
-use Rattle.rules.specs.Numbers.{bad_record, said, refusal}
+use Rattle.rules.specs.declared.Answer.TheVariants.{Opened}
+use Rattle.rules.specs.declared.Refusal.{Refusal}
+use Rattle.rules.specs.declared.Refusal.TheVariants.{BadRecord}
+use Rattle.rules.specs.Numbers.{said, refusal, refused, code}
+use Rattle.rules.specs.Numbered.{Known, known, known_none, of_opening}
 use Rattle.rules.specs.Tables.{Table}
 use Rattle.rules.specs.Session.{lent_table, place_count, places, two_tables, opened, zeros}
 use Rattle.rules.specs.Calls.{step, open_code, open_call, read_call}
 use Rattle.rules.specs.Query.{was_read, was_given, take_until_finished, settled_session, list}
+use Rattle.outcomes.specs.Checked.{checked, checked_says}
 use Rattle.outcomes.specs.declared.ReadEnd.{ReadEnd}
 use Rattle.outcomes.specs.declared.TakenOut.{TakenOut}
 use Rattle.outcomes.specs.declared.Outcome.{Outcome}
@@ -24,15 +28,15 @@ use Rattle.session_laws.specs.Zeros.{zeros_read, zeros_take, refused_zeros}
 use Rattle.session_laws.specs.Cards.{lent_again, settled_again}
 
 -- what a read of a record is refused by
-abbrev pub refused_by : Table → Table → Session → ℕ
-refused_by f t s = refusal (said (read_call f t s).answer)
+abbrev pub refused_by : Table → Table → Session → Result Unit Refusal
+refused_by f t s = checked (read_call f t s).answer
 
 -- what the reading of a query ends with: 0 where it settles
 abbrev pub read_code : Query → Table → Table → ℕ
-read_code q f t = refused_by f t (settled_session q f t)
+read_code q f t = refusal (said (read_call f t (settled_session q f t)).answer)
 
 unfoldable pub read_end : Table → Table → Session → ReadEnd
-read_end f t s = record { code = refused_by f t (read_on f t s); session = read_on f t s }
+read_end f t s = record { end = refused_by f t (read_on f t s); session = read_on f t s }
 
 unfoldable pub taken_out : Table → Table → Session → TakenOut
 taken_out f t s =
@@ -43,8 +47,8 @@ unfoldable pub query_outcome : Query → Table → Table → Outcome
 query_outcome q f t =
     record {
       query = q;
-      opening = open_code q f t;
-      reading = read_code q f t;
+      opening = checked (open_call q f t).answer;
+      reading = refused_by f t (settled_session q f t);
       session = settled_session q f t;
       pairs = places (list q f t);
       count = length (list q f t);
@@ -57,10 +61,19 @@ opening_code q f t = go (eqb (open_code q f t) 0) refl
   where
     go : (b : Bool) → eqb (open_code q f t) 0 ≡ b →
         (let made = step Opened (opened q (two_tables f t)) in
-        let s : Step = cond b made (step (Refused (open_code q f t)) zeros) in refusal (said s.answer))
+        let s : Step = cond b made (step (refused (open_code q f t)) zeros) in refusal (said s.answer))
         ≡ open_code q f t
     go true e = sym (eqb-true (open_code q f t) 0 e)
-    go false e = refl
+    go false e = of_opening Known known_none known q f t e
+
+-- so the outcome's check of the opening, and of the reading, is of its code
+pub opening_checked : (q : Query) (f t : Table) → code (query_outcome q f t).opening ≡ open_code q f t
+unfolding query_outcome
+opening_checked q f t = checked_says (open_call q f t).answer ∙ opening_code q f t
+
+pub reading_checked : (q : Query) (f t : Table) → code (query_outcome q f t).reading ≡ read_code q f t
+unfolding query_outcome
+reading_checked q f t = checked_says (read_call f t (settled_session q f t)).answer
 
 -- an outcome over these tables
 abbrev pub OutcomeOf : Table → Table → Outcome → Type 0
@@ -100,10 +113,10 @@ module _ (q : Query) (f t : Table) where
           ap₂ (λ x y. read_end x y begun) same.0 same.1
       go false e =
           let z = refused_zeros q f t e in
-          let ends : (x y : Table) → read_end x y zeros ≡ record { code = bad_record; session = zeros } =
+          let ends : (x y : Table) → read_end x y zeros ≡ record { end = Err BadRecord; session = zeros } =
           λ x y.
-          ap (λ (s : Session). record { code = refused_by x y s; session = s }) (zeros_on x y)
-          ∙ ap (λ (s : Step). record { code = refusal (said s.answer); session = zeros }) (zeros_read x y) in
+          ap (λ (s : Session). record { end = refused_by x y s; session = s }) (zeros_on x y)
+          ∙ ap (λ (s : Step). record { end = checked s.answer; session = zeros }) (zeros_read x y) in
           ap (read_end own other) z ∙ ends own other ∙ sym (ends f t) ∙ ap (read_end f t) (sym z)
 
   -- and of the record when it is settled
@@ -137,11 +150,12 @@ module _ (q : Query) (f t : Table) where
           ∙ ap (taken_out f t) (sym z)
 
 -- of an outcome that was opened: the slices, lent to the record that its reading ended with, are the tables
-pub lent_outcome : (q : Query) (f t : Table) (r : Outcome) → r ≡ query_outcome q f t → r.opening ≡ 0
+pub lent_outcome : (q : Query) (f t : Table) (r : Outcome) → r ≡ query_outcome q f t → code r.opening ≡ 0
     → (lent_table r.session f.numbers ≡ f) × (lent_table r.session t.numbers ≡ t)
 unfolding query_outcome
 lent_outcome q f t r e z =
-    let opened : open_code q f t ≡ 0 = sym (ap (λ (x : Outcome). x.opening) e) ∙ z in
+    let opened : open_code q f t ≡ 0 =
+    sym (opening_checked q f t) ∙ sym (ap (λ (x : Outcome). code x.opening) e) ∙ z in
     let session : r.session ≡ settled_session q f t = ap (λ (x : Outcome). x.session) e in
     subst (λ (x : Session). (lent_table x f.numbers ≡ f) × (lent_table x t.numbers ≡ t)) (sym session)
     (settled_again q f t opened)

@@ -3,38 +3,49 @@
 #![tactic(auto)]
 
 ghost use Rattle.std.specs.Prelude.{◌≡◌, [], ◌∷◌};
-ghost use Rattle.rules.specs.Numbers.{said, refusal, short_slice, first, unless};
+ghost use Rattle.rules.specs.Numbers.{said, refusal, short_slice, first, unless, code};
+ghost use Rattle.outcomes.specs.Checked.{checked};
 
-use rules::{Answer, Pair, Query, Session};
+use codes::unless;
+use rules::{Answer, Pair, Query, Refusal, Session};
 
-// The refusal's number that goes with an answer; 0 where none does.
-pub fn refusal(a: Answer) -> u32
-    ensures { result ≡ refusal (said a) }
+// Whether an answer is a refusal, and which.
+pub fn check_answer(a: Answer) -> Result<(), Refusal>
+    ensures code { code result ≡ refusal (said a) }
+    ensures check { result ≡ checked a }
 {
     match a {
-        Answer::Refused(n) => n,
-        _ => 0,
+        Answer::Refused(refusal) => Err(refusal),
+        _ => Ok(()),
     }
 }
 
 // What a query is refused by, of what its opening and its reading were: before them, a query's numbers may not all be
 // there; behind them, the place for the answer may be too short.
-pub fn asked_code(there: bool, opening: u32, reading: u32, room: bool) -> u32
-    ensures { result ≡ first (unless there short_slice ∷ opening ∷ reading ∷ unless room short_slice ∷ []) }
+#[tactic(auto, using(codes::specs::Steps::passed, codes::specs::Steps::stopped))]
+pub fn check_asked(
+    there: bool,
+    opening: Result<(), Refusal>,
+    reading: Result<(), Refusal>,
+    room: bool,
+) -> Result<(), Refusal>
+    ensures { code result
+        ≡ first (unless there short_slice ∷ code opening ∷ code reading ∷ unless room short_slice ∷ []) }
 {
-    let seen = codes::unless(there, rules::SHORT_SLICE);
-    let last = codes::unless(room, rules::SHORT_SLICE);
-    codes::first(seen, codes::first(opening, codes::first(reading, last)))
+    unless(there, Refusal::ShortSlice)?;
+    opening?;
+    reading?;
+    unless(room, Refusal::ShortSlice)
 }
 
-// A record of which no read reads a block more, and what the read that did not is refused by; 0 where it is settled.
+// A record of which no read reads a block more, and what the read that did not is refused by, unless it is settled.
 #[derive(Clone, Copy)]
 pub struct ReadEnd {
-    pub code: u32,
+    pub end: Result<(), Refusal>,
     pub session: Session,
 }
 
-// Pairs, from the front, in a record's 64 places, and how many they are.
+// Pairs, from the front, in a record's 64 places, and how many they are. Fixed memory: no list.
 #[derive(Clone, Copy)]
 pub struct TakenOut {
     pub pairs: [Pair; rules::PLACES],
@@ -45,12 +56,12 @@ pub struct TakenOut {
 #[derive(Clone, Copy)]
 pub struct Outcome {
     pub query: Query,
-    // What the opening is refused by, and what the last read is; 0 where neither is.
-    pub opening: u32,
-    pub reading: u32,
+    // What the opening is refused by, and what the last read is.
+    pub opening: Result<(), Refusal>,
+    pub reading: Result<(), Refusal>,
     // The record when its reading ended.
     pub session: Session,
-    // The list, from the front, and how many pairs it has.
+    // The list, from the front, and how many pairs it has, in fixed memory.
     pub pairs: [Pair; rules::PLACES],
     pub count: usize,
 }

@@ -8,6 +8,7 @@ use lib.Dec.{eqb, leb}
 use lib.ListN.{length, take, drop, get_or, drop_of_length-le}
 use lib.Seq.{drop-cons}
 use borrow.Author.Tests.{le-leb, lt-leb, ne_eqb}
+use Rattle.lists.specs.Bools.{and_left, and_right}
 use Rattle.lists.specs.Lists.{every, ranked}
 use Rattle.rules.specs.declared.Counts.{Counts}
 use Rattle.rules.specs.declared.Pair.{Pair}
@@ -18,7 +19,8 @@ use Rattle.rules.specs.Read.{block_count}
 use Rattle.rules.specs.Calls.{is_card, query_code, counts_fit, pair_fits, mark_fits, is_zeros, depths_fit, record_fits}
 use Rattle.depth_checks.specs.Grounds.{mark_of, depths_of}
 use Rattle.number_checks.specs.Grounds.{numbers_fit}
-use Rattle.pair_checks.specs.Grounds.{pair_within, place_fits, places_from}
+use Rattle.session_laws.specs.Record.{counts_out}
+use Rattle.pair_checks.specs.Grounds.{pair_within, place_fits, places_from, pairs_fit, Shallow}
 
 module _ (depth : Counts) where
   -- behind those held all are zeros
@@ -100,8 +102,7 @@ order true true true true true true false z j = refl
 
 pub answer : (s : Session)
     → record_fits s
-    ≡ numbers_fit s.query s.rows s.depth s.last s.out s.held s.joined && places_from 0 s.held
-    s.depth no_pair s.pairs
+    ≡ numbers_fit s.query s.rows s.depth s.last s.out s.held s.joined && pairs_fit s.pairs s.held s.depth
 unfolding record_fits pair_fits pair_within mark_fits mark_of depths_fit depths_of numbers_fit
 answer s =
     order (eqb (query_code s.query) 0)
@@ -115,3 +116,15 @@ answer s =
     && (is_card s.rows.card && depths_fit s))
     ∙ ap (λ (x : Bool). numbers_fit s.query s.rows s.depth s.last s.out s.held s.joined && x)
     (sym (places_are s.depth s.held no_pair s.pairs))
+
+-- the numbers fit: no row is beyond 65,535
+pub numbers_shallow : (s : Session) → numbers_fit s.query s.rows s.depth s.last s.out s.held s.joined ≡ true
+    → Shallow s.depth
+unfolding numbers_fit
+numbers_shallow s h =
+    let x = counts_fit s.query.block s.rows.field.0 s.depth.field.0 in
+    let y = counts_fit s.query.block s.rows.trim.0 s.depth.trim.0 in
+    let counts = and_right (eqb (query_code s.query) 0) _ h in
+    let f = counts_out s.query.block s.rows.field.0 s.depth.field.0 (and_left x _ counts) in
+    let t = counts_out s.query.block s.rows.trim.0 s.depth.trim.0 (and_left y _ (and_right x _ counts)) in
+    record { field = omega (arith, f.few, f.within); trim = omega (arith, t.few, t.within) }

@@ -1,30 +1,29 @@
 -- A place that fits, by its key. Assumes nothing.
-use mathlib.Core.Path.{◌≡◌, refl, sym, ap, ◌∙◌}
-use mathlib.Core.Bool.{Bool, true, false, cond, not, ◌&&◌, ◌||◌}
+use mathlib.Core.Path.{◌≡◌, sym, ap, ◌∙◌}
+use mathlib.Core.Bool.{Bool, true, false, cond, ◌&&◌, ◌||◌}
 use mathlib.Core.Logic.{◌⊎◌, ⊎_elim}
 use Prim.Native.Nat.{ℕ, ◌≤◌, ◌<◌}
 use native.Mathlib.Omega.{arith}
 use lib.Dec.{eqb, leb, ltb}
-use borrow.Author.Tests.{leb-true, leb-false, lt-leb, lt-ltb, eq-eqb, ne_eqb}
+use borrow.Author.Tests.{leb-true, le-leb, lt-leb, lt-ltb, eq-eqb, ne_eqb}
 use Rattle.rules.specs.declared.Counts.{Counts}
 use Rattle.rules.specs.declared.Pair.{Pair}
 use Rattle.rules.specs.Tables.{ahead}
 use Rattle.rules.specs.Calls.{between, most_sum, is_zeros}
 use Rattle.lists.specs.Bools.{and_left, and_right}
-use Rattle.lists.specs.Bools.{clash}
 use Rattle.keys.specs.Held.{key_of, Narrow}
 use Rattle.keys.specs.Keys.{key_order}
-use Rattle.pair_checks.specs.Grounds.{pair_within, place_fits, Shallow, place_key}
+use Rattle.pair_checks.specs.Grounds.{pair_within, place_fits, Shallow}
 
 -- `before` is the key before place i, where b stands: 0 before the first
 abbrev pub Behind : ℕ → ℕ → Pair → Type 0
 Behind i before b = ((i ≡ 0) × (before ≡ 0)) ⊎ ((0 < i) × (before ≡ key_of b) × Narrow b)
 
-module _ (depth : Counts) (d : Shallow depth) (p : Pair) where
+module _ (depth : Counts) (p : Pair) where
   -- a pair that fits has a key, and it is not 0
-  pub within_narrow : pair_within depth p ≡ true → Narrow p × (p.sum ≤ most_sum)
+  pub within_narrow : Shallow depth → pair_within depth p ≡ true → Narrow p × (p.sum ≤ most_sum)
   unfolding pair_within
-  within_narrow w =
+  within_narrow d w =
       let x = between 1 depth.field.0 p.field in
       let y = between 1 depth.trim.0 p.trim in
       let rest = and_right x _ w in
@@ -37,55 +36,35 @@ module _ (depth : Counts) (d : Shallow depth) (p : Pair) where
   unfolding key_of
   key_some h = omega arith
 
-  module _ (i n before : ℕ) (b : Pair) where
-    no_zeros : (z : Bool) → eqb (cond z 1 0) 0 ≡ not z
-    no_zeros true = refl
-    no_zeros false = refl
+  module _ (i n : ℕ) (b : Pair) where
+    -- a place beyond those held fits where it has none
+    pub free_place : n ≤ i → place_fits i n depth b p ≡ is_zeros p
+    unfolding place_fits
+    free_place h =
+        ap (λ (t : Bool). cond t (is_zeros p) (pair_within depth p && (eqb i 0 || ahead b p))) (le-leb n i h)
 
-    chosen : (c : Bool) → 0 < key_of p → eqb (cond c (key_of p) 0) 0 ≡ not c
-    chosen true h = ne_eqb (key_of p) 0 (omega arith)
-    chosen false h = refl
+    held_place : i < n → (w : Bool) → pair_within depth p ≡ w
+        → place_fits i n depth b p ≡ w && (eqb i 0 || ahead b p)
+    unfolding place_fits
+    held_place h w e =
+        ap (λ (t : Bool). cond t (is_zeros p) (pair_within depth p && (eqb i 0 || ahead b p))) (lt-leb n i h)
+        ∙ ap (λ (t : Bool). t && (eqb i 0 || ahead b p)) e
 
-    order : Behind i before b → Narrow p → 0 < key_of p → ltb before (key_of p) ≡ (eqb i 0 || ahead b p)
-    order h narrow some =
-        ⊎_elim
-        (λ e. lt-ltb before (key_of p) (omega (arith, e.1)) ∙ sym
+    pub place_unfit : i < n → pair_within depth p ≡ false → place_fits i n depth b p ≡ false
+    place_unfit h w = held_place h false w
+
+    -- a pair that fits has a place behind the one before it, if its key is the higher one
+    pub place_ranked : (before : ℕ) → i < n → Shallow depth → pair_within depth p ≡ true → Behind i before b
+        → place_fits i n depth b p ≡ ltb before (key_of p)
+    place_ranked before h d w behind =
+        let k = within_narrow d w in
+        held_place h true w
+        ∙ sym
+        (⊎_elim
+        (λ e. lt-ltb before (key_of p) (omega (arith, e.1, key_some k.1)) ∙ sym
         (ap (λ (t : Bool). t || ahead b p) (eq-eqb i 0 e.0)))
         (λ e.
         ap (λ (k : ℕ). ltb k (key_of p)) e.1
-        ∙ key_order b p e.2 narrow
+        ∙ key_order b p e.2 k.0
         ∙ sym (ap (λ (t : Bool). t || ahead b p) (ne_eqb i 0 (omega (arith, e.0)))))
-        h
-
-    held_place : (w : Bool) → pair_within depth p ≡ w → Behind i before b →
-        eqb (cond w (cond (ltb before (key_of p)) (key_of p) 0) 0) 0 ≡ not (w && (eqb i 0 || ahead b p))
-    held_place false e h = refl
-    held_place true e h =
-        let q = within_narrow e in
-        let some = key_some q.1 in
-        chosen (ltb before (key_of p)) some ∙ ap not (order h q.0 some)
-
-    -- a place has no key where it does not fit
-    pub key_fits : (i < n → Behind i before b) → eqb (place_key i n depth before p) 0 ≡ not (place_fits i n depth b p)
-    unfolding place_key place_fits
-    key_fits h = go (leb n i) refl
-      where
-        go : (t : Bool) → leb n i ≡ t
-            → eqb (cond t (cond (is_zeros p) 1 0)
-            (cond (pair_within depth p) (cond (ltb before (key_of p)) (key_of p) 0) 0)) 0
-            ≡ not (cond t (is_zeros p) (pair_within depth p && (eqb i 0 || ahead b p)))
-        go true e = no_zeros (is_zeros p)
-        go false e = held_place (pair_within depth p) refl (h (leb-false n i e))
-
-    -- a held place that fits has its pair's key
-    pub key_is : i < n → (place_key i n depth before p ≡ 0 → ⊥) → (place_key i n depth before p ≡ key_of p) × Narrow p
-    unfolding place_key
-    key_is h some = go (leb n i) (lt-leb n i h) (pair_within depth p) refl (ltb before (key_of p)) some
-      where
-        go : (t : Bool) → t ≡ false → (w : Bool) → pair_within depth p ≡ w → (c : Bool)
-            → (cond t (cond (is_zeros p) 1 0) (cond w (cond c (key_of p) 0) 0) ≡ 0 → ⊥)
-            → (cond t (cond (is_zeros p) 1 0) (cond w (cond c (key_of p) 0) 0) ≡ key_of p) × Narrow p
-        go true e w f c some = clash refl e
-        go false e true f true some = (refl, (within_narrow f).0)
-        go false e true f false some = absurd (some refl)
-        go false e false f c some = absurd (some refl)
+        behind)

@@ -1,11 +1,11 @@
 -- Grounds of 5 that look at the pair places, over the numbers that they look at and not the whole record. Assumes
 -- nothing.
-use Rattle.std.specs.Prelude.{ℕ, suc, ◌≤◌, Bool, true, cond, ◌&&◌, ◌||◌, List, [], ◌∷◌, leb, ltb, eqb}
+use Rattle.std.specs.Prelude.{ℕ, suc, ◌≤◌, Bool, true, cond, ◌&&◌, ◌||◌, List, [], ◌∷◌, leb, eqb}
 use Rattle.rules.specs.declared.Counts.{Counts}
 use Rattle.rules.specs.declared.Pair.{Pair}
 use Rattle.rules.specs.Tables.{most_rows, ahead}
 use Rattle.rules.specs.Calls.{most_sum, between, is_zeros}
-use Rattle.keys.specs.Held.{key_of}
+use Rattle.rules.specs.Session.{no_pair}
 
 -- `pair_fits` of the two depths
 unfoldable pub pair_within : Counts → Pair → Bool
@@ -21,12 +21,11 @@ pub record Shallow (depth : Counts) : Type 0 where
   pub field : depth.field.0 ≤ most_rows
   pub trim : depth.trim.0 ≤ most_rows
 
--- the same by keys, `before` being the key before: the pair's key, or 1 for zeros; 0 where the place does not fit
-unfoldable pub place_key : ℕ → ℕ → Counts → ℕ → Pair → ℕ
-place_key i n depth before p =
-    cond (leb n i) (cond (is_zeros p) 1 0) (cond (pair_within depth p) (cond (ltb before (key_of p)) (key_of p) 0) 0)
-
 -- the places from place i on
 unfoldable pub places_from : ℕ → ℕ → Counts → Pair → List Pair → Bool
 places_from i n depth before [] = true
 places_from i n depth before (p ∷ l) = place_fits i n depth before p && places_from (suc i) n depth p l
+
+-- all places, of which the first n are held
+abbrev pub pairs_fit : List Pair → ℕ → Counts → Bool
+pairs_fit pairs n depth = places_from 0 n depth no_pair pairs

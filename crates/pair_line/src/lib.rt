@@ -26,6 +26,7 @@ pub struct Line {
 }
 
 // Two numbers of one width, one behind the other.
+#[tactic(auto, using(printing::specs::Numbers::and_then))]
 fn put_two(out: &mut [u8], at: usize, width: usize, x: u64, y: u64)
     requires { at + (width + width) ≤ length out.old }
     ensures { out.new ≡ put_at at (decimal width x ++ decimal width y) out.old }
@@ -35,14 +36,15 @@ fn put_two(out: &mut [u8], at: usize, width: usize, x: u64, y: u64)
 }
 
 // A pair's line: the distance by its root and rest.
+#[tactic(auto, using(crate::specs::Line::and_two), unfolding(crate::specs::Line::line_bytes))]
 pub fn put_line(out: &mut [u8], at: usize, line: Line)
     requires { at + line_length ≤ length out.old }
     ensures { out.new ≡ put_at at (line_bytes line) out.old }
 {
     let b = at + 12;
     let c = b + 12;
-    put_two(out, at, 6, line.rank as u64, line.sum as u64);
-    put_two(out, b, 6, line.field as u64, line.trim as u64);
+    put_two(out, at, 6, u64::from(line.rank), u64::from(line.sum));
+    put_two(out, b, 6, u64::from(line.field), u64::from(line.trim));
     put_two(out, c, 8, line.root, line.rest);
     put_feed(out, c + 16);
 }

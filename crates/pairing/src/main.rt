@@ -24,6 +24,7 @@ fn read_full<R: Read>(from: &mut R, buf: &mut [u8]) -> usize
     ensures { IsPrefixLen result buf.new }
 {
     let mut done = 0;
+    // a read gives as many bytes as it has: no index is counted
     while done < buf.len() {
         let n = read_some(from, &mut buf[done..]);
         if n == 0 {
@@ -44,7 +45,7 @@ fn read_file<R: Files>(rt: &R, path: &str, buf: &mut [u8]) -> usize
     }
 }
 
-// One byte more is read of a file and of the input than is allowed, so that one too long is seen.
+// One byte more is read of a file and of the input than is allowed, so that one too long is seen. All in fixed memory.
 fn main(rt: HostRuntime) -> io::Result<()> {
     let mut field = [0u8; program_sizes::FILE_ROOM];
     let m = read_file(&rt, "FIELD.TAB", &mut field);

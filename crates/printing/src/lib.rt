@@ -8,6 +8,7 @@ ghost use Rattle.printing.specs.Put.{put_at};
 ghost use Rattle.printing.specs.Numbers.{last_column};
 
 // The last column of what is left of a number: its last digit, or a blank once all are written.
+#[tactic(auto, unfolding(crate::specs::Numbers::last_column))]
 fn last_column(more: bool, n: u64) -> u8
     ensures { result ≡ last_column more n }
 {
@@ -17,23 +18,23 @@ fn last_column(more: bool, n: u64) -> u8
     b' '
 }
 
-// A number right-justified in `width` columns, from its last digit on.
+// A number right-justified in `width` columns, from its last digit on. By hand, since it is cut to its columns:
+// `write!` pads, and never cuts.
 pub fn put_number(out: &mut [u8], at: usize, width: usize, n: u64)
     requires { at + width ≤ length out.old }
     ensures { out.new ≡ put_at at (decimal width n) out.old }
 {
     let mut more = true;
     let mut rest = n;
-    let mut w = width;
-    while 0 < w {
-        w -= 1;
+    for w in (0..width).rev() {
         out[at + w] = last_column(more, rest);
-        more = more & !(rest < 10);
-        rest = rest / 10;
+        more &= !(rest < 10);
+        rest /= 10;
     }
 }
 
 // The end of a line.
+#[tactic(auto, using(crate::specs::Put::put_one))]
 pub fn put_feed(out: &mut [u8], at: usize)
     requires { at < length out.old }
     ensures { out.new ≡ put_at at (line_feed ∷ []) out.old }

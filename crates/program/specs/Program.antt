@@ -1,12 +1,14 @@
 -- What the program's steps answer, one by one, by the rules' "One whole query"; that they come to the whole.
 -- Assumes nothing.
 use Rattle.std.specs.Prelude.{◌≡◌, refl, Bool, true, false, cond, List, [], ◌∷◌, ℕ, ◌≤◌, eqb, length}
+use Rattle.std.specs.Prelude.{Result, MatchResult}
 use Rattle.std.proofs.Common.{ap, ◌∙◌, ne_eqb}
 use Rattle.std.proofs.lemmas.Bool.{eqb-false}
 use Rattle.lists.specs.Bools.{clash}
 use Rattle.rules.specs.declared.Query.{Query}
 use Rattle.rules.specs.Tables.{Table}
-use Rattle.rules.specs.Numbers.{first}
+use Rattle.rules.specs.declared.Refusal.{Refusal}
+use Rattle.rules.specs.Numbers.{first, number_of}
 use Rattle.rules.specs.Calls.{open_code}
 use Rattle.rules.specs.Query.{listing, program_file_code, input_code, input_query, field_file_kind, trim_file_kind}
 use Rattle.rules.specs.Query.{field_file_table, trim_file_table}
@@ -19,6 +21,16 @@ pub record Written (bytes before after : List ℕ) (n : ℕ) : Type 0 where
   pub count : n ≡ length bytes
   pub short : n ≤ listing_room
   pub front : after ≡ put_at 0 bytes before
+
+-- what a step answers: how many bytes it wrote from the front, where this code is 0; else what the code refuses by, and
+-- nothing is written
+abbrev pub Gives : ℕ → List ℕ → List ℕ → List ℕ → Result ℕ Refusal → Type 0
+Gives code bytes before after r =
+    MatchResult r (λ n. (code ≡ 0) × Written bytes before after n) (λ e. (number_of e ≡ code) × (after ≡ before))
+
+-- the checks of the input and of the opening that it asks for
+abbrev pub input_and_opening : List ℕ → Table → Table → ℕ
+input_and_opening input f t = first (input_code input ∷ open_code (input_query input) f t ∷ [])
 
 -- the line of a refusal, or what is printed where there is none
 unfoldable pub or_refusal : ℕ → List ℕ → List ℕ

@@ -1,53 +1,46 @@
 -- Reading the input, and what it comes to. Assumes nothing.
-use mathlib.Core.Path.{◌≡◌, sym, ap, ◌∙◌}
-use mathlib.Core.Bool.{true, false, ◌&&◌}
-use mathlib.Core.List.{List, [], ◌∷◌}
-use Prim.Native.Nat.{ℕ}
-use lib.Dec.{eqb}
-use lib.IntN.{ℤ}
-use lib.ListN.{length}
-use Rattle.lists.specs.Bools.{all_out}
-use Rattle.rules.specs.declared.Query.{Query}
+use Rattle.std.proofs.Common.{◌≡◌, true, false, List, ℕ, ℤ, length, Some, None, Ok, Err}
+use Rattle.std.proofs.Common.{eq-eqb, ne_eqb}
+use Rattle.std.proofs.Math.Bool.{and-false}
+use Rattle.rules.specs.declared.Refusal.TheVariants.{CutFile, BadColumn}
 use Rattle.rules.specs.Tables.{nat_of}
-use Rattle.rules.specs.Numbers.{bad_column}
-use Rattle.rules.specs.File.{columns, column_fits, column_number, ends_line}
+use Rattle.rules.specs.File.{columns, ends_line}
 use Rattle.rules.specs.Query.{input_length, input_fits, input_code, input_query}
-use Rattle.column.specs.declared.Column.{Column}
-use Rattle.column.specs.Column.{column_held, number_held_lem}
-use Rattle.program_input.specs.declared.Input.{Input}
+use Rattle.column.specs.Column.{column_held, held_some, held_none}
 use Rattle.program_input.specs.Given.{evenly, input_held}
 
-module _ (input : List ℕ) (k b r : Column) (ek : k ≡ column_held false (columns input 0 6))
-    (eb : b ≡ column_held false (columns input 6 6)) (er : r ≡ column_held false (columns input 12 6))
-    (size : eqb (length input) input_length ≡ true) where
-  fits_is : (k.fits && (b.fits && (r.fits && ends_line input 18))) ≡ input_fits input
-  unfolding column_held
-  fits_is = simp (ek, eb, er)
-
-  number_is : (c : Column) (o : ℕ) → c ≡ column_held false (columns input o 6) →
-      column_fits false (columns input o 6) ≡ true → nat_of c.number ≡ nat_of (column_number false (columns input o 6))
-  number_is c o e h =
-      ap (λ (x : Column). nat_of x.number) e ∙ ap (λ (z : ℤ). nat_of z) (number_held_lem false (columns input o 6) h)
-
-  pub input_bad : (k.fits && (b.fits && (r.fits && ends_line input 18))) ≡ false →
-      ◌≡◌ {A = Input} (record { code = bad_column; query = evenly 0 0 0 0 }) (input_held input)
+module _ (input : List ℕ) where
+  pub cut_held : (length input ≡ input_length → ⊥) → Err CutFile ≡ input_held input
   unfolding input_held input_code
-  input_bad h = simp (size, sym fits_is ∙ h)
+  cut_held h = rw (ne_eqb (length input) input_length h)
 
-  pub input_good : (k.fits && (b.fits && (r.fits && ends_line input 18))) ≡ true →
-      (let query : Query = evenly (nat_of k.number) (nat_of b.number) (nat_of r.number) 1 in
-      ◌≡◌ {A = Input} (record { code = 0; query = query }) (input_held input))
-  unfolding input_held input_code input_query
-  input_good h =
-      let fits : input_fits input ≡ true = sym fits_is ∙ h in
-      let f = column_fits false (columns input 0 6) in
-      let g = column_fits false (columns input 6 6) in
-      let i = column_fits false (columns input 12 6) in
-      let each = all_out (f ∷ g ∷ i ∷ ends_line input 18 ∷ []) fits in
-      simp (
-        size,
-        fits,
-        number_is k 0 ek (each 0),
-        number_is b 6 eb (each 1),
-        number_is r 12 er (each 2),
-      )
+  -- input of the right length, of which one column is formed otherwise, or its end
+  module _ (size : length input ≡ input_length) where
+    bad_held : input_fits input ≡ false → Err BadColumn ≡ input_held input
+    unfolding input_held input_code
+    bad_held h = rw (eq-eqb (length input) input_length size, h)
+
+    pub k_none : column_held false (columns input 0 6) ≡ None → Err BadColumn ≡ input_held input
+    k_none h = bad_held (rw (held_none false (columns input 0 6) h))
+
+    pub block_none : column_held false (columns input 6 6) ≡ None → Err BadColumn ≡ input_held input
+    block_none h = bad_held (simp (held_none false (columns input 6 6) h, and-false))
+
+    pub radius_none : column_held false (columns input 12 6) ≡ None → Err BadColumn ≡ input_held input
+    radius_none h = bad_held (simp (held_none false (columns input 12 6) h, and-false))
+
+    pub end_none : ends_line input 18 ≡ false → Err BadColumn ≡ input_held input
+    end_none h = bad_held (simp (h, and-false))
+
+    -- the query that it asks
+    pub query_held : (k b r : ℤ) → column_held false (columns input 0 6) ≡ Some k
+        → column_held false (columns input 6 6) ≡ Some b → column_held false (columns input 12 6) ≡ Some r
+        → ends_line input 18 ≡ true → Ok (evenly (nat_of k) (nat_of b) (nat_of r) 1) ≡ input_held input
+    unfolding input_held input_code input_query
+    query_held k b r ek eb er e =
+        let x = held_some false (columns input 0 6) k ek in
+        let y = held_some false (columns input 6 6) b eb in
+        let z = held_some false (columns input 12 6) r er in
+        simp (eq-eqb (length input) input_length size, x.0, x.1, y.0, y.1, z.0, z.1, e)
+
+pub ruleset read_steps = (cut_held, k_none, block_none, radius_none, end_none, query_held)

@@ -4,9 +4,12 @@
 ghost use Rattle.std.specs.Prelude.{◌≡◌};
 ghost use Rattle.program_input.specs.Given.{evenly, input_held};
 
+use column::column_at;
 use rules::{
-    FieldTolerance, FieldWeight, Meaning, Query, Tolerances, TrimTolerance, TrimWeight, Weights,
+    FieldTolerance, FieldWeight, Meaning, Query, Refusal, Tolerances, TrimTolerance, TrimWeight,
+    Weights,
 };
+use tables::natural;
 
 // A query of one weight for both tables, and no tolerance.
 fn evenly(k: u32, block: u32, radius: u32, weight: u32) -> Query
@@ -30,35 +33,19 @@ fn evenly(k: u32, block: u32, radius: u32, weight: u32) -> Query
     }
 }
 
-// What standard input asks for: the refusal's number, or 0 and the query, of weights 1 and 1.
-#[derive(Clone, Copy)]
-pub struct Input {
-    pub code: u32,
-    pub query: Query,
-}
-
-pub fn read_input(input: &[u8]) -> Input
+// What standard input asks for, of weights 1 and 1; or the refusal.
+#[tactic(auto, using(crate::proofs::Steps::read_steps))]
+pub fn read_input(input: &[u8]) -> Result<Query, Refusal>
     ensures { result ≡ input_held input.now }
 {
-    let none = evenly(0, 0, 0, 0);
     if input.len() != rules::INPUT_LENGTH {
-        return Input {
-            code: rules::CUT_FILE,
-            query: none,
-        };
+        return Err(Refusal::CutFile);
     }
-    let k = column::column_at(input, 0, 6, false);
-    let block = column::column_at(input, 6, 6, false);
-    let radius = column::column_at(input, 12, 6, false);
-    if !(k.fits & (block.fits & (radius.fits & (input[18] == b'\n')))) {
-        return Input {
-            code: rules::BAD_COLUMN,
-            query: none,
-        };
+    let k = column_at(input, 0, 6, false).ok_or(Refusal::BadColumn)?;
+    let block = column_at(input, 6, 6, false).ok_or(Refusal::BadColumn)?;
+    let radius = column_at(input, 12, 6, false).ok_or(Refusal::BadColumn)?;
+    if input[18] != b'\n' {
+        return Err(Refusal::BadColumn);
     }
-    let length = tables::natural(k.number);
-    let size = tables::natural(block.number);
-    let far = tables::natural(radius.number);
-    let query = evenly(length, size, far, 1);
-    Input { code: 0, query }
+    Ok(evenly(natural(k), natural(block), natural(radius), 1))
 }

@@ -6,8 +6,8 @@ use Rattle.lists.specs.Lists.{best}
 use Rattle.lists.specs.Words.{Distinct}
 use Rattle.rules.specs.declared.FieldRows.{FieldRows}
 use Rattle.rules.specs.declared.TrimRows.{TrimRows}
-use Rattle.rules.specs.declared.Loaded.{Loaded}
-use Rattle.rules.specs.declared.Loaded.TheVariants.{Rows, Unfit}
+use Rattle.std.specs.Prelude.{Ok, Err}
+use Rattle.rules.specs.Numbers.{Loaded}
 use Rattle.rules.specs.declared.Pair.{Pair}
 use Rattle.rules.specs.declared.Query.{Query}
 use Rattle.rules.specs.Tables.{Table, kind_coordinates, legal}
@@ -77,11 +77,11 @@ file_legal bytes kind h = go (check_file bytes (pos kind)) refl
     passed = first_out (size ∷ refusal (said_of (check_file bytes (pos kind))) ∷ []) h 1
 
     go : (x : Loaded) → check_file bytes (pos kind) ≡ x → legal (table_of kind bytes) ≡ true
-    go (Rows n) e =
+    go (Ok n) e =
         ap (λ (k : ℕ). legal (file_table (kind_coordinates kind) bytes k)) (accepted bytes (pos kind) n e).count
         ∙ accepted_legal bytes (pos kind) n e
-    go (Unfit code row) e =
-        absurd (file_numbered bytes (pos kind) code row e (ap (λ (x : Loaded). refusal (said_of x)) (sym e) ∙ passed))
+    go (Err u) e =
+        absurd (file_numbered bytes (pos kind) u e (ap (λ (x : Loaded). refusal (said_of x)) (sym e) ∙ passed))
 
 -- accepted input
 pub whole_query_lem : (field trim input : List ℕ) → whole_query_code field trim input ≡ 0 → Whole field trim input

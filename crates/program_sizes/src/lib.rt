@@ -1,5 +1,5 @@
 // How long what the pairing program is given may be: room for a file, its table and the input; and a file's most bytes,
-// by the kind that it is read as.
+// by the kind that it is read as. All of it is fixed memory.
 #![tactic(auto)]
 
 ghost use Rattle.std.specs.Prelude.{◌≡◌, ◌+◌};
@@ -19,6 +19,7 @@ pub const FILE_ROOM: usize = rules::HEADER_BYTES + ROW_BYTES * rules::PROGRAM_RO
 
 pub const INPUT_ROOM: usize = rules::INPUT_LENGTH + 1;
 
+#[tactic(auto, unfolding(rules::specs::File::row_bytes, rules::specs::File::column_start))]
 pub fn file_room() -> usize
     ensures { result ≡ most_file_bytes (coordinates New) + 1 }
 {
@@ -41,6 +42,7 @@ pub fn table_room() -> usize
 }
 
 // How many bytes a file of 512 rows has that is read as this kind.
+#[tactic(auto, using(file_laws::specs::Kinds::row_short))]
 pub fn most_bytes(kind: i32) -> usize
     ensures { result ≡ most_file_bytes (wanted kind) }
 {

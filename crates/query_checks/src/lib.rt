@@ -2,38 +2,38 @@
 #![tactic(auto)]
 
 ghost use Rattle.std.specs.Prelude.{◌≡◌, leb};
-ghost use Rattle.rules.specs.Numbers.{weight_range, tolerance_range, unless};
+ghost use Rattle.rules.specs.Numbers.{weight_range, tolerance_range, unless, code};
 ghost use Rattle.rules.specs.Calls.{between, most_tolerance, query_code};
 
-use rules::Query;
+use codes::{first, unless};
+use rules::{Query, Refusal};
 
 // 12 where a weight is outside 1 to 9.
-fn weight_code(weight: u32) -> u32
-    ensures { result ≡ unless (between 1 9 weight) weight_range }
+fn check_weight(weight: u32) -> Result<(), Refusal>
+    ensures { code result ≡ unless (between 1 9 weight) weight_range }
 {
-    codes::unless((1 <= weight) & (weight <= 9), rules::WEIGHT_RANGE)
+    unless((1 <= weight) & (weight <= 9), Refusal::WeightRange)
 }
 
 // 16 where a tolerance is outside 0 to 500.
-fn tolerance_code(tolerance: u32) -> u32
-    ensures { result ≡ unless (leb tolerance most_tolerance) tolerance_range }
+fn check_tolerance(tolerance: u32) -> Result<(), Refusal>
+    ensures { code result ≡ unless (leb tolerance most_tolerance) tolerance_range }
 {
-    codes::unless(tolerance <= rules::MOST_TOLERANCE, rules::TOLERANCE_RANGE)
+    unless(tolerance <= rules::MOST_TOLERANCE, Refusal::ToleranceRange)
 }
 
-// What a query is refused by, 1, 2, 3, then 12 of either weight and 16 of either tolerance; 0 where it is not.
-pub fn query_code(q: Query) -> u32
-    ensures { result ≡ query_code q }
+// What a query is refused by: 1, 2, 3, then 12 of either weight and 16 of either tolerance.
+#[tactic(auto, using(crate::proofs::Checks::steps), unfolding(rules::specs::Calls::query_code))]
+pub fn check_query(q: Query) -> Result<(), Refusal>
+    ensures { code result ≡ query_code q }
 {
-    let length = codes::unless((1 <= q.k) & (q.k <= 64), rules::LIST_LENGTH);
-    let block = codes::unless((1 <= q.block) & (q.block <= 1024), rules::BLOCK_SIZE);
-    let radius = codes::unless(q.radius <= 40000, rules::RADIUS_RANGE);
-    let field = weight_code(q.weights.field.0);
-    let trim = weight_code(q.weights.trim.0);
-    let tolerances = codes::first(
-        tolerance_code(q.tolerances.field.0),
-        tolerance_code(q.tolerances.trim.0),
-    );
-    let weights = codes::first(field, codes::first(trim, tolerances));
-    codes::first(length, codes::first(block, codes::first(radius, weights)))
+    unless((1 <= q.k) & (q.k <= 64), Refusal::ListLength)?;
+    unless((1 <= q.block) & (q.block <= 1024), Refusal::BlockSize)?;
+    unless(q.radius <= 40000, Refusal::RadiusRange)?;
+    check_weight(q.weights.field.0)?;
+    check_weight(q.weights.trim.0)?;
+    first(
+        check_tolerance(q.tolerances.field.0),
+        check_tolerance(q.tolerances.trim.0),
+    )
 }

@@ -1,13 +1,12 @@
 // The answer of a whole query as numbers, written into a lent slice.
 #![tactic(auto)]
 
-ghost use Rattle.std.specs.Prelude.{◌≡◌, [], ◌∷◌, ◌+◌, ◌*◌, ◌≤◌, ◌<◌, length};
+ghost use Rattle.std.specs.Prelude.{◌≡◌, ◌+◌, ◌*◌, ◌≤◌, length};
 ghost use Rattle.rules.specs.Tables.{table};
 ghost use Rattle.rules.specs.Session.{place_count};
 ghost use Rattle.printing.specs.Put.{put_at};
 ghost use Rattle.outcomes.specs.Outcomes.{OutcomeOf};
 ghost use Rattle.listing.specs.Shown.{Shown};
-ghost use Rattle.query_numbers.specs.Answers.{pair_length, root_length, pair_numbers, root_numbers};
 ghost use Rattle.query_numbers.specs.Answers.{query_room, answered};
 ghost use Rattle.query_numbers.specs.Parts.{part_length, part_numbers, list_parts};
 
@@ -26,84 +25,61 @@ const ROOT_LENGTH: usize = 2;
 
 pub const ROOTS_ROOM: usize = ROOM + ROOT_LENGTH * rules::PLACES;
 
-fn put_one(out: &mut [u64], at: usize, n: u64)
-    requires { at < length out.old }
-    ensures { out.new ≡ put_at at (n ∷ []) out.old }
-{
-    out[at] = n;
+// What part of a pair is written: its numbers, or the root of its squared distance and the remainder.
+#[derive(Clone, Copy)]
+enum Part {
+    Numbers,
+    Roots,
 }
 
-// Three numbers.
-fn put_three(out: &mut [u64], at: usize, x: u64, y: u64, z: u64)
-    requires { at + 3 ≤ length out.old }
-    ensures { out.new ≡ put_at at (x ∷ y ∷ z ∷ []) out.old }
-{
-    let b = at + 1;
-    let c = b + 1;
-    put_one(out, at, x);
-    put_one(out, b, y);
-    put_one(out, c, z);
-}
-
-// A pair's numbers.
-fn put_pair(out: &mut [u64], at: usize, n: u32, f: &[i32], t: &[i32], p: Pair)
-    requires { (at + pair_length ≤ length out.old) × Shown (table n f.now) (table n t.now) p }
-    ensures { out.new ≡ put_at at (pair_numbers (table n f.now) (table n t.now) p)
-        out.old }
-{
-    let b = at + 3;
-    let line = listing::line_of(n, f, t, 0, p);
-    put_three(out, at, p.sum as u64, p.field as u64, p.trim as u64);
-    put_three(out, b, line.field as u64, line.trim as u64, line.distance);
-}
-
-// The root of its squared distance, and the remainder.
-fn put_root(out: &mut [u64], at: usize, n: u32, f: &[i32], t: &[i32], p: Pair)
-    requires { (at + root_length ≤ length out.old) × Shown (table n f.now) (table n t.now) p }
-    ensures { out.new ≡ put_at at (root_numbers (table n f.now) (table n t.now) p)
-        out.old }
-{
-    let b = at + 1;
-    let line = listing::line_of(n, f, t, 0, p);
-    put_one(out, at, line.root);
-    put_one(out, b, line.rest);
-}
-
-// The one or the other.
-fn put_part(roots: bool, out: &mut [u64], at: usize, n: u32, f: &[i32], t: &[i32], p: Pair)
-    requires { (at + part_length roots ≤ length out.old) × Shown (table n f.now) (table n t.now) p }
-    ensures { out.new
-        ≡ put_at at (part_numbers roots (table n f.now) (table n t.now) p) out.old }
-{
-    if roots {
-        put_root(out, at, n, f, t, p);
-    } else {
-        put_pair(out, at, n, f, t, p);
+impl Part {
+    // How many numbers it has.
+    fn length(self) -> usize
+        ensures { result ≡ part_length self }
+    {
+        match self {
+            Part::Numbers => PAIR_LENGTH,
+            Part::Roots => ROOT_LENGTH,
+        }
     }
 }
 
-// Those of all pairs of the list, from a place on, each `wide` numbers.
-fn put_parts(
-    roots: bool,
-    wide: usize,
-    out: &mut [u64],
-    at: usize,
-    n: u32,
-    f: &[i32],
-    t: &[i32],
-    run: Outcome,
-)
-    requires wide_value { (wide ≡ part_length roots) × (at + part_length roots * place_count ≤ length out.old) }
+// A part of one pair, from a place on.
+fn put_part(part: Part, out: &mut [u64], at: usize, n: u32, f: &[i32], t: &[i32], p: Pair)
+    requires { (at + part_length part ≤ length out.old) × Shown (table n f.now) (table n t.now) p }
+    ensures { out.new
+        ≡ put_at at (part_numbers part (table n f.now) (table n t.now) p) out.old }
+{
+    let line = listing::line_of(n, f, t, 0, p);
+    match part {
+        Part::Numbers => {
+            out[at..at + PAIR_LENGTH].copy_from_slice(&[
+                u64::from(p.sum),
+                u64::from(p.field),
+                u64::from(p.trim),
+                u64::from(line.field),
+                u64::from(line.trim),
+                line.distance,
+            ]);
+        }
+        Part::Roots => {
+            out[at..at + ROOT_LENGTH].copy_from_slice(&[line.root, line.rest]);
+        }
+    }
+}
+
+// The parts of all pairs of the list, from a place on.
+#[tactic(auto, using(listing::specs::ListShown::count_few))]
+fn put_parts(part: Part, out: &mut [u64], at: usize, n: u32, f: &[i32], t: &[i32], run: Outcome)
+    requires room { at + part_length part * place_count ≤ length out.old }
     requires outcome_of { OutcomeOf (table n f.now) (table n t.now) run }
     ensures { out.new
-        ≡ put_at at (list_parts roots run.query (table n f.now) (table n t.now))
+        ≡ put_at at (list_parts part run.query (table n f.now) (table n t.now))
         out.old }
 {
-    let mut i: usize = 0;
-    while i < run.count {
-        let p = run.pairs[i];
-        put_part(roots, out, at + wide * i, n, f, t, p);
-        i += 1;
+    let wide = part.length();
+    for i in 0..run.count {
+        put_part(part, out, at + wide * i, n, f, t, run.pairs[i]);
     }
 }
 
@@ -113,13 +89,14 @@ pub fn put_numbers(out: &mut [u64], n: u32, f: &[i32], t: &[i32], run: Outcome)
     ensures { out.new ≡ answered run.query (table n f.now) (table n t.now)
         out.old }
 {
-    let more = ROOTS_ROOM <= out.len();
-    let settled = run.session;
-    let field = settled.depth.field.0 as u64;
-    let trim = settled.depth.trim.0 as u64;
-    put_three(out, 0, field, trim, settled.joined);
-    put_parts(false, PAIR_LENGTH, out, HEAD_LENGTH, n, f, t, run);
-    if more {
-        put_parts(true, ROOT_LENGTH, out, ROOM, n, f, t, run);
+    let depth = run.session.depth;
+    out[..HEAD_LENGTH].copy_from_slice(&[
+        u64::from(depth.field.0),
+        u64::from(depth.trim.0),
+        run.session.joined,
+    ]);
+    put_parts(Part::Numbers, out, HEAD_LENGTH, n, f, t, run);
+    if ROOTS_ROOM <= out.len() {
+        put_parts(Part::Roots, out, ROOM, n, f, t, run);
     }
 }

@@ -2,7 +2,7 @@
 #![tactic(auto)]
 
 ghost use Rattle.std.specs.Prelude.{◌≡◌, get_or};
-ghost use Rattle.record_layout.specs.Flat.{meaning_of, query_with, query_in, kinds_in};
+ghost use Rattle.record_layout.specs.Flat.{query_with, query_in, kinds_in};
 
 use record_layout::{BLOCK_ROWS, K, RADIUS};
 use rules::{
@@ -29,23 +29,11 @@ const MEANING_IN_QUERY: usize = 9;
 fn number_or(l: &[u32], i: usize, otherwise: u32) -> u32
     ensures { result ≡ get_or l.now i otherwise }
 {
-    if i < l.len() {
-        return l[i];
-    }
-    otherwise
-}
-
-// The meaning that a number is.
-pub fn meaning_of(n: u32) -> Meaning
-    ensures { result ≡ meaning_of n }
-{
-    if n == 0 {
-        return Meaning::Possibly;
-    }
-    Meaning::Surely
+    l.get(i).copied().unwrap_or(otherwise)
 }
 
 // The query that the first three numbers are, with weights, tolerances and a meaning; a number that is not there is 0.
+#[tactic(auto, unfolding(record_layout::specs::Flat::query_with))]
 pub fn query_with(l: &[u32], weights: Weights, tolerances: Tolerances, meaning: Meaning) -> Query
     ensures { result ≡ query_with l.now weights tolerances meaning }
 {
@@ -60,6 +48,7 @@ pub fn query_with(l: &[u32], weights: Weights, tolerances: Tolerances, meaning: 
 }
 
 // A lent query; a weight that is not lent is 1, a tolerance and the meaning 0.
+#[tactic(auto, unfolding(record_layout::specs::Flat::query_in))]
 pub fn query_in(l: &[u32]) -> Query
     ensures { result ≡ query_in l.now }
 {
@@ -71,11 +60,12 @@ pub fn query_in(l: &[u32]) -> Query
         field: FieldTolerance(number_or(l, FIELD_TOLERANCE_IN_QUERY, 0)),
         trim: TrimTolerance(number_or(l, TRIM_TOLERANCE_IN_QUERY, 0)),
     };
-    let meaning = meaning_of(number_or(l, MEANING_IN_QUERY, 0));
+    let meaning = Meaning::from(number_or(l, MEANING_IN_QUERY, 0));
     query_with(l, weights, tolerances, meaning)
 }
 
 // The kinds behind a lent query's weights; a kind that is not lent is 1 for field and 2 for trim.
+#[tactic(auto, unfolding(record_layout::specs::Flat::kinds_in))]
 pub fn kinds_in(l: &[u32]) -> Kinds
     ensures { result ≡ kinds_in l.now }
 {

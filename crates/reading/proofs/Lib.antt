@@ -1,2 +1,1 @@
 pub mod Keying
-pub mod Filling

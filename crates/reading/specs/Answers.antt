@@ -7,18 +7,19 @@ use Prim.Native.Nat.{ℕ}
 use Rattle.lists.specs.Bools.{clash}
 use Rattle.rules.specs.declared.Session.{Session}
 use Rattle.rules.specs.declared.Answer.{Answer}
-use Rattle.rules.specs.declared.Answer.TheVariants.{Refused, Read, Settled}
+use Rattle.rules.specs.declared.Answer.TheVariants.{Read, Settled}
 use Rattle.rules.specs.Session.{settled}
 use Rattle.rules.specs.Read.{read_block}
 use Rattle.rules.specs.Query.{was_read}
 use Rattle.rules.specs.Calls.{call_code, new_block_code, step, read_call_by, read_call}
 use Rattle.rules.specs.Tables.{Table}
+use Rattle.rules.specs.Numbers.{refused}
 
 unfoldable pub read_answer : ℕ → Table → Table → Session → Answer
 read_answer code f t s =
     cond (eqb code 0)
-    (cond (settled f t s) Settled (cond (eqb (new_block_code f t s) 0) Read (Refused (new_block_code f t s))))
-    (Refused code)
+    (cond (settled f t s) Settled (cond (eqb (new_block_code f t s) 0) Read (refused (new_block_code f t s))))
+    (refused code)
 
 -- the record that goes with an answer: only a block that is read changes it
 module _ (f t : Table) (s : Session) where
@@ -32,10 +33,10 @@ module _ (f t : Table) (s : Session) where
       go (call_code f t s) (new_block_code f t s) (eqb (call_code f t s) 0) (settled f t s)
       (eqb (new_block_code f t s) 0)
     where
-      go : (code new : ℕ) (a b c : Bool) → let x = cond a (cond b Settled (cond c Read (Refused new))) (Refused code) in
+      go : (code new : ℕ) (a b c : Bool) → let x = cond a (cond b Settled (cond c Read (refused new))) (refused code) in
           step x (after_read x)
-          ≡ cond a (cond b (step Settled s) (cond c (step Read (read_block f t s)) (step (Refused new) s)))
-          (step (Refused code) s)
+          ≡ cond a (cond b (step Settled s) (cond c (step Read (read_block f t s)) (step (refused new) s)))
+          (step (refused code) s)
       go code new false b c = refl
       go code new true true c = refl
       go code new true false true = refl
@@ -56,7 +57,7 @@ module _ (code : ℕ) (f t : Table) (s : Session) where
       new = new_block_code f t s
 
       go : (a : Bool) → eqb code 0 ≡ a → (b : Bool) → settled f t s ≡ b → (c : Bool) → eqb (new_block_code f t s) 0 ≡ c
-          → cond a (cond b Settled (cond c Read (Refused new))) (Refused code) ≡ Read
+          → cond a (cond b Settled (cond c Read (refused new))) (refused code) ≡ Read
           → (code ≡ 0) × (settled f t s ≡ false) × (new_block_code f t s ≡ 0)
       go false h b k c l e = clash (ap was_read e) refl
       go true h true k c l e = clash (ap was_read e) refl

@@ -2,77 +2,59 @@
 // checked.
 #![tactic(auto)]
 
-ghost use Rattle.std.specs.Prelude.{◌≡◌, ◌+◌, ◌-◌, ◌≤◌, ◌<◌};
+ghost use Rattle.std.specs.Prelude.{◌≡◌, ◌≤◌, length, take};
+ghost use Rattle.lists.specs.Words.{All};
+ghost use Rattle.rules.specs.Numbers.{code};
 ghost use Rattle.rules.specs.Calls.{read_call};
 ghost use Rattle.session_laws.specs.Calls.{Accepted};
+ghost use Rattle.keys.specs.Held.{Narrow, Keyed};
+ghost use Rattle.keys.specs.Places.{places_of};
 ghost use Rattle.checks.specs.Codes.{LastHeld};
 ghost use Rattle.reading.specs.Answers.{read_answer};
 ghost use Rattle.rules.specs.Session.{lent_table};
 
-use number_checks::numbers_fit;
-use rules::{Answer, Pair, Session, Step};
+use keys::Keys;
+use rules::{Answer, PLACES, Pair, Refusal, Session, Step};
 
-// What a read answers, of the code that the checks gave: refused; settled; or a block is read, unless 6 or 7 refuses
-// it.
-fn read_answer(code: u32, f: &[i32], t: &[i32], s: Session, last: Pair) -> Answer
-    requires { code ≡ 0 → Accepted (lent_table s f.now) (lent_table s t.now) s × LastHeld s last }
-    ensures { result ≡ read_answer code (lent_table s f.now) (lent_table s t.now) s }
+// What a read answers: what the checks refuse it by; settled; or a block is read, unless 6 or 7 refuses it.
+#[tactic(auto, using(rules::specs::Numbered::refused_is), unfolding(crate::specs::Answers::read_answer))]
+fn read_answer(check: Result<(), Refusal>, f: &[i32], t: &[i32], s: Session, last: Pair) -> Answer
+    requires { code check ≡ 0 → Accepted (lent_table s f.now) (lent_table s t.now) s × LastHeld s last }
+    ensures { result ≡ read_answer (code check) (lent_table s f.now) (lent_table s t.now) s }
 {
-    if code != 0 {
-        return Answer::Refused(code);
+    if let Err(refusal) = check {
+        return Answer::Refused(refusal);
     }
     if settling::is_settled(f, t, s, last) {
         return Answer::Settled;
     }
-    let new = choosing::new_block_code(f, t, s);
-    if new != 0 {
-        return Answer::Refused(new);
+    match choosing::check_new_block(f, t, s) {
+        Ok(()) => Answer::Read,
+        Err(refusal) => Answer::Refused(refusal),
     }
-    Answer::Read
 }
 
-// Read: settled, or one block of the table that is next, which meets the blocks already read of the other. The pair
-// places are looked through here, and in take, as in `pair_checks::fits`, and filled here: handed on, the record would
-// be copied once more. While blocks meet, the pairs held are keys, lent to whoever puts one among them.
+// Read: settled, or one block of the table that is next, which meets the blocks already read of the other. While blocks
+// meet, the pairs held are keys.
 pub fn read(f: &[i32], t: &[i32], s: Session) -> Step
     ensures { result ≡ read_call (lent_table s f.now) (lent_table s t.now) s }
 {
     let mut r = s;
-    let n = r.held as usize;
-    let end = (n + 63) % 64;
-    let depth = r.depth;
-    let mut fits = numbers_fit(r.query, r.rows, r.depth, r.last, r.out, r.held, r.joined);
-    let mut before: u64 = 0;
-    let mut keys: [u64; 64] = [0; 64];
-    let mut i = pair_checks::first_place(fits);
-    while i < 64 {
-        let p = r.pairs[i];
-        let key = pair_checks::place_key(i, n, depth, before, p);
-        if key == 0 {
-            fits = false;
-            break;
-        }
-        keys[i] = key;
-        before = key;
-        i += 1;
-    }
-    let code = checks::call_code(fits, r.rows, r.depth, f, t);
-    let last = r.pairs[end];
-    let answer = read_answer(code, f, t, r, last);
+    let check = checks::check_call(pair_checks::fits(&r), r.rows, r.depth, f, t);
+    let last = r.pairs[(r.held as usize + 63) % 64];
+    let answer = read_answer(check, f, t, r, last);
     if let Answer::Read = answer {
+        let mut keys = Keys {
+            places: [0; PLACES],
+            held: 0,
+        };
+        keys.hold(&r.pairs[..r.held as usize]);
         let after = next_block::read_block(f, t, r, &mut keys);
-        let to = after.depth;
-        let m = after.held as usize;
-        r.depth = to;
+        r.depth = after.depth;
         r.last = after.last;
-        r.held = after.held;
+        r.held = keys.held() as u32;
         r.joined = after.joined;
-        let mut j: usize = 0;
-        while j < 64 {
-            let p = keys::place(&keys, j, m);
-            r.pairs[j] = p;
-            j += 1;
-        }
+        keys.fill(&mut r.pairs);
     }
     Step { answer, session: r }
 }

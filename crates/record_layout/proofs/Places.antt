@@ -1,7 +1,7 @@
 -- Numbers laid down one behind the other, and pairs taken back one after the other. Assumes nothing.
-use mathlib.Core.Path.{◌≡◌, refl, sym, ap, ◌∙◌}
+use mathlib.Core.Path.{◌≡◌, sym, ap, ◌∙◌}
 use mathlib.Core.List.{List, [], ◌∷◌, ◌++◌, append_assoc, append-nil}
-use Prim.Native.Nat.{ℕ, zero, suc, ◌+◌, ◌≤◌, ◌<◌}
+use Prim.Native.Nat.{ℕ, suc, ◌+◌, ◌≤◌, ◌<◌}
 use native.Mathlib.Omega.{arith}
 use native.Mathlib.Numerals.{add-one}
 use lib.ListN.{length, get_or, take, drop, set, length-append, take-append-drop}
@@ -13,18 +13,6 @@ use Rattle.rules.specs.declared.Pair.{Pair}
 use Rattle.rules.specs.Session.{no_pair}
 use Rattle.record_layout.specs.Flat.{pairs_at, pair_size, pair_place, laid_at, flat_pair, pair_in, pairs_in}
 use Rattle.record_layout.specs.RoundTrip.{flat_length, pairs_end}
-
-pub plus_1 : (n : ℕ) → n + 1 ≡ suc n
-plus_1 n = omega arith
-
-pub plus_2 : (n : ℕ) → n + 2 ≡ suc (suc n)
-plus_2 n = omega arith
-
--- a number that is there, whatever it is otherwise
-pub there : (l : List ℕ) (i d e : ℕ) → i < length l → get_or l i d ≡ get_or l i e
-there [] i d e h = absurd (omega arith)
-there (x ∷ l) zero d e h = refl
-there (x ∷ l) (suc i) d e h = there l i d e (omega arith)
 
 -- m numbers laid behind n that already stand in front of l
 module _ {A : Type 0} (xs vs l : List A) (n m : ℕ) (h : length xs ≡ n) where
@@ -93,4 +81,4 @@ module _ (l : List ℕ) (a : List Pair) (long : pairs_at ≤ length l) where
       onto (head ++ done) p l (pair_place i) pair_size (front i (omega arith))
       ∙ ap (λ (r : List ℕ). r ++ rest) (append_assoc head done p ∙ sym (ap (λ (r : List ℕ). head ++ r) (flat_end i h)))
       ∙ sym (ap (λ (m : ℕ). head ++ each flat_pair (take (suc i) a) ++ drop m l) k)
-      ∙ sym (ap (laid_to l a) (plus_1 i))
+      ∙ sym (ap (laid_to l a) (add-one i))

@@ -1,11 +1,10 @@
 -- The session's record laid out flat: 210 numbers of 32 bits, as include/furzeladle.h lists them. Definitions only.
 -- Assumes nothing.
-use Rattle.std.specs.Prelude.{ℕ, ◌+◌, ◌*◌, ◌/◌, ◌%◌, cond, List, [], ◌∷◌, ◌++◌, map, eqb, length, get_or, take, drop}
+use Rattle.std.specs.Prelude.{ℕ, ◌+◌, ◌*◌, ◌/◌, ◌%◌, List, [], ◌∷◌, ◌++◌, map, length, get_or, take, drop}
 use Rattle.lists.specs.Lists.{range, each}
 use Rattle.rules.specs.declared.Pair.{Pair}
 use Rattle.rules.specs.declared.Kinds.{Kinds}
 use Rattle.rules.specs.declared.Meaning.{Meaning}
-use Rattle.rules.specs.declared.Meaning.TheVariants.{Possibly, Surely}
 use Rattle.rules.specs.declared.Query.{Query}
 use Rattle.rules.specs.declared.Tolerances.{Tolerances}
 use Rattle.rules.specs.declared.Weights.{Weights}
@@ -13,6 +12,7 @@ use Rattle.rules.specs.declared.Session.{Session}
 use Rattle.rules.specs.declared.Answer.TheVariants.{Given}
 use Rattle.rules.specs.Session.{place_count, weights, tolerances}
 use Rattle.rules.specs.Numbers.{said}
+pub use Rattle.rules.specs.Numbers.{meaning_number, meaning_of}
 
 -- Where a record's numbers stand: first three of the query's
 abbrev pub k_at : ℕ
@@ -145,11 +145,6 @@ flat_head s =
     ∷ s.joined / word
     ∷ []
 
--- a meaning as a number
-abbrev pub meaning_number : Meaning → ℕ
-meaning_number Possibly = 0
-meaning_number Surely = 1
-
 -- the numbers behind the pair places
 unfoldable pub flat_tail : Session → List ℕ
 flat_tail s =
@@ -169,10 +164,6 @@ abbrev pub laid_in : List ℕ → Session → List ℕ
 laid_in l s = flatten s ++ drop flat_size l
 
 -- The way back: number i, of a query and of a record
-
--- the meaning that a number is: 0 is "possibly", any other "surely"
-unfoldable pub meaning_of : ℕ → Meaning
-meaning_of n = cond (eqb n 0) Possibly Surely
 
 -- the query that the first three numbers are, with these weights, tolerances and this meaning
 unfoldable pub query_with : List ℕ → Weights → Tolerances → Meaning → Query

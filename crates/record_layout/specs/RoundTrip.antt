@@ -15,10 +15,11 @@ use Rattle.rules.specs.declared.Meaning.TheVariants.{Possibly, Surely}
 use Rattle.rules.specs.declared.Pair.{Pair}
 use Rattle.rules.specs.declared.Session.{Session}
 use Rattle.rules.specs.Session.{no_pair, place_count}
+use Rattle.rules.specs.Numbers.{meaning_number, meaning_of}
 use Rattle.record_layout.specs.Flat.{joined_at, joined_high_at, pairs_at, pair_size, pair_place, field_weight_at}
 use Rattle.record_layout.specs.Flat.{trim_weight_at, card_at, field_tolerance_at, trim_tolerance_at, meaning_at}
 use Rattle.record_layout.specs.Flat.{flat_size}
-use Rattle.record_layout.specs.Flat.{word, flat_pair, flat_head, meaning_number, flat_tail, flatten, meaning_of}
+use Rattle.record_layout.specs.Flat.{word, flat_pair, flat_head, flat_tail, flatten}
 use Rattle.record_layout.specs.Flat.{query_with, pair_in, pairs_in, with_pairs, unflatten}
 
 zero_add : (n : ℕ) → 0 + n ≡ n

@@ -65,12 +65,11 @@ pub fn put_three(out: &mut [u32], o: usize, a: u32, b: u32, c: u32)
     requires { o + 3 ≤ length out.old }
     ensures { out.new ≡ laid_at o (a ∷ b ∷ c ∷ []) out.old }
 {
-    out[o] = a;
-    out[o + 1] = b;
-    out[o + 2] = c;
+    out[o..o + 3].copy_from_slice(&[a, b, c]);
 }
 
 // A pair from place o on: sum, field row, trim row.
+#[tactic(auto, unfolding(crate::specs::Flat::flat_pair))]
 pub fn put_pair(out: &mut [u32], o: usize, p: Pair)
     requires { o + pair_size ≤ length out.old }
     ensures { out.new ≡ laid_at o (flat_pair p) out.old }

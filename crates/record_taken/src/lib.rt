@@ -10,11 +10,12 @@ use record_layout::{
     MEANING, OUT, PAIR_SIZE, PAIRS, TRIM_DEPTH, TRIM_ROWS, TRIM_TOLERANCE, TRIM_WEIGHT, WORD,
 };
 use rules::{
-    Counts, FieldRows, FieldTolerance, FieldWeight, PLACES, Pair, Session, Tolerances, TrimRows,
-    TrimTolerance, TrimWeight, TwoTables, Weights,
+    Counts, FieldRows, FieldTolerance, FieldWeight, Meaning, NO_PAIR, PLACES, Pair, Session,
+    Tolerances, TrimRows, TrimTolerance, TrimWeight, TwoTables, Weights,
 };
 
 // Pair place i + 1.
+#[tactic(auto, unfolding(record_layout::specs::Flat::pair_in))]
 fn pair_in(l: &[u32], i: usize) -> Pair
     requires { (i < place_count) × (flat_size ≤ length l.now) }
     ensures { result ≡ pair_in l.now i }
@@ -28,6 +29,7 @@ fn pair_in(l: &[u32], i: usize) -> Pair
 }
 
 // The record that the numbers in front of the pair places and behind them are, with no pair in its places.
+#[tactic(auto, unfolding(record_layout::specs::Flat::with_pairs))]
 fn head_in(l: &[u32]) -> Session
     requires { flat_size ≤ length l.now }
     ensures { result ≡ with_pairs l.now (replicate place_count no_pair) }
@@ -40,7 +42,7 @@ fn head_in(l: &[u32]) -> Session
         field: FieldTolerance(l[FIELD_TOLERANCE]),
         trim: TrimTolerance(l[TRIM_TOLERANCE]),
     };
-    let meaning = query_taken::meaning_of(l[MEANING]);
+    let meaning = Meaning::from(l[MEANING]);
     let query = query_taken::query_with(l, weights, tolerances, meaning);
     let rows = TwoTables {
         field: FieldRows(l[FIELD_ROWS]),
@@ -51,9 +53,6 @@ fn head_in(l: &[u32]) -> Session
         field: FieldRows(l[FIELD_DEPTH]),
         trim: TrimRows(l[TRIM_DEPTH]),
     };
-    let none = rules::NO_PAIR;
-    let low = l[JOINED];
-    let high = l[JOINED_HIGH];
     Session {
         query,
         rows,
@@ -61,8 +60,8 @@ fn head_in(l: &[u32]) -> Session
         last: l[LAST],
         out: l[OUT],
         held: l[HELD],
-        pairs: [none; PLACES],
-        joined: (low as u64) + (high as u64) * WORD,
+        pairs: [NO_PAIR; PLACES],
+        joined: u64::from(l[JOINED]) + u64::from(l[JOINED_HIGH]) * WORD,
     }
 }
 
@@ -72,11 +71,8 @@ pub fn unpack(l: &[u32]) -> Session
     ensures { result ≡ unflatten l.now }
 {
     let mut s = head_in(l);
-    let mut i: usize = 0;
-    while i < PLACES {
-        let p = pair_in(l, i);
-        s.pairs[i] = p;
-        i += 1;
+    for i in 0..PLACES {
+        s.pairs[i] = pair_in(l, i);
     }
     s
 }

@@ -17,18 +17,16 @@ fn rows_far(n: u32, radius: u32, less: u32, sides: &[i32; 6], t: &[i32], m: usiz
     ensures { result ≡ ltb (radius * radius)
         (squares (lowered_gap less) (sides_in n sides.now) (first_sides (table n t.now) m)) }
 {
-    let r = radius as u64;
+    let r = u64::from(radius);
     let mut left = r * r;
-    let mut k: usize = 0;
-    while k < n as usize {
+    for k in 0..n as usize {
         let o = side(n, t, m, k);
         let g = lowered(side_gap(sides[2 * k], sides[2 * k + 1], o), less);
         let square = g * g;
         if left < square {
             return true;
         }
-        left = left - square;
-        k += 1;
+        left -= square;
     }
     false
 }
@@ -39,10 +37,10 @@ fn front_far(n: u32, radius: u32, less: u32, sides: &[i32; 6], t: &[i32], m: usi
     ensures { result ≡ ltb (radius * radius)
         (squares (lowered_gap less) (sides_in n sides.now) (first_sides (table n t.now) m)) }
 {
-    if n == 2 {
-        return rows_far(2, radius, less, sides, t, m);
+    match n {
+        2 => rows_far(2, radius, less, sides, t, m),
+        _ => rows_far(3, radius, less, sides, t, m),
     }
-    rows_far(3, radius, less, sides, t, m)
 }
 
 // Whether the first three of m rows, where there are so many, lie near enough: then all of them together do.
@@ -52,10 +50,7 @@ fn front_near(n: u32, radius: u32, less: u32, sides: &[i32; 6], t: &[i32], m: us
         (squares (lowered_gap less) (sides_in n sides.now) (first_sides (table n t.now) 3))
         ≡ false) }
 {
-    if m < 3 {
-        return false;
-    }
-    !front_far(n, radius, less, sides, t, 3)
+    3 <= m && !front_far(n, radius, less, sides, t, 3)
 }
 
 // Whether a block's rectangle lies farther than the radius from the one in `sides`, with the query's tolerances. Its

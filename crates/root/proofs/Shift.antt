@@ -54,3 +54,6 @@ module _ (n unused : ℕ) (positive : 0 < n) (few : unused ≤ 62) (used : n < 2
       let b : 2 ^ (suc t.0 + 2 * by) ≤ 2 ^ (64 - unused) =
       pow_mono {i = suc t.0 + 2 * by} (omega (arith, unused_zeros)) in
       omega (arith, exact)
+
+-- what the move comes to
+pub ruleset shift_laws = (unused_zeros, by_below, moved, moved_least, moved_below)

@@ -6,18 +6,12 @@ use Rattle.std.proofs.Common.{not-suc-le-zero, arith}
 use Rattle.root.specs.Parts.{Parted, StepReady}
 use Rattle.root.specs.Roots.{side_below}
 
--- a number between two squares has its root between their sides
-parted_between : {n s r : ℕ} (low high : ℕ) → Parted n s r → low * low ≤ n → n < high * high → (low ≤ s) × (s < high)
-parted_between {n} {s} {r} low high h a b =
-    let above : low < s + 1 = side_below low (s + 1) (omega arith) in
-    (omega arith, side_below s high (omega arith))
-
--- a number from b * b / 4 to below b * b, with b twice a, is ready
-pub ready : {n s r : ℕ} (next a : ℕ) → Parted n s r → a * a ≤ n → n < 2 * a * (2 * a) → 2 * a ≤ 65536 →
-    next < 2 * a * (2 * a) → StepReady s r next (2 * a)
-ready {n} {s} {r} next a h low high bits digits =
-    let between = parted_between a (2 * a) h low high in
-    record { rest = h.small; half = omega arith; fewer = between.1; bits = bits; digits = digits }
+-- a number from b * b / 4 to below b * b, with b even, is ready
+pub ready : {n s r : ℕ} (next b : ℕ) → Parted n s r → b % 2 ≡ 0 → b * b ≤ 4 * n → n < b * b → b ≤ 65536 →
+    next < b * b → StepReady s r next b
+ready {n} {s} {r} next b h even low high bits digits =
+    let above : b < 2 * (s + 1) = side_below b (2 * (s + 1)) (omega arith) in
+    record { rest = h.small; half = omega arith; fewer = side_below s b (omega arith); bits = bits; digits = digits }
 
 -- where t's square is too much by less than 2 * t, its root is t - 1
 one_less : (n t x y : ℕ) → t * t + x ≡ n + y → x < y → y < 2 * t → Parted n (t - 1) (x + 2 * t - 1 - y)
@@ -102,3 +96,6 @@ module _ (s r next b : ℕ) (h : StepReady s r next b) where
   pub lowered : left < digit * digit →
       Parted ((s * s + r) * (b * b) + next) (s * b + digit - 1) (left + 2 * (s * b + digit) - 1 - digit * digit)
   lowered k = one_less _ (s * b + digit) left (digit * digit) squared k guess_above
+
+-- what a step comes to
+pub ruleset step_laws = (bounds, guess_above, kept, lowered)

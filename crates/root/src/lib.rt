@@ -38,6 +38,7 @@ fn raised(s: u64, by: u64, m: u64) -> u64
 // Zimmermann's step: from the root and the rest of a number to those of that number with two more digits of base b,
 // which make `next`. The root gets one digit more. The rest, divided by twice the old root, gives that digit, or one
 // more than it: then the digit's square is more than what is left.
+#[tactic(auto, using(crate::specs::Step::step_laws))]
 fn grow(x: Root, next: u64, b: u64) -> Root
     requires { StepReady x.root x.rest next b }
     ensures { Parted ((x.root * x.root + x.rest) * (b * b) + next) result.root result.rest }
@@ -68,7 +69,8 @@ fn tried(s: u64, m: u64) -> Root
     with_rest(m, raised(raised(raised(s, 4, m), 2, m), 1, m))
 }
 
-// The root of a number of 8 bits, of 16, of 32 and of 64, the top two of them not both 0.
+// The root of a number of 8 bits, of 16, of 32 and of 64, the top two of them not both 0. One function each: with their
+// constants written out the compiler shifts where one function of the number of bits would divide.
 fn root_8(m: u64) -> Root
     requires { (2 ^ 6 ≤ m) × (m < 2 ^ 8) }
     ensures { Parted m result.root result.rest }
@@ -76,6 +78,7 @@ fn root_8(m: u64) -> Root
     tried(8, m)
 }
 
+#[tactic(auto, using(crate::specs::Step::ready))]
 fn root_16(m: u64) -> Root
     requires { (2 ^ 14 ≤ m) × (m < 2 ^ 16) }
     ensures { Parted m result.root result.rest }
@@ -83,6 +86,7 @@ fn root_16(m: u64) -> Root
     grow(root_8(m >> 8), m % 256, 16)
 }
 
+#[tactic(auto, using(crate::specs::Step::ready))]
 fn root_32(m: u64) -> Root
     requires { (2 ^ 30 ≤ m) × (m < 2 ^ 32) }
     ensures { Parted m result.root result.rest }
@@ -90,6 +94,7 @@ fn root_32(m: u64) -> Root
     grow(root_16(m >> 16), m % 65536, 256)
 }
 
+#[tactic(auto, using(crate::specs::Step::ready))]
 fn root_64(m: u64) -> Root
     requires { 2 ^ 62 ≤ m }
     ensures { Parted m result.root result.rest }
@@ -105,12 +110,13 @@ struct Moved {
 }
 
 // n moved up until the top two of its bits, the unused ones not counted, are not both 0.
+#[tactic(auto, using(crate::proofs::Shift::shift_laws))]
 fn moved_up(n: u64, unused: u32) -> Moved
     requires { (0 < n) × (unused ≤ 62) × (n < 2 ^ (64 - unused)) }
     ensures number_value { (result.number ≡ n * (2 ^ result.by * 2 ^ result.by)) × (result.by < 32) }
     ensures unused_bound { (2 ^ (62 - unused) ≤ result.number) × (result.number < 2 ^ (64 - unused)) }
 {
-    let by = (u64::leading_zeros(n) - unused) / 2;
+    let by = (n.leading_zeros() - unused) / 2;
     let number = n << (2 * by);
     Moved { number, by }
 }

@@ -25,15 +25,13 @@ pub fn column_bytes(j: usize) -> usize
 }
 
 // How many bytes a row has whose shade has n coordinates: its columns, and LF.
+#[tactic(auto, using(file_laws::specs::Columns::start_most), unfolding(rules::specs::File::column_start))]
 pub fn row_bytes(n: u32) -> usize
     ensures { result ≡ row_bytes n }
 {
-    let width = tables::width(n);
     let mut end: usize = 0;
-    let mut j: usize = 0;
-    while j < width {
+    for j in 0..tables::width(n) {
         end += column_bytes(j);
-        j += 1;
     }
     end + 1
 }

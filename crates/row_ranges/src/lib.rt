@@ -5,6 +5,7 @@ ghost use Rattle.std.specs.Prelude.{◌≡◌, ◌&&◌, pos};
 ghost use Rattle.rules.specs.Tables.{within, coordinate_fits, shade_fits};
 
 // Whether coordinate k of a shade, from 0 on, keeps its range.
+#[tactic(auto, unfolding(rules::specs::Tables::within, rules::specs::Tables::coordinate_fits))]
 pub fn coordinate_fits(k: usize, x: i32) -> bool
     ensures { result ≡ coordinate_fits k x }
 {
@@ -19,16 +20,14 @@ pub fn shade_fits(shade: &[i32]) -> bool
     ensures { result ≡ shade_fits shade.now }
 {
     let mut fits = true;
-    let mut k: usize = 0;
-    while k < shade.len() {
-        let here = coordinate_fits(k, shade[k]);
-        fits = fits & here;
-        k += 1;
+    for (k, x) in shade.iter().enumerate() {
+        fits &= coordinate_fits(k, *x);
     }
     fits
 }
 
 // Whether the numbers of a row before its shade keep their ranges.
+#[tactic(auto, unfolding(rules::specs::Tables::within))]
 pub fn in_range(pattern: i32, score: i32) -> bool
     ensures { result ≡ (within (pos 1) (pos 999999) pattern && within (pos 0) (pos 9999) score) }
 {

@@ -9,7 +9,7 @@ use Rattle.rules.specs.declared.Query.{Query}
 use Rattle.rules.specs.declared.Session.{Session}
 use Rattle.rules.specs.declared.Step.{Step}
 use Rattle.rules.specs.declared.Answer.{Answer}
-use Rattle.rules.specs.declared.Answer.TheVariants.{Refused, Opened, Read, Settled, Given, NotYet, Finished}
+use Rattle.rules.specs.declared.Answer.TheVariants.{Opened, Read, Settled, Given, NotYet, Finished}
 use Rattle.rules.specs.Tables.{Table, coordinates, Terms, terms, width, most_rows, row_count, row_in_range}
 use Rattle.rules.specs.Tables.{row_in_order}
 use Rattle.rules.specs.Tables.{size_fits, ahead}
@@ -17,7 +17,7 @@ use Rattle.rules.specs.Session.{two_tables, opened, zeros, held_pairs, nothing_q
 use Rattle.rules.specs.Read.{block_count, field_next_by, old_depth, new_depth, read_block_by}
 use Rattle.rules.specs.Take.{first_held, gives_pair_by, moved_out, finished, last_block, shown_rows}
 use Rattle.rules.specs.Numbers.{list_length, block_size, radius_range, weight_range, table_size, bad_record, row_limit}
-use Rattle.rules.specs.Numbers.{row_order, wrong_kind, other_card, tolerance_range, unless, first}
+use Rattle.rules.specs.Numbers.{row_order, wrong_kind, other_card, tolerance_range, unless, first, refused}
 
 abbrev pub between : ℕ → ℕ → ℕ → Bool
 between low high n = leb low n && leb n high
@@ -151,7 +151,7 @@ open_code q f t = first (query_code q ∷ kind_code f ∷ kind_code t ∷ size_c
 unfoldable pub open_call : Query → Table → Table → Step
 open_call q f t =
     cond (eqb (open_code q f t) 0) (step Opened (opened q (two_tables f t)))
-    (step (Refused (open_code q f t)) zeros)
+    (step (refused (open_code q f t)) zeros)
 
 -- Read. "A refused read or take returns the record it was given." "In a settled session it answers "settled", reads
 -- nothing and gives back the same record."
@@ -160,8 +160,8 @@ read_call_by g f t s =
     let new = new_block_code_by g f t s in
     cond (eqb (call_code f t s) 0)
     (cond (settled_by g f t s) (step Settled s)
-    (cond (eqb new 0) (step Read (read_block_by g f t s)) (step (Refused new) s)))
-    (step (Refused (call_code f t s)) s)
+    (cond (eqb new 0) (step Read (read_block_by g f t s)) (step (refused new) s)))
+    (step (refused (call_code f t s)) s)
 
 abbrev pub read_call : Table → Table → Session → Step
 read_call = read_call_by terms
@@ -173,7 +173,7 @@ take_call_by g f t s =
     cond (eqb (call_code f t s) 0)
     (cond (gives_pair_by g f t s) (step (Given (first_held s)) (moved_out s))
     (cond (finished f t s) (step Finished s) (step NotYet s)))
-    (step (Refused (call_code f t s)) s)
+    (step (refused (call_code f t s)) s)
 
 abbrev pub take_call : Table → Table → Session → Step
 take_call = take_call_by terms

@@ -1,12 +1,10 @@
 -- docs/RULES.md, "The strict file". Definitions only. Assumes nothing.
 use Rattle.std.specs.Prelude.{ℕ, zero, suc, ◌+◌, ◌*◌, ◌-◌, Bool, false, cond, ◌&&◌, not, List, [], ◌∷◌, ◌++◌, map, leb}
-use Rattle.std.specs.Prelude.{ltb, eqb, ℤ, pos, neg_ℤ, length, get_or, take, drop}
+use Rattle.std.specs.Prelude.{ltb, eqb, ℤ, pos, neg_ℤ, length, get_or, take, drop, Ok, Err}
 use Rattle.lists.specs.Lists.{every, range, each}
-use Rattle.rules.specs.declared.Loaded.{Loaded}
-use Rattle.rules.specs.declared.Loaded.TheVariants.{Rows, Unfit}
 use Rattle.rules.specs.Tables.{Table, table, kind_coordinates, width, after_rows, most_rows, nat_of}
 use Rattle.rules.specs.Numbers.{table_size, cut_file, bad_column, wrong_kind, short_slice, unless, first, said_of}
-use Rattle.rules.specs.Numbers.{signed}
+use Rattle.rules.specs.Numbers.{signed, Loaded, unfit}
 use Rattle.rules.specs.Calls.{between, row_code}
 
 abbrev pub blank : ℕ
@@ -136,13 +134,13 @@ file_row_code bytes t i = first (unless (row_columns_fit t.coordinates bytes i) 
 
 -- the answer where row n + 1 follows rows that were answered so: "Refusals 6, 7, 9 add the row number"
 unfoldable pub and_row : List ℕ → Table → ℕ → Loaded → Loaded
-and_row bytes t n (Rows m) = cond (eqb (file_row_code bytes t n) 0) (Rows (n + 1))
-    (Unfit (file_row_code bytes t n) (n + 1))
-and_row bytes t n (Unfit code row) = Unfit code row
+and_row bytes t n (Ok m) = cond (eqb (file_row_code bytes t n) 0) (Ok (n + 1))
+    (unfit (file_row_code bytes t n) (n + 1))
+and_row bytes t n (Err e) = Err e
 
 -- the first n rows
 unfoldable pub rows_loaded : List ℕ → Table → ℕ → Loaded
-rows_loaded bytes t zero = Rows 0
+rows_loaded bytes t zero = Ok 0
 rows_loaded bytes t (suc n) = and_row bytes t n (rows_loaded bytes t n)
 
 -- "kind (10)": "header's kind isn't the one wanted, or the wanted one isn't" 1 to 4
@@ -170,17 +168,17 @@ unfoldable pub check_file : List ℕ → ℤ → Loaded
 check_file bytes kind =
     let count = file_count bytes in
     cond (eqb (head_code bytes kind) 0) (rows_loaded bytes (file_table (wanted kind) bytes count) count)
-    (Unfit (head_code bytes kind) 0)
+    (unfit (head_code bytes kind) 0)
 
 -- "then 11": the answer where a slice of so many numbers is lent, for rows of n coordinates
 unfoldable pub and_slice : ℕ → ℕ → Loaded → Loaded
-and_slice n room (Rows m) = cond (ltb room (width n * m)) (Unfit short_slice 0) (Rows m)
-and_slice n room (Unfit code row) = Unfit code row
+and_slice n room (Ok m) = cond (ltb room (width n * m)) (unfit short_slice 0) (Ok m)
+and_slice n room (Err e) = Err e
 
 -- the lent numbers after an answer: "the first 4 × count numbers are the rows, the rest untouched"
 unfoldable pub loaded_into : ℕ → List ℕ → List ℤ → Loaded → List ℤ
-loaded_into n bytes out (Rows m) = (file_table n bytes m).numbers ++ (after_rows m (table n out)).numbers
-loaded_into n bytes out (Unfit code row) = out
+loaded_into n bytes out (Ok m) = (file_table n bytes m).numbers ++ (after_rows m (table n out)).numbers
+loaded_into n bytes out (Err e) = out
 
 -- Reading a file into a lent slice: the answer, and the slice after it
 unfoldable pub load_answer : List ℕ → ℤ → List ℤ → Loaded

@@ -7,6 +7,7 @@ pub mod Session
 pub mod Read
 pub mod Take
 pub mod Sure
+pub mod Numbered
 pub mod Numbers
 pub mod Checks
 pub mod Calls

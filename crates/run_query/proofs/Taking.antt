@@ -91,8 +91,11 @@ module _ {f t : Table} {s : Session} {n : ℕ} {pairs : List Pair} {r : Session}
       ◌≡◌ {A = TakenOut} (record { pairs = pairs; count = n }) (taken_out f t s)
   taking_stops none = taking_ends (take_ends (place_count - n) f t r none)
 
-  pub taking_full : place_count ≤ n → ◌≡◌ {A = TakenOut} (record { pairs = pairs; count = n }) (taken_out f t s)
+  pub taking_full : place_count ≤ n →
+      ◌≡◌ {A = TakenOut} (record { pairs = pairs; count = place_count }) (taken_out f t s)
   unfolding take_until_finished_by
   taking_full all =
       let m : place_count - n ≡ 0 = omega arith in
-      taking_ends (ap (λ (k : ℕ). take_until_finished k f t r) m)
+      let e : place_count ≡ n = omega (arith, h.within) in
+      ap (λ (k : ℕ). record { pairs = pairs; count = k }) e
+      ∙ taking_ends (ap (λ (k : ℕ). take_until_finished k f t r) m)

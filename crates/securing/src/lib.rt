@@ -30,5 +30,5 @@ pub fn is_secured(
     if field_out & trim_out {
         return true;
     }
-    threshold(f, t, n, rows, depth, weights) <= p.sum as u64
+    threshold(f, t, n, rows, depth, weights) <= u64::from(p.sum)
 }

@@ -15,12 +15,12 @@ use Rattle.rules.specs.declared.Query.{Query}
 use Rattle.rules.specs.declared.Session.{Session}
 use Rattle.rules.specs.declared.Step.{Step}
 use Rattle.rules.specs.declared.Answer.{Answer}
-use Rattle.rules.specs.declared.Answer.TheVariants.{Refused, Opened, Read, Settled, Given, NotYet, Finished}
+use Rattle.rules.specs.declared.Answer.TheVariants.{Opened, Read, Settled, Given, NotYet, Finished}
 use Rattle.rules.specs.Tables.{Table, row_count, size_fits, legal}
 use Rattle.rules.specs.Session.{two_tables, opened, zeros, settled}
 use Rattle.rules.specs.Read.{field_next, old_depth, new_depth, read_block}
 use Rattle.rules.specs.Take.{first_held, gives_pair, moved_out, finished}
-use Rattle.rules.specs.Numbers.{table_size, bad_record, wrong_kind, other_card, said, refusal}
+use Rattle.rules.specs.Numbers.{table_size, bad_record, wrong_kind, other_card, said}
 use Rattle.rules.specs.Checks.{first_out, unless_out}
 use Rattle.rules.specs.Calls.{query_code, is_card, kind_code, cards_code, size_code, same_size_code, rows_code}
 use Rattle.rules.specs.Calls.{record_fits}
@@ -28,6 +28,7 @@ use Rattle.rules.specs.Calls.{new_block_code_by, new_block_code, step, open_code
 use Rattle.rules.specs.Calls.{take_call_by}
 use Rattle.rules.specs.Calls.{record_code, lent_code, call_code, take_call}
 use Rattle.rules.specs.Query.{was_read, was_given, read_until_settled, settled_session}
+use Rattle.rules.specs.Numbers.{refused}
 use Rattle.session_laws.specs.Tables.{Sized, size_out, size_in, RowFits, rows_out, rows_in, legal_out}
 use Rattle.session_laws.specs.Record.{RecordFits, record_out, record_in}
 
@@ -80,11 +81,11 @@ module _ (q : Query) (f t : Table) where
     where
       go : (b : Bool) → eqb (open_code q f t) 0 ≡ b
           → (cond b (step Opened (opened q (two_tables f t)))
-          (step (Refused (open_code q f t)) zeros)).answer
+          (step (refused (open_code q f t)) zeros)).answer
           ≡ Opened
           → open_code q f t ≡ 0
       go true z e = eqb-true (open_code q f t) 0 z
-      go false z e = ap (λ (a : Answer). refusal (said a)) e
+      go false z e = clash (ap (λ (a : Answer). (said a).accepted) e) refl
 
   pub opened_query : (open_call q f t).answer ≡ Opened → query_code q ≡ 0
   opened_query e = (open_out (opened_code e)).query
@@ -304,8 +305,8 @@ module _ (f t : Table) (s : Session) where
 
       go : (a b c : Bool) → eqb (call_code f t s) 0 ≡ a → settled f t s ≡ b → eqb (new_block_code f t s) 0 ≡ c
           → was_read
-          (cond a (cond b (step Settled s) (cond c (step Read (read_block f t s)) (step (Refused new) s)))
-          (step (Refused code) s)).answer
+          (cond a (cond b (step Settled s) (cond c (step Read (read_block f t s)) (step (refused new) s)))
+          (step (refused code) s)).answer
           ≡ true
           → Reads f t s
       go true true c i j l m = clash m refl
@@ -324,8 +325,8 @@ module _ (f t : Table) (s : Session) where
       called : Bool → Bool → Bool → Step
       called a b c =
           cond a
-          (cond b (step Settled s) (cond c (step Read (read_block f t s)) (step (Refused (new_block_code f t s)) s)))
-          (step (Refused (call_code f t s)) s)
+          (cond b (step Settled s) (cond c (step Read (read_block f t s)) (step (refused (new_block_code f t s)) s)))
+          (step (refused (call_code f t s)) s)
 
       go : (a b c : Bool) → was_read (called a b c).answer ≡ false → (called a b c).session ≡ s
       go true true c h = refl
@@ -343,7 +344,7 @@ module _ (f t : Table) (s : Session) where
       go : (a b c : Bool) → eqb (call_code f t s) 0 ≡ a → gives_pair f t s ≡ b
           → was_given
           (cond a (cond b (step (Given (first_held s)) (moved_out s)) (cond c (step Finished s) (step NotYet s)))
-          (step (Refused code) s)).answer
+          (step (refused code) s)).answer
           ≡ true
           → Takes f t s
       go true true c i j m =
@@ -362,7 +363,7 @@ module _ (f t : Table) (s : Session) where
       called a b c =
           cond a
           (cond b (step (Given (first_held s)) (moved_out s)) (cond c (step Finished s) (step NotYet s)))
-          (step (Refused (call_code f t s)) s)
+          (step (refused (call_code f t s)) s)
 
       go : (a b c : Bool) → was_given (called a b c).answer ≡ false → (called a b c).session ≡ s
       go true true c h = clash refl h

@@ -9,7 +9,7 @@ use native.Mathlib.Omega.{arith}
 use Rattle.lists.specs.Bools.{clash}
 use Rattle.rules.specs.declared.Session.{Session}
 use Rattle.rules.specs.declared.Step.{Step}
-use Rattle.rules.specs.declared.Answer.TheVariants.{Refused, Opened}
+use Rattle.rules.specs.declared.Answer.TheVariants.{Opened}
 use Rattle.rules.specs.declared.Pair.{Pair}
 use Rattle.rules.specs.declared.Query.{Query}
 use Rattle.rules.specs.Tables.{Table}
@@ -21,6 +21,7 @@ use Rattle.rules.specs.Query.{was_read, given, was_given, read_until_settled_by,
 use Rattle.rules.specs.Query.{take_until_finished_by}
 use Rattle.rules.specs.Query.{take_until_finished}
 use Rattle.rules.specs.Query.{settled_session, list}
+use Rattle.rules.specs.Numbers.{refused}
 use Rattle.session_laws.specs.Calls.{call_out, was_read_out, was_given_out}
 use Rattle.session_laws.specs.Read.{unread_rows, read_fewer, read_query}
 use Rattle.session_laws.specs.Take.{gives_some}
@@ -137,7 +138,7 @@ module _ (q : Query) (f t : Table) where
     where
       go : (b : Bool)
           → (cond b (step Opened (opened q (two_tables f t)))
-          (step (Refused (open_code q f t)) zeros)).session.query.k
+          (step (refused (open_code q f t)) zeros)).session.query.k
           ≤ q.k
       go true = omega arith
       go false = omega arith

@@ -9,6 +9,7 @@ ghost use Rattle.checks.specs.Codes.{LastHeld};
 use rules::{Counts, FieldRows, Pair, Session, TrimRows};
 
 // Whether nothing unread can matter. `last` is the last held pair: of ranked pairs it decides.
+#[tactic(auto, using(table_ends::specs::BothRead::accepted_rows), unfolding(rules::specs::Session::settled_by))]
 pub fn is_settled(f: &[i32], t: &[i32], s: Session, last: Pair) -> bool
     requires { Accepted (lent_table s f.now) (lent_table s t.now) s × LastHeld s last }
     ensures { result ≡ settled (lent_table s f.now) (lent_table s t.now) s }

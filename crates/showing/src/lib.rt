@@ -28,15 +28,12 @@ pub fn show<'a>(f: &'a [i32], t: &'a [i32], s: Session) -> &'a [i32]
         ≡ show_place (lent_table s f.now) (lent_table s t.now) f.entry.ref_ptr
         t.entry.ref_ptr s }
 {
-    let fits = pair_checks::fits(s);
-    if checks::lent_code(fits, s.rows, f, t) != 0 {
+    if checks::check_lent(pair_checks::fits(&s), s.rows, f, t).is_err() {
         return &f[..0];
     }
-    if s.last == 1 {
-        return last_rows(s.rows.card, f, s.query.block, s.depth.field.0);
+    match s.last {
+        1 => last_rows(s.rows.card, f, s.query.block, s.depth.field.0),
+        2 => last_rows(s.rows.card, t, s.query.block, s.depth.trim.0),
+        _ => &f[..0],
     }
-    if s.last == 2 {
-        return last_rows(s.rows.card, t, s.query.block, s.depth.trim.0);
-    }
-    &f[..0]
 }

@@ -1,6 +1,7 @@
 -- The gap of two sides at 64 bits: differences of 32-bit numbers fit, and the one that the tests choose is the gap.
 -- Assumes nothing.
-use mathlib.Core.Path.{◌≡◌, refl, sym, subst}
+use mathlib.Core.Path.{◌≡◌, refl, sym, subst, ◌∙◌}
+use Rattle.std.specs.Int.{int_max}
 use mathlib.Core.Bool.{Bool, true, false, cond}
 use mathlib.Core.Logic.{◌⊎◌, inl, inr}
 use Prim.Native.Nat.{ℕ, zero, suc, ◌+◌, ◌-◌, ◌≤◌, ◌<◌, ◌^◌}
@@ -68,11 +69,19 @@ natural : (z : ℤ) (n : ℕ) → plus z ≡ minus z + n → n < 2 ^ 32 → Is z
 natural (pos a) n e h = (tt, omega arith, omega arith)
 natural (negsuc a) n e h = absurd (omega arith)
 
--- the first where it is above 0, else the second where that is not below 0
+-- the first where it is above 0, else the second, raised to 0 where it is below
 abbrev pub ChosenGap : ℤ → ℤ → ℤ → Type 0
 ChosenGap a b z =
-    ((lt_z (pos 0) a ≡ true) × (z ≡ a))
-    ⊎ ((lt_z (pos 0) a ≡ false) × (((lt_z b (pos 0) ≡ true) × (z ≡ pos 0)) ⊎ ((lt_z b (pos 0) ≡ false) × (z ≡ b))))
+    ((lt_z (pos 0) a ≡ true) × (z ≡ a)) ⊎ ((lt_z (pos 0) a ≡ false) × (z ≡ int_max b (pos 0)))
+
+raised : (b : ℤ) → ((lt_z (pos 0) b ≡ true) × (int_max b (pos 0) ≡ b))
+    ⊎ ((lt_z (pos 0) b ≡ false) × (int_max b (pos 0) ≡ pos 0))
+raised b = go (lt_z (pos 0) b) refl
+  where
+    go : (t : Bool) → lt_z (pos 0) b ≡ t
+        → ((t ≡ true) × (cond t b (pos 0) ≡ b)) ⊎ ((t ≡ false) × (cond t b (pos 0) ≡ pos 0))
+    go true e = inl (refl, refl)
+    go false e = inr (refl, refl)
 
 module _ (s o : Side) (f : SFits w32 s.low) (g : SFits w32 s.high) (h : SFits w32 o.low)
     (k : SFits w32 o.high) where
@@ -84,34 +93,34 @@ module _ (s o : Side) (f : SFits w32 s.low) (g : SFits w32 s.high) (h : SFits w3
 
   pub chosen_is : (z : ℤ) → ChosenGap above below z → Is z (side_gap s o)
   unfolding side_gap
-  chosen_is z c = go (lt_z s.high o.low) (lt_z o.high s.low) refl refl c
+  chosen_is z c = go (lt_z s.high o.low) (lt_z o.high s.low) refl refl c (raised below)
     where
       go : (t u : Bool) → lt_z s.high o.low ≡ t → lt_z o.high s.low ≡ u → ChosenGap above below z
+          → ((lt_z (pos 0) below ≡ true) × (int_max below (pos 0) ≡ below))
+          ⊎ ((lt_z (pos 0) below ≡ false) × (int_max below (pos 0) ≡ pos 0))
           → Is z (cond t (gap s.high o.low) (cond u (gap o.high s.low) 0))
-      go true u d e (inl (p, q)) =
+      go true u d e (inl (p, q)) m =
           let n = gap_below s.high o.low (lt_is s.high o.low d) in
           let l = difference_less o.low s.high h g in
           subst (λ z. Is z (gap s.high o.low)) (sym q)
           (natural above (gap s.high o.low) (omega arith)
           (omega (arith, small s.high g, small o.low h)))
-      go true u d e (inr (p, q)) =
+      go true u d e (inr (p, q)) m =
           let l = difference_less o.low s.high h g in
           absurd (omega (arith, lt_is s.high o.low d, not_lt_is (pos 0) above p))
-      go false u d e (inl (p, q)) =
+      go false u d e (inl (p, q)) m =
           let l = difference_less o.low s.high h g in
           absurd (omega (arith, not_lt_is s.high o.low d, lt_is (pos 0) above p))
-      go false true d e (inr (p, inl (q, r))) =
-          let l = difference_less s.low o.high f k in
-          absurd (omega (arith, lt_is o.high s.low e, lt_is below (pos 0) q))
-      go false true d e (inr (p, inr (q, r))) =
+      go false true d e (inr (p, q)) (inl (c, r)) =
           let n = gap_below o.high s.low (lt_is o.high s.low e) in
           let l = difference_less s.low o.high f k in
-          subst (λ z. Is z (gap o.high s.low)) (sym r)
+          subst (λ z. Is z (gap o.high s.low)) (sym (q ∙ r))
           (natural below (gap o.high s.low) (omega arith)
           (omega (arith, small s.low f, small o.high k)))
-      go false false d e (inr (p, inl (q, r))) = subst (λ z. Is z 0) (sym r) (tt, refl, omega arith)
-      go false false d e (inr (p, inr (q, r))) =
+      go false true d e (inr (p, q)) (inr (c, r)) =
           let l = difference_less s.low o.high f k in
-          subst (λ z. Is z 0) (sym r)
-          (natural below 0
-          (omega (arith, not_lt_is o.high s.low e, not_lt_is below (pos 0) q)) (omega arith))
+          absurd (omega (arith, lt_is o.high s.low e, not_lt_is (pos 0) below c))
+      go false false d e (inr (p, q)) (inl (c, r)) =
+          let l = difference_less s.low o.high f k in
+          absurd (omega (arith, not_lt_is o.high s.low e, lt_is (pos 0) below c))
+      go false false d e (inr (p, q)) (inr (c, r)) = subst (λ z. Is z 0) (sym (q ∙ r)) (tt, refl, omega arith)

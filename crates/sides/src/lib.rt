@@ -12,22 +12,22 @@ use rules::Side;
 fn widened(s: Side, x: i32) -> Side
     ensures { result ≡ widened s x }
 {
-    let low = if s.low <= x { s.low } else { x };
-    let high = if x <= s.high { s.high } else { x };
-    Side { low, high }
+    Side {
+        low: s.low.min(x),
+        high: s.high.max(x),
+    }
 }
 
 // The side of coordinate k, from 0 on, of the first m rows.
+#[tactic(auto, using(crate::proofs::Ends::side_more), unfolding(rules::specs::Tables::side))]
 pub fn side(n: u32, t: &[i32], m: usize, k: usize) -> Side
     requires { (1 ≤ m) × HasRows (table n t.now) m × (k < n) }
     ensures { result ≡ side (table n t.now) k (m - 1) }
 {
     let x = tables::coordinate(n, t, 0, k);
     let mut s = Side { low: x, high: x };
-    let mut i: usize = 1;
-    while i < m {
+    for i in 1..m {
         s = widened(s, tables::coordinate(n, t, i, k));
-        i += 1;
     }
     s
 }
@@ -37,22 +37,18 @@ fn put_side(out: &mut [i32], k: usize, s: Side)
     requires { 2 * k + 1 < length out.old }
     ensures { out.new ≡ with_side k s out.old }
 {
-    let low = s.low;
-    let high = s.high;
-    out[2 * k] = low;
-    out[2 * k + 1] = high;
+    out[2 * k] = s.low;
+    out[2 * k + 1] = s.high;
 }
 
-// The rectangle of a block is written into lent numbers.
+// The rectangle of a block is written into lent numbers: room for three sides, in fixed memory.
 pub fn put_sides(n: u32, t: &[i32], out: &mut [i32; 6])
     requires { (n ≤ 3) × HasRow (table n t.now) 0 }
     ensures { sides_in n out.new ≡ rectangle (table n t.now) }
 {
     let m = tables::row_count(n, t);
-    let mut k: usize = 0;
-    while k < n as usize {
+    for k in 0..n as usize {
         put_side(out, k, side(n, t, m, k));
-        k += 1;
     }
 }
 
@@ -60,10 +56,9 @@ pub fn put_sides(n: u32, t: &[i32], out: &mut [i32; 6])
 pub fn side_gap(low: i32, high: i32, o: Side) -> u64
     ensures { (result ≡ side_gap (record { low = low; high = high }) o) × (result < 2 ^ 32) }
 {
-    let above = o.low as i64 - high as i64;
-    let below = low as i64 - o.high as i64;
-    let under = if below < 0 { 0 } else { below };
-    let gap = if 0 < above { above } else { under };
+    let above = i64::from(o.low) - i64::from(high);
+    let below = i64::from(low) - i64::from(o.high);
+    let gap = if 0 < above { above } else { below.max(0) };
     gap as u64
 }
 
@@ -71,6 +66,5 @@ pub fn side_gap(low: i32, high: i32, o: Side) -> u64
 pub fn lowered(gap: u64, less: u32) -> u64
     ensures { result ≡ gap - less }
 {
-    let t = less as u64;
-    if t <= gap { gap - t } else { 0 }
+    gap.saturating_sub(u64::from(less))
 }

@@ -13,6 +13,7 @@ use rules::Query;
 
 // Whether the rectangles of two blocks lie farther apart than the radius, with the query's tolerances. That of the new
 // block, x where `field` says so, stands in `sides`.
+#[tactic(auto, using(rules::proofs::Rectangles::far_turned))]
 fn are_far(n: u32, q: Query, field: bool, sides: &[i32; 6], x: &[i32], y: &[i32]) -> bool
     requires n_value { (is_card n ≡ true) × HasRow (table n x.now) 0 × HasRow (table n y.now) 0 × TolerancesFit q }
     requires sides_value { sides_in n sides.now ≡ rectangle (cond field (table n x.now) (table n y.now)) }
@@ -24,9 +25,19 @@ fn are_far(n: u32, q: Query, field: bool, sides: &[i32; 6], x: &[i32], y: &[i32]
     rectangles::far(n, q, sides, x)
 }
 
-// What a block pair comes to: 0, it is skipped; 1, it is joined, and no pair of it qualifies; 2, it is joined, pair by
-// pair. Only small blocks are tried for 1. `full` says that k pairs are held or out, `low` is the lowest held sum; the
-// rectangle of the new block, x where `field` says so, stands in `sides`.
+// What a block pair comes to.
+#[derive(Clone, Copy, PartialEq, Eq)]
+pub enum Joining {
+    // It is skipped.
+    Skipped,
+    // It is joined, and no pair of it qualifies.
+    Quiet,
+    // It is joined, pair by pair.
+    PairByPair,
+}
+
+// What a block pair comes to. Only small blocks are tried for a quiet one. `full` says that k pairs are held or out,
+// `low` is the lowest held sum; the rectangle of the new block, x where `field` says so, stands in `sides`.
 pub fn effect(
     n: u32,
     full: bool,
@@ -36,7 +47,7 @@ pub fn effect(
     sides: &[i32; 6],
     x: &[i32],
     y: &[i32],
-) -> u64
+) -> Joining
     requires has_row { HasRow (table n x.now) 0 × HasRow (table n y.now) 0 }
     requires small_pairs { SmallPairs q (table n x.now) (table n y.now) }
     requires sides_value { sides_in n sides.now ≡ rectangle (cond field (table n x.now) (table n y.now)) }
@@ -44,17 +55,14 @@ pub fn effect(
 {
     let first = tables::weighted(q.weights.field.0, n, x, 0);
     let second = tables::weighted(q.weights.trim.0, n, y, 0);
-    if full & (first + second < low as u64) {
-        return 0;
+    if full & (first + second < u64::from(low)) {
+        return Joining::Skipped;
     }
     if are_far(n, q, field, sides, x, y) {
-        return 0;
+        return Joining::Skipped;
     }
-    if 32 < tables::row_count(n, x) {
-        return 2;
+    if 32 < tables::row_count(n, x) || near_rows::any_beside(n, q, x, y) {
+        return Joining::PairByPair;
     }
-    if near_rows::any_beside(n, q, x, y) {
-        return 2;
-    }
-    1
+    Joining::Quiet
 }

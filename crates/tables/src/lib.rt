@@ -1,8 +1,10 @@
 // The rows of a table and the rules' check 4 of them: what the session and file reading share. Others see rows through
 // these functions, and not how many numbers a row has; n is how many of them are the coordinates of its shade.
+// n and the slice stay two parameters: a struct of both is no plainer. Holding a slice, it can't be `Copy` and have a
+// model, so a contract would say `table_of t.entry`, and of two tables, which share one n, that theirs is the same.
 #![tactic(auto)]
 
-ghost use Rattle.std.specs.Prelude.{◌≡◌, ◌+◌, ◌*◌, ◌-◌, ◌≤◌, ◌<◌, ◌^◌, length};
+ghost use Rattle.std.specs.Prelude.{◌≡◌, ◌+◌, ◌*◌, ◌-◌, ◌≤◌, ◌<◌, ◌^◌, cond, length};
 ghost use Rattle.rules.specs.Tables.{table, width, num, row_count, HasRow, HasRows, first_rows, part, size_fits};
 ghost use Rattle.rules.specs.Tables.{nat_of, row, withdrawn, weighted};
 ghost use Rattle.rules.specs.Calls.{moved_on};
@@ -29,16 +31,15 @@ pub fn rows_lent(n: u32, t: &[i32]) -> usize
 pub fn row_count(n: u32, t: &[i32]) -> usize
     ensures { result ≡ row_count (table n t.now) }
 {
-    if n == 2 {
-        return rows_lent(2, t);
+    match n {
+        2 => rows_lent(2, t),
+        3 => rows_lent(3, t),
+        _ => rows_lent(n, t),
     }
-    if n == 3 {
-        return rows_lent(3, t);
-    }
-    rows_lent(n, t)
 }
 
 // Whether a slice is of whole rows, at most 65,535.
+#[tactic(auto, unfolding(rules::specs::Tables::size_fits))]
 pub fn size_fits(n: u32, t: &[i32]) -> bool
     ensures { result ≡ size_fits (table n t.now) }
 {
@@ -92,6 +93,7 @@ pub fn coordinate(n: u32, t: &[i32], i: usize, k: usize) -> i32
 }
 
 // The coordinates of row i + 1, as a part of the table.
+#[tactic(auto, using(rules::specs::Widths::shade_length), unfolding(rules::specs::Tables::row))]
 pub fn shade(n: u32, t: &[i32], i: usize) -> &[i32]
     requires { HasRow (table n t.now) i }
     ensures { (result.now ≡ (row (table n t.now) i).shade) × (length result.now ≡ n) }
@@ -105,13 +107,11 @@ pub fn shade(n: u32, t: &[i32], i: usize) -> &[i32]
 pub fn natural(x: i32) -> u32
     ensures { result ≡ nat_of x }
 {
-    if 0 <= x {
-        return x as u32;
-    }
-    0
+    u32::try_from(x).unwrap_or(0)
 }
 
 // The pattern number of row i + 1; one below 0, which no checked table has, is 0.
+#[tactic(auto, unfolding(rules::specs::Tables::row))]
 pub fn pattern(n: u32, t: &[i32], i: usize) -> u32
     requires { HasRow (table n t.now) i }
     ensures { result ≡ (row (table n t.now) i).pattern }
@@ -120,6 +120,7 @@ pub fn pattern(n: u32, t: &[i32], i: usize) -> u32
 }
 
 // The score of row i + 1; one below 0, which no checked table has, is 0.
+#[tactic(auto, using(crate::proofs::Naturals::nat_small), unfolding(rules::specs::Tables::row))]
 pub fn score(n: u32, t: &[i32], i: usize) -> u32
     requires { HasRow (table n t.now) i }
     ensures { (result ≡ (row (table n t.now) i).score) × (result < 2 ^ 31) }
@@ -128,18 +129,26 @@ pub fn score(n: u32, t: &[i32], i: usize) -> u32
 }
 
 // A weight times the score of row i + 1, for every weight and every row: the sum of two such fits 64 bits.
+#[tactic(auto, unfolding(rules::specs::Tables::weighted))]
 pub fn weighted(weight: u32, n: u32, t: &[i32], i: usize) -> u64
     requires { HasRow (table n t.now) i }
     ensures { (result ≡ weighted weight (row (table n t.now) i)) × (result ≤ 4294967295 * 2147483647) }
 {
-    let score = score(n, t, i);
-    weight as u64 * score as u64
+    u64::from(weight) * u64::from(score(n, t, i))
 }
 
 // Whether row i + 1 is withdrawn: its score is 0.
+#[tactic(auto, unfolding(rules::specs::Tables::withdrawn))]
 pub fn is_withdrawn(n: u32, t: &[i32], i: usize) -> bool
     requires { HasRow (table n t.now) i }
     ensures { result ≡ withdrawn (row (table n t.now) i) }
 {
     score(n, t, i) == 0
+}
+
+// The first of two values where the flag says so, else the second.
+pub fn pick<T: Copy>(first: bool, a: T, b: T) -> T
+    ensures { result ≡ cond first a b }
+{
+    if first { a } else { b }
 }

@@ -1,22 +1,25 @@
 -- A take's answer, of the code that its checks gave, and the record that goes with it. Assumes nothing.
-use Rattle.std.specs.Prelude.{◌≡◌, Bool, ℕ}
+use Rattle.std.specs.Prelude.{◌≡◌, Bool, ℕ, Result, Err}
 use Rattle.std.proofs.Math.Path.{refl}
-use Rattle.std.proofs.Common.{ap, ◌∙◌, eqb-true}
+use Rattle.std.proofs.Common.{sym, ap, ◌∙◌, eqb-true, arith}
+use borrow.Author.Tests.{ne_eqb}
 use Rattle.std.proofs.Math.Bool.{true, false, cond}
 use Rattle.std.proofs.Math.Dec.{eqb}
 use Rattle.lists.specs.Bools.{clash}
 use Rattle.rules.specs.declared.Session.{Session}
 use Rattle.rules.specs.declared.Answer.{Answer}
 use Rattle.rules.specs.declared.Answer.TheVariants.{Refused, Given, NotYet, Finished}
+use Rattle.rules.specs.declared.Refusal.{Refusal}
 use Rattle.rules.specs.Take.{first_held, gives_pair, moved_out, finished}
 use Rattle.rules.specs.Query.{was_given}
 use Rattle.rules.specs.Calls.{call_code, step, take_call_by, take_call}
 use Rattle.rules.specs.Tables.{Table}
+use Rattle.rules.specs.Numbers.{code, number_of, refusal_of, refused}
 
 unfoldable pub take_answer : ℕ → Table → Table → Session → Answer
 take_answer code f t s =
     cond (eqb code 0) (cond (gives_pair f t s) (Given (first_held s)) (cond (finished f t s) Finished NotYet))
-    (Refused code)
+    (refused code)
 
 -- the record that goes with an answer: only a pair that is given changes it
 module _ (f t : Table) (s : Session) where
@@ -29,10 +32,10 @@ module _ (f t : Table) (s : Session) where
   take_is = go (call_code f t s) (eqb (call_code f t s) 0) (gives_pair f t s) (finished f t s)
     where
       go : (code : ℕ) (a b c : Bool)
-          → let x = cond a (cond b (Given (first_held s)) (cond c Finished NotYet)) (Refused code) in
+          → let x = cond a (cond b (Given (first_held s)) (cond c Finished NotYet)) (refused code) in
           step x (after_take x)
           ≡ cond a (cond b (step (Given (first_held s)) (moved_out s)) (cond c (step Finished s) (step NotYet s)))
-          (step (Refused code) s)
+          (step (refused code) s)
       go code false b c = refl
       go code true true c = refl
       go code true false true = refl
@@ -50,7 +53,7 @@ module _ (code : ℕ) (f t : Table) (s : Session) where
   take_asked e = go (eqb code 0) refl (gives_pair f t s) refl (finished f t s) e
     where
       go : (a : Bool) → eqb code 0 ≡ a → (b : Bool) → gives_pair f t s ≡ b → (c : Bool)
-          → was_given (cond a (cond b (Given (first_held s)) (cond c Finished NotYet)) (Refused code)) ≡ true
+          → was_given (cond a (cond b (Given (first_held s)) (cond c Finished NotYet)) (refused code)) ≡ true
           → (code ≡ 0) × (gives_pair f t s ≡ true)
       go false h b k c e = clash e refl
       go true h true k c e = (eqb-true code 0 h, k)

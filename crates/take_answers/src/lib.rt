@@ -2,12 +2,13 @@
 #![tactic(auto)]
 
 ghost use Rattle.std.specs.Prelude.{◌≡◌};
+ghost use Rattle.rules.specs.Numbers.{code};
 ghost use Rattle.rules.specs.Take.{gives_pair, finished};
 ghost use Rattle.session_laws.specs.Calls.{Accepted};
 ghost use Rattle.take_answers.specs.Answers.{take_answer};
 ghost use Rattle.rules.specs.Session.{lent_table};
 
-use rules::{Answer, Counts, FieldRows, Session, TrimRows};
+use rules::{Answer, Counts, FieldRows, Refusal, Session, TrimRows};
 
 // Whether a take answers the first held pair.
 fn gives_pair(f: &[i32], t: &[i32], s: Session) -> bool
@@ -17,15 +18,23 @@ fn gives_pair(f: &[i32], t: &[i32], s: Session) -> bool
     if s.held == 0 {
         return false;
     }
-    let p = s.pairs[0];
     let rows = Counts {
         field: FieldRows(s.rows.field.0),
         trim: TrimRows(s.rows.trim.0),
     };
-    securing::is_secured(f, t, s.rows.card, rows, s.depth, s.query.weights, p)
+    securing::is_secured(
+        f,
+        t,
+        s.rows.card,
+        rows,
+        s.depth,
+        s.query.weights,
+        s.pairs[0],
+    )
 }
 
 // Whether no further pair can come.
+#[tactic(auto, using(table_ends::specs::BothRead::accepted_rows), unfolding(rules::specs::Take::finished))]
 fn is_finished(f: &[i32], t: &[i32], s: Session) -> bool
     requires { Accepted (lent_table s f.now) (lent_table s t.now) s }
     ensures { result ≡ finished (lent_table s f.now) (lent_table s t.now) s }
@@ -41,18 +50,17 @@ fn is_finished(f: &[i32], t: &[i32], s: Session) -> bool
     (s.out == s.query.k) | (none | (empty | (out & (s.held == 0))))
 }
 
-// What a take answers, of the code that the checks gave: refused; the first held pair, if it is secured; else finished,
-// or not yet.
-pub fn take_answer(code: u32, f: &[i32], t: &[i32], s: Session) -> Answer
-    requires { code ≡ 0 → Accepted (lent_table s f.now) (lent_table s t.now) s }
-    ensures { result ≡ take_answer code (lent_table s f.now) (lent_table s t.now) s }
+// What a take answers: what the checks refuse it by; the first held pair, if it is secured; else finished, or not yet.
+#[tactic(auto, using(rules::specs::Numbered::refused_is), unfolding(crate::specs::Answers::take_answer))]
+pub fn take_answer(check: Result<(), Refusal>, f: &[i32], t: &[i32], s: Session) -> Answer
+    requires { code check ≡ 0 → Accepted (lent_table s f.now) (lent_table s t.now) s }
+    ensures { result ≡ take_answer (code check) (lent_table s f.now) (lent_table s t.now) s }
 {
-    if code != 0 {
-        return Answer::Refused(code);
+    if let Err(refusal) = check {
+        return Answer::Refused(refusal);
     }
     if gives_pair(f, t, s) {
-        let p = s.pairs[0];
-        return Answer::Given(p);
+        return Answer::Given(s.pairs[0]);
     }
     if is_finished(f, t, s) {
         return Answer::Finished;

@@ -17,59 +17,56 @@ pub fn both(q: Query) -> u32
 }
 
 // Whether no two shades of n coordinates qualify, wherever they lie.
+#[tactic(auto, using(rules::proofs::ToleranceLaws::unsatisfiable_is))]
 pub fn unsatisfiable(q: Query, n: u32) -> bool
     requires { TolerancesFit q }
     ensures { result ≡ unsatisfiable q n }
 {
-    let r = q.radius as u64;
-    let t = both(q) as u64;
-    let meaning = q.meaning;
-    match meaning {
-        Meaning::Surely => r * r < n as u64 * (t * t),
+    let r = u64::from(q.radius);
+    let t = u64::from(both(q));
+    match q.meaning {
+        Meaning::Surely => r * r < u64::from(n) * (t * t),
         Meaning::Possibly => false,
     }
 }
 
 // What a gap is raised by: a pair that qualifies surely does at the farthest places.
+#[tactic(auto, unfolding(crate::specs::Counted::more))]
 pub fn more(q: Query) -> u32
     requires { TolerancesFit q }
     ensures { (result ≡ more q) × (result ≤ 1000) }
 {
     let t = both(q);
-    let meaning = q.meaning;
-    match meaning {
+    match q.meaning {
         Meaning::Surely => t,
         Meaning::Possibly => 0,
     }
 }
 
 // What it is then lowered by, not below 0: one that qualifies possibly does at the nearest.
+#[tactic(auto, unfolding(crate::specs::Counted::less))]
 pub fn less(q: Query) -> u32
     requires { TolerancesFit q }
     ensures { (result ≡ less q) × (result ≤ 1000) }
 {
     let t = both(q);
-    let meaning = q.meaning;
-    match meaning {
+    match q.meaning {
         Meaning::Surely => 0,
         Meaning::Possibly => t,
     }
 }
 
 // How far apart two shades that qualify may lie in a coordinate.
+#[tactic(auto, unfolding(crate::specs::Counted::reach))]
 pub fn reach(q: Query) -> u32
     requires { TolerancesFit q × (q.radius ≤ 40000) }
     ensures { (result ≡ reach q) × (result ≤ 41000) }
 {
-    let far = q.radius + less(q);
-    let near = more(q);
-    if near <= far {
-        return far - near;
-    }
-    0
+    (q.radius + less(q)).saturating_sub(more(q))
 }
 
 // How far apart two shades that qualify may lie, or more.
+#[tactic(auto, unfolding(crate::specs::Counted::wide))]
 pub fn wide(q: Query) -> u32
     requires { TolerancesFit q × (q.radius ≤ 40000) }
     ensures { (result ≡ wide q) × (result ≤ 43000) }

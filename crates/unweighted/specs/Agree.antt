@@ -8,7 +8,7 @@ use Rattle.lists.specs.Lists.{every}
 use Rattle.rules.specs.declared.Pair.{Pair}
 use Rattle.rules.specs.declared.Query.{Query}
 use Rattle.rules.specs.declared.Session.{Session}
-use Rattle.rules.specs.declared.Answer.TheVariants.{Refused, Read, Settled, Given, NotYet, Finished}
+use Rattle.rules.specs.declared.Answer.TheVariants.{Read, Settled, Given, NotYet, Finished}
 use Rattle.rules.specs.Tables.{Table, Terms, terms, Block, qualifying}
 use Rattle.rules.specs.Session.{held_pairs, first_score, last_score, field_read_out, trim_read_out, both_read_out}
 use Rattle.rules.specs.Session.{nothing_qualifies, a_table_is_empty, a_depth_is_zero, ceiling_by, secured_by}
@@ -19,6 +19,7 @@ use Rattle.rules.specs.Read.{holding, meet_by, meet_blocks_by, read_to, old_dept
 use Rattle.rules.specs.Read.{read_block_by}
 use Rattle.rules.specs.Take.{first_held, gives_pair_by, moved_out, finished}
 use Rattle.rules.specs.Calls.{rows_code, call_code, new_block_code_by, step, read_call_by, take_call_by}
+use Rattle.rules.specs.Numbers.{refused}
 use Rattle.session_laws.specs.Read.{blocks_keep}
 
 -- a block pair
@@ -116,8 +117,8 @@ module _ (g : Query → Terms) (s : Session) (e : g s.query ≡ terms s.query) w
         λ i.
         cond (eqb (call_code f t s) 0)
         (cond (settled_agrees i) (step Settled s)
-        (cond (eqb (new_block_agrees i) 0) (step Read (block_agrees i)) (step (Refused (new_block_agrees i)) s)))
-        (step (Refused (call_code f t s)) s)
+        (cond (eqb (new_block_agrees i) 0) (step Read (block_agrees i)) (step (refused (new_block_agrees i)) s)))
+        (step (refused (call_code f t s)) s)
 
     pub take_agrees : take_call_by g f t s ≡ take_call_by terms f t s
     unfolding take_call_by gives_pair_by
@@ -127,5 +128,5 @@ module _ (g : Query → Terms) (s : Session) (e : g s.query ≡ terms s.query) w
         cond (eqb (call_code f t s) 0)
         (cond (ltb 0 s.held && secured (first_held s)) (step (Given (first_held s)) (moved_out s))
         (cond (finished f t s) (step Finished s) (step NotYet s)))
-        (step (Refused (call_code f t s)) s))
+        (step (refused (call_code f t s)) s))
         secured_agrees

@@ -12,7 +12,7 @@ use Rattle.rules.specs.declared.Query.{Query}
 use Rattle.rules.specs.declared.Weights.{Weights}
 use Rattle.rules.specs.declared.Session.{Session}
 use Rattle.rules.specs.declared.Step.{Step}
-use Rattle.rules.specs.declared.Answer.TheVariants.{Refused, Read, Settled, Given, NotYet, Finished}
+use Rattle.rules.specs.declared.Answer.TheVariants.{Read, Settled, Given, NotYet, Finished}
 use Rattle.rules.specs.Tables.{Table, weighted, terms, unweighted}
 use Rattle.rules.specs.Numbers.{bad_record}
 use Rattle.rules.specs.Session.{lent_table, weights, opened, settled}
@@ -23,6 +23,7 @@ use Rattle.rules.specs.Calls.{take_call_by}
 use Rattle.rules.specs.Calls.{take_call}
 use Rattle.rules.specs.Query.{was_read, given, was_given, read_until_settled_by, take_until_finished_by}
 use Rattle.rules.specs.Query.{settled_session, list}
+use Rattle.rules.specs.Numbers.{refused}
 use Rattle.session_laws.specs.Calls.{call_out, new_block_out}
 use Rattle.session_laws.specs.Read.{read_query}
 use Rattle.demand.specs.Demand.{Call, reading, taking, Line, ruled, by_rules}
@@ -55,13 +56,13 @@ module _ (f t : Table) (s : Session) (plain : Plain s) where
   unfolding read_unweighted
   read_same =
       sym (read_agrees unweighted s (same_terms s.query plain.ones) f t)
-      ∙ ap (λ b. cond b (read_call_by unweighted f t s) (step (Refused bad_record) s)) (sym plain.low)
+      ∙ ap (λ b. cond b (read_call_by unweighted f t s) (step (refused bad_record) s)) (sym plain.low)
 
   take_same : take_call f t s ≡ take_unweighted f t s
   unfolding take_unweighted
   take_same =
       sym (take_agrees unweighted s (same_terms s.query plain.ones) f t)
-      ∙ ap (λ b. cond b (take_call_by unweighted f t s) (step (Refused bad_record) s)) (sym plain.low)
+      ∙ ap (λ b. cond b (take_call_by unweighted f t s) (step (refused bad_record) s)) (sym plain.low)
 
   -- ---- And a record of the same kind
 
@@ -89,8 +90,8 @@ module _ (f t : Table) (s : Session) (plain : Plain s) where
 
       go : (a b c : Bool) → eqb (call_code f t s) 0 ≡ a → eqb (new_block_code f t s) 0 ≡ c
           → Plain
-          (cond a (cond b (step Settled s) (cond c (step Read (read_block f t s)) (step (Refused new) s)))
-          (step (Refused code) s)).session
+          (cond a (cond b (step Settled s) (cond c (step Read (read_block f t s)) (step (refused new) s)))
+          (step (refused code) s)).session
       go true true c x y = plain
       go true false true x y = block_plain (eqb-true (call_code f t s) 0 x) (eqb-true (new_block_code f t s) 0 y)
       go true false false x y = plain
@@ -106,7 +107,7 @@ module _ (f t : Table) (s : Session) (plain : Plain s) where
       go : (a b c : Bool)
           → Plain
           (cond a (cond b (step (Given (first_held s)) (moved_out s)) (cond c (step Finished s) (step NotYet s)))
-          (step (Refused code) s)).session
+          (step (refused code) s)).session
       go true true c = moved_plain
       go true false true = plain
       go true false false = plain

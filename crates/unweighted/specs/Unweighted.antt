@@ -6,7 +6,7 @@ use Rattle.rules.specs.declared.Pair.{Pair}
 use Rattle.rules.specs.declared.Query.{Query}
 use Rattle.rules.specs.declared.Session.{Session}
 use Rattle.rules.specs.declared.Step.{Step}
-use Rattle.rules.specs.declared.Answer.TheVariants.{Refused}
+use Rattle.rules.specs.Numbers.{refused}
 use Rattle.rules.specs.Tables.{Table, unweighted}
 use Rattle.rules.specs.Session.{lent_table, held_pairs}
 use Rattle.rules.specs.Numbers.{bad_record}
@@ -26,7 +26,7 @@ low_sums s = every is_low (held_pairs s)
 
 -- such a sum is one more ground of 5, which is asked before anything else
 abbrev pub unless_high : Session → Step → Step
-unless_high s r = cond (low_sums s) r (step (Refused bad_record) s)
+unless_high s r = cond (low_sums s) r (step (refused bad_record) s)
 
 -- read and take
 unfoldable pub read_unweighted : Table → Table → Session → Step

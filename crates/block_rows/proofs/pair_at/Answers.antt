@@ -1,5 +1,4 @@
 -- `pair_at` meets its contract, by what `weighted` ensures: the sum is small. Assumes nothing.
--- two weighted scores of rows that passed 6
 use native.Mathlib.Omega.{arith}
 use mathlib.Core.Path.{refl}
 use Prim.Native.Nat.{◌+◌, ◌≤◌}
@@ -9,6 +8,7 @@ use Rattle.session_laws.specs.Tables.{weighted_most}
 use Rattle.block_rows.proofs.pair_at.Goals as goal
 use Rattle.block_rows.proofs.pair_at.Goals.{After-weighted-t}
 
+-- two weighted scores of rows that passed 6
 low : (c : After-weighted-t) → c.weighted-s.result + c.weighted-t.result ≤ most_sum
 low c =
     let s = c in

@@ -6,7 +6,6 @@ use native.Mathlib.Omega.{arith}
 use mathlib.Core.Bool.{◌&&◌}
 use lib.Dec.{eqb}
 use lib.ListN.{length, get_or}
-use borrow.Author.Rules.{rules}
 use Rattle.file_laws.specs.Places.{place_value_at}
 use Rattle.column_scan.specs.declared.Scan.{Scan}
 use Rattle.rules.specs.File.{is_digit}
@@ -18,25 +17,22 @@ use Rattle.column_scan.proofs.scan_from.Goals as goal
 pub loop-i-init : goal.loop-i-init
 loop-i-init c =
     let s = c.args in
-    (search rules, search rules, omega (arith, left_most (s.end - s.at) (omega arith)), search rules, refl)
+    record { left = omega (arith, left_most (s.end - s.at) (omega arith)); digits = omega arith; so_far = refl }
 
 pub step-s-requires : goal.step-s-requires
 step-s-requires c =
-    let at = c in
-    let l = at.loop-i in
-    let s = at.args in
-    let place = c.place_value-place in (
-      left_some l.s.worth (s.end - l.i) l.invariant.2,
+    let l = c.loop-i in
+    let left = c.args.end - 1 - l.i in (
+      left_some l.s.worth (c.args.end - l.i) l.invariant.left,
       omega arith,
-      rw place.ensures (place_small (s.end - 1 - l.i) (omega arith)),
+      rw c.place_value-place.ensures (place_small left (omega arith)),
     )
 
 pub loop-i-preserved : goal.loop-i-preserved
 unfolding scanned stepped
 loop-i-preserved c =
-    let at = c in
-    let l = at.loop-i in
-    let s = at.args in
+    let l = c.loop-i in
+    let s = c.args in
     let bytes = s.bytes.now in
     let b = get_or bytes l.i 0 in
     let m = s.signed && eqb b 45 in
@@ -49,22 +45,21 @@ loop-i-preserved c =
     let stepped_is : c.step-s.result ≡ stepped s.signed (place_value_at left) l.s b =
     c.step-s.ensures ∙ ap (λ (p : ℕ). stepped s.signed p l.s b) place.ensures in
     let before : l.s.worth + 2 * 10 ^ suc left ≤ 20000000 =
-    subst (λ (r : ℕ). l.s.worth + 2 * 10 ^ r ≤ 20000000) k l.invariant.2 in
+    subst (λ (r : ℕ). l.s.worth + 2 * 10 ^ r ≤ 20000000) k l.invariant.left in
     let grown = worth_grows l.s.worth (byte_worth m b) left (omega arith) before (worth_small m b) in
     let counted = ap (λ (x : Scan). x.digits) stepped_is in
-    let worth = ap (λ (x : Scan). x.worth) stepped_is in (
-      search rules,
-      search rules,
-      rw (fewer, worth) grown,
-      rw counted (omega (arith, one_most (is_digit b), l.invariant.3)),
-      l.invariant.4
+    let worth = ap (λ (x : Scan). x.worth) stepped_is in
+    record {
+      left = rw (fewer, worth) grown;
+      digits = rw counted (omega (arith, one_most (is_digit b), l.invariant.digits));
+      so_far = l.invariant.so_far
           ∙ ap (scanned s.signed l.s) (next bytes l.i s.end (omega arith) (omega arith))
           ∙ ap
           (λ (n : ℕ).
           scanned s.signed (stepped s.signed (place_value_at n) l.s b) (up_to bytes (l.i + 1) s.end))
           behind
-          ∙ ap (λ (x : Scan). scanned s.signed x (up_to bytes (l.i + 1) s.end)) (sym stepped_is),
-    )
+          ∙ ap (λ (x : Scan). scanned s.signed x (up_to bytes (l.i + 1) s.end)) (sym stepped_is);
+    }
 
 pub returns : goal.returns
 unfolding scanned
@@ -73,6 +68,6 @@ returns c =
     let s = c.args in
     let e : l.i ≡ s.end = omega arith in
     let z : up_to s.bytes.now l.i s.end ≡ [] = rw e (none s.bytes.now s.end) in record {
-      value = sym (l.invariant.4 ∙ ap (scanned s.signed l.s) z);
-      worth_bound = (left_some l.s.worth (s.end - l.i) l.invariant.2, omega (arith, l.invariant.3));
+      value = sym (l.invariant.so_far ∙ ap (scanned s.signed l.s) z);
+      worth_bound = (left_some l.s.worth (s.end - l.i) l.invariant.left, omega (arith, l.invariant.digits));
     }

@@ -1,5 +1,5 @@
 -- The opening over numbers laid out flat.
-use Rattle.std.proofs.Common.{◌≡◌, sym, ap, subst, ◌∙◌}
+use Rattle.std.proofs.Common.{◌≡◌, sym, ap, ◌∙◌}
 use mir.Syntax.{w32}
 use mir.Facts.{to_z-of_z}
 use borrow.Author.Rules.{sfits_of}
@@ -9,7 +9,6 @@ use Rattle.rules.specs.Numbers.{said, signed}
 use Rattle.rules.specs.Tables.{field_table, trim_table}
 use Rattle.rules.specs.Calls.{open_call}
 use Rattle.record_layout.specs.Flat.{query_in, kinds_in}
-use Rattle.answers.specs.Refusals.{Numbered, open_refusal}
 use Rattle.flat_calls.specs.Calls.{is_new, left_in, open_step, open_number, open_leaves}
 use Rattle.flat_calls.specs.Unchanged.{refused_left, new_left}
 use Rattle.flat_open.proofs.Openings.{not_opened}
@@ -24,9 +23,6 @@ returns-then-query-lent-clause-value c =
 pub returns-then-query-lent-clause-lent_after : goal.returns-then-query-lent-clause-lent_after
 unfolding open_leaves open_step left_in
 returns-then-query-lent-clause-lent_after c = simp c.if-query-lent.true
-
-pub told-requires : goal.told-requires
-told-requires c = subst Numbered (sym c.start-step.ensures) (open_refusal _ _ _)
 
 -- what the opening answers is the rules' of the numbers lent
 stepped : (c : After-start-step) → let a = c.args in
@@ -47,8 +43,8 @@ returns-clause-lent_after c =
     let l = c.args.lent.now in
     let r = c.start-step.result in
     let e = stepped (goal.at.returns-clause-lent_after c).After-start-step in
-    let written : c.match-answer.lent ≡ left_in l r =
-    elim c.match-answer.branch [
+    let written : c.match-step.lent ≡ left_in l r =
+    elim c.match-step.branch [
       | in-Opened w ↦
           w.lent-is ∙ w.pack.ensures ∙ sym (new_left l r (ap (λ (a : Answer). is_new a) w.in-Opened.is))
       | in_default w ↦

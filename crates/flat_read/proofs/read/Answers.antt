@@ -1,5 +1,5 @@
 -- `read` meets its contract. Assumes nothing.
-use Rattle.std.proofs.Common.{◌≡◌, sym, ap, subst, ◌∙◌, List, ℕ, ℤ}
+use Rattle.std.proofs.Common.{◌≡◌, sym, ap, ◌∙◌, List, ℕ, ℤ}
 use mir.Syntax.{w32}
 use mir.Facts.{to_z-of_z}
 use borrow.Author.Rules.{sfits_of}
@@ -13,7 +13,6 @@ use Rattle.rules.specs.Query.{was_read}
 use Rattle.rules.specs.Calls.{read_call}
 use Rattle.checks.proofs.Answers.{not_read}
 use Rattle.record_layout.specs.Flat.{unflatten}
-use Rattle.answers.specs.Refusals.{Numbered, read_refusal}
 use Rattle.flat_calls.specs.Calls.{is_new, left_in, read_step, read_number, read_leaves}
 use Rattle.flat_calls.specs.Unchanged.{new_left}
 use Rattle.flat_read.specs.Unchanged.{read_left}
@@ -36,13 +35,6 @@ returns-then-lent-lt-SIZE c =
       lent_after = simp short;
     }
 
-pub told-requires : goal.told-requires
-told-requires c =
-    let e =
-    stepped c.args.f.now c.args.t.now c.args.lent.now c.unpack-s.result c.read-step.result c.unpack-s.ensures
-    c.read-step.ensures in
-    subst Numbered (sym e) (read_refusal _ _ _)
-
 pub returns : goal.returns
 unfolding read_number read_leaves read_step
 returns c =
@@ -54,8 +46,8 @@ returns c =
     let number = to_z-of_z {w = w32} {z = c.told.result} (sfits_of c.told.type_inv) in
     let e = stepped c.args.f.now c.args.t.now l c.unpack-s.result r c.unpack-s.ensures c.read-step.ensures in
     let long = le-ltb _ _ c.if-lent-lt-SIZE.false in
-    let written : c.match-answer.lent ≡ left_in l (read_call f t s) =
-    elim c.match-answer.branch [
+    let written : c.match-step.lent ≡ left_in l (read_call f t s) =
+    elim c.match-step.branch [
       | in-Read w ↦
           let new = ap (λ (a : Answer). is_new a) w.in-Read.is in
           w.lent-is ∙ w.pack.ensures ∙ sym (new_left l r new) ∙ ap (left_in l) e

@@ -1,93 +1,59 @@
 -- `put_shown` meets its contract. Assumes nothing.
-use mathlib.Core.Path.{◌≡◌, sym, ap, ◌∙◌}
-use mathlib.Core.Bool.{Bool}
-use native.Mathlib.Omega.{arith}
-use borrow.Author.Tests.{eq-eqb, ne_eqb}
-use Rattle.std.specs.Prelude.{List, ℤ, ℕ}
-use Rattle.rules.specs.declared.Session.{Session}
+use Rattle.std.proofs.Common.{◌≡◌, ap, ◌∙◌, eqb, eqb-true, not, true, arith}
 use Rattle.rules.specs.Session.{lent_table}
-use Rattle.rules.specs.Calls.{lent_code, record_fits}
+use Rattle.rules.specs.Calls.{lent_code}
 use Rattle.session_laws.specs.Calls.{Lent, lent_out}
-use Rattle.checks.specs.Codes.{lent_of, lent_is}
+use Rattle.checks.specs.Codes.{lent_passes}
 use Rattle.flat_calls.specs.Calls.{shown_numbers}
 use Rattle.flat_show.proofs.put_shown.Goals as goal
+use Rattle.flat_show.proofs.put_shown.Goals.{After-is_err}
 
--- what the checks answer is the rule's
-module _ (s : Session) (f t : List ℤ) (b : Bool) (n : ℕ) (fits : b ≡ record_fits s) (is : n ≡ lent_of b s.rows f t)
-  where
-    code_is : n ≡ lent_code (lent_table s f) (lent_table s t) s
-    code_is = is ∙ ap (λ (x : Bool). lent_of x s.rows f t) fits ∙ lent_is f t s
+-- whether 5 and 4 pass
+asked : (c : After-is_err) → let a = c.args in
+    eqb (lent_code (lent_table a.s a.f.now) (lent_table a.s a.t.now) a.s) 0 ≡ not c.is_err.result
+asked c =
+    lent_passes c.args.f.now c.args.t.now c.args.s c.fits.result c.check_lent.result c.fits.ensures c.check_lent.ensures
+    ∙ c.is_err.ensures.negation
 
-    passed : n ≡ 0 → lent_code (lent_table s f) (lent_table s t) s ≡ 0
-    passed h = sym code_is ∙ h
+known : (c : After-is_err) → not c.is_err.result ≡ true → let a = c.args in
+    Lent (lent_table a.s a.f.now) (lent_table a.s a.t.now) a.s
+known c e = lent_out _ _ c.args.s (eqb-true _ 0 (asked c ∙ e))
 
-    known : n ≡ 0 → Lent (lent_table s f) (lent_table s t) s
-    known h = lent_out (lent_table s f) (lent_table s t) s (passed h)
-
-pub returns-then-lent_code-ne0 : goal.returns-then-lent_code-ne0
+pub returns-then-is_err : goal.returns-then-is_err
 unfolding shown_numbers
-returns-then-lent_code-ne0 c =
-    let at = c in
-    simp (
-      ← code_is c.args.s c.args.f.now c.args.t.now c.fits-fits.result c.lent_code.result c.fits-fits.ensures
-          c.lent_code.ensures,
-      ne_eqb _ _ at.if-lent_code-ne0.true,
-    ) c.put_three.ensures
+returns-then-is_err c =
+    simp (asked (goal.at.returns-then-is_err c).After-is_err, c.if-is_err.true) c.put_three.ensures
 
 pub put_block-requires : goal.put_block-requires
 put_block-requires c =
-    let at = c in
-    let k = known c.args.s c.args.f.now c.args.t.now c.fits-fits.result c.lent_code.result c.fits-fits.ensures
-    c.lent_code.ensures c.if-lent_code-ne0.false in (
+    let k = known (goal.at.put_block-requires c).After-is_err (ap not c.if-is_err.false) in (
       k.fits.query.block.0,
-      k.fits.mark.field c.if-s-eq1.true,
+      k.fits.mark.field c.in-1.is,
       omega (arith, k.fits.field.few, k.fits.field.within),
-      at.requires,
+      c.requires,
     )
 
-pub returns-then-s-eq1 : goal.returns-then-s-eq1
-unfolding shown_numbers
-returns-then-s-eq1 c =
-    let at = c in
-    simp (
-      eq-eqb _ _ (passed c.args.s c.args.f.now c.args.t.now c.fits-fits.result c.lent_code.result
-          c.fits-fits.ensures c.lent_code.ensures c.if-lent_code-ne0.false),
-      at.if-s-eq1.true,
-    ) c.put_block.ensures
-
-pub put_block-requires-then-s-eq2 : goal.put_block-requires-then-s-eq2
-put_block-requires-then-s-eq2 c =
-    let at = c in
-    let k = known c.args.s c.args.f.now c.args.t.now c.fits-fits.result c.lent_code.result c.fits-fits.ensures
-    c.lent_code.ensures c.if-lent_code-ne0.false in (
+pub put_block-requires-in-2 : goal.put_block-requires-in-2
+put_block-requires-in-2 c =
+    let k = known (goal.at.put_block-requires-in-2 c).After-is_err (ap not c.if-is_err.false) in (
       k.fits.query.block.0,
-      k.fits.mark.trim c.if-s-eq2.true,
+      k.fits.mark.trim c.in-2.is,
       omega (arith, k.fits.trim.few, k.fits.trim.within),
-      at.requires,
+      c.requires,
     )
 
-pub returns-then-s-eq2 : goal.returns-then-s-eq2
+pub returns-in-1 : goal.returns-in-1
 unfolding shown_numbers
-returns-then-s-eq2 c =
-    let at = c in
-    let left = at in
-    simp (
-      eq-eqb _ _ (passed c.args.s c.args.f.now c.args.t.now c.fits-fits.result c.lent_code.result
-          c.fits-fits.ensures c.lent_code.ensures c.if-lent_code-ne0.false),
-      at.if-s-eq2.true,
-    )
-    c.put_block-then-s-eq2.ensures
+returns-in-1 c =
+    simp (asked (goal.at.returns-in-1 c).After-is_err, c.if-is_err.false, c.in-1.is) c.put_block.ensures
 
-pub returns : goal.returns
+pub returns-in-2 : goal.returns-in-2
 unfolding shown_numbers
-returns c =
-    let at = c in
-    let unread = at in
-    simp (
-      eq-eqb _ _ (passed c.args.s c.args.f.now c.args.t.now c.fits-fits.result c.lent_code.result
-          c.fits-fits.ensures c.lent_code.ensures c.if-lent_code-ne0.false),
-      ne_eqb _ _ unread.if-s-eq1.false,
-      ne_eqb _
-          _ at.if-s-eq2.false,
-    )
-    c.put_three-2.ensures
+returns-in-2 c =
+    simp (asked (goal.at.returns-in-2 c).After-is_err, c.if-is_err.false, c.in-2.is) c.put_block-in-2.ensures
+
+pub returns-in_default : goal.returns-in_default
+unfolding shown_numbers
+returns-in_default c =
+    let e = asked (goal.at.returns-in_default c).After-is_err ∙ ap not c.if-is_err.false in
+    grind (arith, e)

@@ -1,5 +1,5 @@
 -- `take` meets its contract. Assumes nothing.
-use Rattle.std.proofs.Common.{◌≡◌, sym, ap, subst, ◌∙◌, List, ℕ, ℤ}
+use Rattle.std.proofs.Common.{◌≡◌, sym, ap, ◌∙◌, List, ℕ, ℤ}
 use mir.Syntax.{w32}
 use mir.Facts.{to_z-of_z}
 use borrow.Author.Rules.{sfits_of}
@@ -12,7 +12,6 @@ use Rattle.rules.specs.Query.{was_given}
 use Rattle.checks.proofs.Answers.{not_given}
 use Rattle.rules.specs.Calls.{take_call}
 use Rattle.record_layout.specs.Flat.{pair_size, flat_size, unflatten}
-use Rattle.answers.specs.Refusals.{Numbered, take_refusal}
 use Rattle.flat_calls.specs.Calls.{is_new, left_in, written_in, take_step, take_number, take_leaves, take_writes}
 use Rattle.flat_calls.specs.Unchanged.{new_left}
 use Rattle.flat_take.specs.Unchanged.{take_left}
@@ -41,13 +40,6 @@ returns-then-lent-pair c =
 pub put_given-requires : goal.put_given-requires
 put_given-requires c = right_long flat_size pair_size c.args.lent.now c.args.pair.now c.if-lent-pair.false
 
-pub told-requires : goal.told-requires
-told-requires c =
-    let e =
-    stepped c.args.f.now c.args.t.now c.args.lent.now c.unpack-s.result c.take-step.result c.unpack-s.ensures
-    c.take-step.ensures in
-    subst Numbered (sym e) (take_refusal _ _ _)
-
 pub returns : goal.returns
 unfolding take_number take_leaves take_writes take_step
 returns c =
@@ -60,8 +52,8 @@ returns c =
     let number = to_z-of_z {w = w32} {z = c.told.result} (sfits_of c.told.type_inv) in
     let e = stepped c.args.f.now c.args.t.now l c.unpack-s.result r c.unpack-s.ensures c.take-step.ensures in
     let long = c.if-lent-pair.false in
-    let written : c.match-answer.lent ≡ left_in l (take_call f t s) =
-    elim c.match-answer.branch [
+    let written : c.match-step.lent ≡ left_in l (take_call f t s) =
+    elim c.match-step.branch [
       | in-Given w ↦
           let new = ap (λ (a : Answer). is_new a) w.in-Given.is in
           w.lent-is ∙ w.pack.ensures ∙ sym (new_left l r new) ∙ ap (left_in l) e

@@ -2,20 +2,9 @@
 use mathlib.Core.Path.{◌≡◌}
 use Prim.Native.Nat.{◌-◌, ◌<◌, ◌^◌, min}
 use native.Mathlib.Omega.{arith}
-use Rattle.rules.specs.Widths.{rows_row}
 use Rattle.rules.specs.Tables.{table, row, squared_distance}
 use Rattle.listing.specs.Shown.{line_of}
 use Rattle.listing.proofs.distance.Goals as goal
-
-pub shade-x-requires : goal.shade-x-requires
-shade-x-requires c =
-    let s = c in
-    rows_row (table s.args.n s.args.f.now) _ _ (omega (arith, s.requires.field.0)) s.requires.field.1
-
-pub shade-y-requires : goal.shade-y-requires
-shade-y-requires c =
-    let s = c in
-    rows_row (table s.args.n s.args.t.now) _ _ (omega (arith, s.requires.trim.0)) s.requires.trim.1
 
 pub returns : goal.returns
 unfolding line_of

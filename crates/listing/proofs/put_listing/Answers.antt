@@ -1,38 +1,9 @@
 -- `put_listing` meets its contract. Assumes nothing.
--- the start of the call, from where the query is put
 use native.Mathlib.Omega.{arith}
 use Rattle.rules.specs.Tables.{table}
 use Rattle.listing.specs.ListShown.{count_few}
 use Rattle.listing.proofs.Lines.{listing_put}
 use Rattle.listing.proofs.put_listing.Goals as goal
-
-pub overflow_mul-end : goal.overflow_mul-end
-overflow_mul-end c =
-    let s = c in
-    let few = count_few (table s.args.n s.args.f.now) (table s.args.n s.args.t.now) s.args.run
-    s.requires.1 in
-    record { fits = omega arith }
-
-pub overflow_add-end : goal.overflow_add-end
-overflow_add-end c =
-    let s = c in
-    let few = count_few (table s.args.n s.args.f.now) (table s.args.n s.args.t.now) s.args.run
-    s.requires.1 in
-    record { fits = omega arith }
-
-pub put_last-requires : goal.put_last-requires
-put_last-requires c =
-    let s = c in
-    let few = count_few (table s.args.n s.args.f.now) (table s.args.n s.args.t.now) s.args.run
-    s.requires.1 in
-    omega (arith, c.put_pairs.auto.out, c.put_query.auto.out, s.requires.0)
-
-pub overflow_add-result : goal.overflow_add-result
-overflow_add-result c =
-    let s = c in
-    let few = count_few (table s.args.n s.args.f.now) (table s.args.n s.args.t.now) s.args.run
-    s.requires.1 in
-    record { fits = omega arith }
 
 pub returns : goal.returns
 returns c =

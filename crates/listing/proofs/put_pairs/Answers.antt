@@ -8,22 +8,12 @@ use Rattle.rules.specs.Tables.{table}
 use Rattle.rules.specs.Session.{no_pair}
 use Rattle.rules.specs.Query.{list}
 use Rattle.printing.specs.Put.{put_at}
-use Rattle.printing.specs.Laid.{writing_starts, writing_on, writing_ends}
+use Rattle.printing.specs.Laid.{writing_on, writing_ends}
 use Rattle.pair_line.specs.Line.{line_bytes, line_length}
 use Rattle.listing.specs.Shown.{line_bytes_lem}
-use Rattle.listing.specs.ListShown.{count_is, count_few, pair_at_lem}
+use Rattle.listing.specs.ListShown.{count_is, pair_at_lem}
 use Rattle.listing.proofs.Lines.{line_at, line_at_length, lines_laid}
 use Rattle.listing.proofs.put_pairs.Goals as goal
-
-pub loop-i-init : goal.loop-i-init
-loop-i-init c =
-    let s = c.args in
-    let f = table s.n s.f.now in
-    let t = table s.n s.t.now in
-    let l = list s.run.query f t in (
-      count_few f t s.run c.requires.1,
-      writing_starts (line_at f t) line_length s.at l s.out.now,
-    )
 
 pub line_of-line-requires : goal.line_of-line-requires
 line_of-line-requires c =
@@ -31,12 +21,6 @@ line_of-line-requires c =
     let i = c.loop-i.i in
     (pair_at_lem (table s.args.n s.args.f.now) (table s.args.n s.args.t.now) s.args.run s.requires.1 i
     c.loop-i-test.true).shown
-
-pub put_line-requires : goal.put_line-requires
-put_line-requires c =
-    let at = c in
-    let l = at.loop-i in
-    omega (arith, at.loop-i-test.true, l.invariant.0, l.invariant.1.kept, at.requires.0)
 
 pub loop-i-preserved : goal.loop-i-preserved
 loop-i-preserved c =
@@ -52,10 +36,7 @@ loop-i-preserved c =
     ∙ line_bytes_lem f t (l.i + 1) (get_or run.pairs l.i no_pair)
     ∙ ap (line_at f t l.i) p.same in
     let put_is = c.put_line.ensures ∙ ap (λ (b : List ℕ). put_at (s.args.at + line_length * l.i) b l.out) bytes in
-    (l.invariant.0, writing_on (line_at_length f t) l.invariant.1 p.within no_pair c.put_line.new.out put_is)
-
-pub shape_of-out : goal.shape_of-out
-shape_of-out c = c.loop-i.invariant.1.kept
+    writing_on (line_at_length f t) l.invariant p.within no_pair c.put_line.new.out put_is
 
 pub returns : goal.returns
 returns c =
@@ -66,5 +47,5 @@ returns c =
     let l = c.loop-i in
     let all = list run.query f t in
     let done : length all ≤ l.i = omega (arith, c.loop-i-test.false, count_is f t run s.requires.1) in
-    writing_ends (line_at_length f t) l.invariant.1 done
+    writing_ends (line_at_length f t) l.invariant done
     ∙ ap (λ (b : List ℕ). put_at s.args.at b s.args.out.now) (sym (lines_laid f t 0 all))

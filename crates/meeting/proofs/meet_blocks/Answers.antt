@@ -1,17 +1,18 @@
--- `meet_blocks` meets its contract: after i turns the numbers stand for the record that has met the first i blocks.
--- Assumes nothing.
-use Rattle.std.specs.Prelude.{◌≡◌, ℕ, ◌+◌, ◌-◌, ◌≤◌, ◌<◌, min, cond}
-use Rattle.std.proofs.Common.{refl, sym, ap, ap₂, ◌∙◌, arith}
+-- `meet_blocks` meets its contract: after i turns the keys stand for the record that met the first i blocks. Assumes
+-- nothing.
+use Rattle.std.specs.Prelude.{◌≡◌, ℕ, ◌+◌, ◌*◌, ◌-◌, ◌≤◌, ◌<◌, min, cond, length}
+use Rattle.std.proofs.Common.{refl, sym, ap₂, ◌∙◌, arith}
 use Rattle.rules.specs.declared.Query.{Query}
-use Rattle.rules.specs.Tables.{Table, rectangle, most_rows, HasRows}
+use Rattle.rules.specs.Tables.{Table, most_rows, HasRows}
 use Rattle.rules.specs.Widths.{rows_less}
 use Rattle.rules.specs.Session.{lent_table}
 use Rattle.rules.specs.Read.{meet, meet_blocks_by, meet_blocks}
+use Rattle.keys.specs.Keys.{keyed_length}
 use Rattle.session_laws.specs.Read.{blocks_keep, blocks_joined}
 use Rattle.block_pair.specs.declared.Span.{Span}
 use Rattle.block_pair.specs.Spans.{SpanFits, FirstFit, span_block}
-use Rattle.meeting.specs.Meets.{blocks_ready, block_begins, block_next, blocks_next, inside_field, inside_trim}
-use Rattle.meeting.specs.Meets.{parts_meet, new_rows}
+use Rattle.meeting.specs.Meets.{blocks_ready, block_begins, blocks_next, inside_field, inside_trim}
+use Rattle.meeting.specs.Meets.{parts_meet}
 use Rattle.meeting.proofs.meet_blocks.Goals as goal
 
 -- the turn's old block lies within its table
@@ -27,96 +28,62 @@ old_inside other c g depth block low least e few within fit =
 
 pub loop-i-init : goal.loop-i-init
 unfolding meet_blocks_by
-loop-i-init c = (
-  omega arith,
-  refl,
-  refl,
-  omega arith,
-  omega (arith, c.requires.ready.0.room),
-  record { held = refl; joined = refl; pairs = c.requires.ready.2 },
-)
+loop-i-init c =
+    let ready = c.requires.ready.0 in
+    let many : length c.args.keys.now ≡ c.args.s.held = keyed_length _ _ c.requires.ready.2 ∙ ready.count in
+    record {
+      few = omega (arith, ready.room);
+      stands = record { held = many; joined = refl; keyed = c.requires.ready.2 };
+    }
 
-pub overflow_add-c : goal.overflow_add-c
-overflow_add-c c =
-    let r = c.requires.depth_le_most_rows in
-    let low = block_begins c.args.n c.args.s.query.block c.args.depth c.loop-i.i r.2 c.loop-i-test.true in
-    record { fits = omega (arith, c.loop-i.invariant.3, r.0, c.requires.ready.0.query.block.1) }
-
-pub overflow_add-c-in-loop-i : goal.overflow_add-c-in-loop-i
-overflow_add-c-in-loop-i c =
-    let r = c.requires.depth_le_most_rows in
-    let low = block_begins c.args.n c.args.s.query.block c.args.depth c.loop-i.i r.2 c.loop-i-test.true in
-    record { fits = omega (arith, c.loop-i.invariant.3, r.0, c.requires.ready.0.query.block.1) }
-
-pub meet_parts-m-requires : goal.meet_parts-m-requires
-meet_parts-m-requires c =
+pub meet_parts-joined-requires-clause-held_le_room : goal.meet_parts-joined-requires-clause-held_le_room
+meet_parts-joined-requires-clause-held_le_room c =
     let a = c.args in
-    let v = c.loop-i in
+    let own = cond a.field (lent_table a.s a.f.now) (lent_table a.s a.t.now) in
+    let other = cond a.field (lent_table a.s a.t.now) (lent_table a.s a.f.now) in
+    let few = blocks_joined a.field a.s (span_block own a.new) other a.depth c.loop-i.i in (
+      c.loop-i.invariant.few,
+      omega (arith, c.requires.ready.0.query.k.1),
+      omega (arith, c.requires.ready.1, c.loop-i.invariant.stands.joined),
+    )
+
+pub meet_parts-joined-requires-clause-query_fits : goal.meet_parts-joined-requires-clause-query_fits
+meet_parts-joined-requires-clause-query_fits c =
+    let a = c.args in
     let ready = c.requires.ready.0 in
     let fields = lent_table a.s a.f.now in
     let trims = lent_table a.s a.t.now in
-    let own = cond a.field fields trims in
-    let other = cond a.field trims fields in
     let r = c.requires.depth_le_most_rows in
-    let low = block_begins a.n a.s.query.block a.depth v.i r.2 c.loop-i-test.true in
-    let begins : v.c < a.depth = omega (arith, v.invariant.3) in
-    let few = blocks_joined a.field a.s (span_block own a.new) other a.depth v.i in
-    let old : Span = record { from = v.c; to = c.lesser-g.result } in
+    let block = a.s.query.block in
+    let low = block_begins a.n block a.depth c.loop-i.i r.2 (omega arith) in
+    let old : Span = record { from = c.loop-i.i * block; to = c.min.result } in
     let inside =
-    old_inside other v.c c.lesser-g.result a.depth a.s.query.block begins ready.query.block.0 c.lesser-g.ensures
-    r.0 r.1 c.requires.span_fits.1 in
-    record {
-      held_le_room = (
-        v.invariant.4,
-        omega (arith, ready.query.k.1),
-        omega (arith, c.loop-i-test.true, c.requires.ready.1, v.invariant.5.joined),
-        v.invariant.5.pairs.long,
-      );
-      query_fits = (
-        ready.query,
-        ready.card,
-        rw c.either-x.ensures (inside_field fields trims a.new old a.field c.requires.span_fits.0 inside),
-        rw c.either-y.ensures (inside_trim fields trims a.new old a.field c.requires.span_fits.0 inside),
-      );
-      sides_value =
-          rw (c.either-x.ensures, c.either-y.ensures)
-          (c.requires.sides_value ∙ ap rectangle (new_rows fields trims a.new old a.field));
-    }
+    old_inside (cond a.field trims fields) old.from old.to a.depth block low ready.query.block.0 c.min.ensures r.0 r.1
+    c.requires.span_fits.1 in (
+      ready.query,
+      ready.card,
+      rw c.pick-x.ensures (inside_field fields trims a.new old a.field c.requires.span_fits.0 inside),
+      rw c.pick-y.ensures (inside_trim fields trims a.new old a.field c.requires.span_fits.0 inside),
+    )
 
 pub loop-i-preserved : goal.loop-i-preserved
 loop-i-preserved c =
-    let s = c.args in
-    let v = c.loop-i in
-    let x = c.either-x in
-    let y = c.either-y in
-    let fields = lent_table s.s s.f.now in
-    let trims = lent_table s.s s.t.now in
-    let own = cond s.field fields trims in
-    let other = cond s.field trims fields in
-    let old : Span = record { from = v.c; to = c.lesser-g.result } in
-    let new = span_block own s.new in
-    let r = meet_blocks s.field s.s new other s.depth v.i in
-    let kept = blocks_keep s.field s.s new other s.depth v.i in
-    let left : r.query.k - r.out ≡ s.s.query.k - s.s.out =
+    let a = c.args in
+    let i = c.loop-i.i in
+    let fields = lent_table a.s a.f.now in
+    let trims = lent_table a.s a.t.now in
+    let other = cond a.field trims fields in
+    let block = a.s.query.block in
+    let old : Span = record { from = i * block; to = min (i * block + block) a.depth } in
+    let new = span_block (cond a.field fields trims) a.new in
+    let r = meet_blocks a.field a.s new other a.depth i in
+    let kept = blocks_keep a.field a.s new other a.depth i in
+    let left : r.query.k - r.out ≡ a.s.query.k - a.s.out =
     ap₂ (λ (q : Query) (out : ℕ). q.k - out) kept.query kept.out in
-    let ready = blocks_ready s.field s.s new other s.depth v.i c.requires.ready.0 in
-    let met = c.meet_parts-m.ensures.meets r ready kept.query left v.invariant.5 in
-    let as_rule : meet r (span_block fields x.result) (span_block trims y.result)
-    ≡ meet_blocks s.field s.s new other s.depth (v.i + 1) =
-    ap₂ (λ (a b : Span). meet r (span_block fields a) (span_block trims b)) x.ensures y.ensures
-    ∙ parts_meet fields trims s.new old s.field r
-    ∙ blocks_next s.field s.s new other s.depth v.i v.c c.lesser-g.result
-    s.s.query.block r _ refl v.invariant.3 refl c.lesser-g.ensures refl in (
-      omega arith,
-      refl,
-      refl,
-      block_next s.s.query.block v.i v.c v.invariant.3,
-      c.meet_parts-m.ensures.few,
-      rw (sym as_rule) met,
-    )
-
-pub returns : goal.returns
-returns c =
-    let v = c.loop-i in
-    let e : v.i ≡ c.args.n = omega arith in
-    rw (sym e) v.invariant.5
+    let ready = blocks_ready a.field a.s new other a.depth i c.requires.ready.0 in
+    let met = c.meet_parts-joined.ensures.meets r ready kept.query left c.loop-i.invariant.stands in
+    let as_rule : meet r (span_block fields c.pick-x.result) (span_block trims c.pick-y.result)
+    ≡ meet_blocks a.field a.s new other a.depth (i + 1) =
+    simp (c.pick-x.ensures, c.pick-y.ensures, c.min.ensures) (parts_meet fields trims a.new old a.field r
+    ∙ blocks_next a.field a.s new other a.depth i) in
+    record { few = c.meet_parts-joined.ensures.few; stands = rw (sym as_rule) met }

@@ -3,25 +3,11 @@ use mathlib.Core.Path.{ap, ap₂, ◌∙◌}
 use Prim.Native.Nat.{◌*◌}
 use native.Mathlib.Omega.{arith}
 use lib.Dec.{leb}
-use borrow.Author.Rules.{rules}
 use Rattle.rules.specs.Tables.{gap, squared_distance}
 use Rattle.rules.specs.Squares.{squares_each}
-use Rattle.session_laws.specs.Record.{card_small}
 use Rattle.tolerances.specs.Counted.{counted}
 use Rattle.near_rows.specs.Candidate.{stand_near}
 use Rattle.near_rows.proofs.near_by_at.Goals as goal
-
-pub near_small-requires : goal.near_small-requires
-near_small-requires c =
-    let s = c in
-    let small = s.requires.small in record {
-      small = (rw c.shade-first.ensures.0 small.0, rw c.shade-second.ensures.0 small.1, omega arith);
-      x_len = (
-        search rules,
-        omega (arith, card_small s.args.n s.requires.has_row.2, c.shade-first.ensures.1),
-        s.requires.has_row.3,
-      );
-    }
 
 pub returns : goal.returns
 unfolding stand_near

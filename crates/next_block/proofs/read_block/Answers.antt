@@ -28,5 +28,4 @@ returns c =
     let e = c.read_on.ensures in (
       e.0 ∙ ap (λ (b : Bool). read_table b f t a.s) c.field_next-field.ensures,
       e.1,
-      e.2,
     )

@@ -1,28 +1,23 @@
 -- The numbers, then place after place.
-use Rattle.std.proofs.Common.{arith}
-use Rattle.rules.proofs.Places.{pairs_long}
-use Rattle.pair_checks.proofs.Looking.{look_starts, look_on, look_stops, look_ends}
+use Rattle.std.proofs.Common.{◌≡◌, sym, ap, ◌∙◌, Bool, true, false, ◌&&◌}
+use Rattle.rules.specs.declared.Session.{Session}
+use Rattle.rules.specs.Calls.{record_fits}
+use Rattle.number_checks.specs.Grounds.{numbers_fit}
+use Rattle.pair_checks.specs.Grounds.{pairs_fit}
+use Rattle.pair_checks.proofs.Answer.{numbers_shallow, answer}
 use Rattle.pair_checks.proofs.fits.Goals as goal
 
-pub loop-i-init : goal.loop-i-init
-loop-i-init c =
-    let n = c.numbers_fit-fits in
-    look_starts c.args.s n.result c.first_place-i.result (pairs_long c.args.s _ c.well_formed.0) n.ensures
-    c.first_place-i.ensures
+answered : (s : Session) (b : Bool) → b ≡ numbers_fit s.query s.rows s.depth s.last s.out s.held s.joined
+    → record_fits s ≡ b && pairs_fit s.pairs s.held s.depth
+answered s b e = answer s ∙ ap (λ (x : Bool). x && pairs_fit s.pairs s.held s.depth) (sym e)
 
-pub loop-i-preserved : goal.loop-i-preserved
-loop-i-preserved c =
-    let v = c.loop-i in
-    let k = c.place_key-key in
-    look_on c.args.s v.i v.before v.fits v.invariant c.loop-i-test.true k.result k.ensures c.if-key-eq0.false
+pub pairs_fit-requires : goal.pairs_fit-requires
+pairs_fit-requires c = numbers_shallow c.args.s.now (sym c.numbers_fit.ensures ∙ c.if-numbers_fit.true)
 
-pub returns-after-loop-i : goal.returns-after-loop-i
-returns-after-loop-i c =
-    let v = c.loop-i in
-    look_ends c.args.s v.i v.before v.fits v.invariant (omega (arith, c.loop-i-test.false))
+pub returns-then-numbers_fit : goal.returns-then-numbers_fit
+returns-then-numbers_fit c =
+    c.pairs_fit.ensures ∙ sym (answered c.args.s.now true (sym c.if-numbers_fit.true ∙ c.numbers_fit.ensures))
 
-pub returns-then-key-eq0 : goal.returns-then-key-eq0
-returns-then-key-eq0 c =
-    let v = c.loop-i in
-    let k = c.place_key-key in
-    look_stops c.args.s v.i v.before v.fits v.invariant c.loop-i-test.true k.result k.ensures c.if-key-eq0.true
+pub returns-else-numbers_fit : goal.returns-else-numbers_fit
+returns-else-numbers_fit c =
+    c.if-numbers_fit.false ∙ sym (answered c.args.s.now false (sym c.if-numbers_fit.false ∙ c.numbers_fit.ensures))

@@ -1,40 +1,29 @@
--- `read_input` meets its contract. Assumes nothing.
-use mathlib.Core.Path.{◌≡◌}
+-- `read_input` meets its contract: a query is read of three columns. Assumes nothing.
+use Rattle.std.proofs.Common.{◌≡◌, Some, true, false, get_or, eq-eqb, ne_eqb, arith, to_z, of_z}
 use mir.Syntax.{w32}
-use mir.Val.{to_z, of_z}
-use borrow.Author.Tests.{eq-eqb, ne_eqb}
-use native.Mathlib.Omega.{arith}
-use lib.ListN.{length}
-use Rattle.rules.specs.Query.{input_length, input_code}
-use Rattle.program_input.specs.Given.{input_held}
-use Rattle.program_input.proofs.Steps.{input_bad, input_good}
 use borrow.Author.Rules.{rules}
+use Rattle.rules.specs.File.{columns, ends_line}
+use Rattle.column.specs.Column.{column_held}
+use Rattle.program_input.proofs.Steps.{end_none, query_held}
 use Rattle.program_input.proofs.read_input.Goals as goal
 
-pub returns-then-input-ne-INPUT_LENGTH : goal.returns-then-input-ne-INPUT_LENGTH
-unfolding input_held input_code
-returns-then-input-ne-INPUT_LENGTH c =
-    let size = length c.args.input.now in
-    simp (c.evenly-none.ensures, ne_eqb size input_length (λ e. omega (arith, e, c.if-input-ne-INPUT_LENGTH.true)))
-
-pub returns-then-not-k-block : goal.returns-then-not-k-block
-returns-then-not-k-block c =
-    let k = c.column_at-k in
-    let b = c.column_at-block in
-    let r = c.column_at-radius in
-    let size = eq-eqb (length c.args.input.now) input_length (omega arith) in
-    simp c.evenly-none.ensures
-    (input_bad c.args.input.now k.result b.result r.result k.ensures b.ensures r.ensures size c.if-not-k-block.true)
+pub returns-then-input-ne10 : goal.returns-then-input-ne10
+returns-then-input-ne10 c =
+    let input = c.args.input.now in
+    end_none input (omega arith) (ne_eqb (get_or input 18 0) 10 c.if-input-ne10.true)
 
 pub returns : goal.returns
 returns c =
-    let k = c.column_at-k in
-    let b = c.column_at-block in
-    let r = c.column_at-radius in
-    let size = eq-eqb (length c.args.input.now) input_length (omega arith) in
-    let good =
-    input_good c.args.input.now k.result b.result r.result k.ensures b.ensures r.ensures size c.if-not-k-block.false in
-    let x : to_z w32 (of_z w32 k.result.number) ≡ k.result.number = search rules in
-    let y : to_z w32 (of_z w32 b.result.number) ≡ b.result.number = search rules in
-    let z : to_z w32 (of_z w32 r.result.number) ≡ r.result.number = search rules in
-    simp (c.evenly-query.ensures, c.natural-length.ensures, c.natural-size.ensures, c.natural-far.ensures, x, y, z) good
+    let input = c.args.input.now in
+    let k = c.in_ok-k.k in
+    let b = c.in_ok-block.block in
+    let r = c.in_ok-radius.radius in
+    let tk : to_z w32 (of_z w32 k) ≡ k = search rules in
+    let tb : to_z w32 (of_z w32 b) ≡ b = search rules in
+    let tr : to_z w32 (of_z w32 r) ≡ r = search rules in
+    let ek : column_held false (columns input 0 6) ≡ Some k = search rules in
+    let eb : column_held false (columns input 6 6) ≡ Some b = search rules in
+    let er : column_held false (columns input 12 6) ≡ Some r = search rules in
+    let end : ends_line input 18 ≡ true = eq-eqb (get_or input 18 0) 10 (omega arith) in
+    simp (c.evenly.ensures, c.natural.ensures, c.natural-2.ensures, c.natural-3.ensures, tk, tb, tr)
+    (query_held input (omega arith) k b r ek eb er end)

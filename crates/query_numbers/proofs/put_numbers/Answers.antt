@@ -1,20 +1,28 @@
 -- `put_numbers` meets its contract. Assumes nothing.
--- the start of the call, from its first three numbers
+use mathlib.Core.Path.{◌∙◌}
+use native.Mathlib.Omega.{arith}
+use lib.ListN.{length}
 use borrow.Author.Tests.{le-leb, lt-leb}
 use Rattle.rules.specs.Tables.{table}
-use Rattle.query_numbers.proofs.Steps.{answered_roots, answered_numbers}
+use Rattle.query_numbers.specs.Answers.{roots_room, head_numbers}
+use Rattle.query_numbers.proofs.Steps.{put_over, answered_roots, answered_numbers}
 use Rattle.query_numbers.proofs.put_numbers.Goals as goal
 
-pub returns-then-more : goal.returns-then-more
-returns-then-more c =
-    answered_roots (table c.args.n c.args.f.now) (table c.args.n c.args.t.now) c.args.run
-    c.args.out.now c.put_three.new.out
-    c.put_parts.new.out c.requires.1 c.put_three.ensures c.put_parts.ensures
-    c.put_parts-then-more.new.out (le-leb _ _ c.if-more.true) c.put_parts-then-more.ensures
+pub returns-then-out-ge-ROOTS_ROOM : goal.returns-then-out-ge-ROOTS_ROOM
+returns-then-out-ge-ROOTS_ROOM c =
+    let s = c.args in
+    let head =
+    put_over 0 3 s.out.now _ (head_numbers s.run.session)
+    (c.copy_from_slice.ensures.after ∙ simp (c.from.ensures, c.from-2.ensures)) (omega arith) (omega arith) in
+    answered_roots (table s.n s.f.now) (table s.n s.t.now) s.run s.out.now _ c.put_parts.new.out c.requires.1 head
+    c.put_parts.ensures c.put_parts-then-out-ge-ROOTS_ROOM.new.out (le-leb roots_room (length s.out.now) (omega arith))
+    c.put_parts-then-out-ge-ROOTS_ROOM.ensures
 
-pub returns-else-more : goal.returns-else-more
-returns-else-more c =
-    answered_numbers (table c.args.n c.args.f.now) (table c.args.n c.args.t.now) c.args.run
-    c.args.out.now c.put_three.new.out
-    c.put_parts.new.out c.requires.1 c.put_three.ensures c.put_parts.ensures
-    (lt-leb _ _ c.if-more.false)
+pub returns-else-out-ge-ROOTS_ROOM : goal.returns-else-out-ge-ROOTS_ROOM
+returns-else-out-ge-ROOTS_ROOM c =
+    let s = c.args in
+    let head =
+    put_over 0 3 s.out.now _ (head_numbers s.run.session)
+    (c.copy_from_slice.ensures.after ∙ simp (c.from.ensures, c.from-2.ensures)) (omega arith) (omega arith) in
+    answered_numbers (table s.n s.f.now) (table s.n s.t.now) s.run s.out.now _ c.put_parts.new.out c.requires.1 head
+    c.put_parts.ensures (lt-leb roots_room (length s.out.now) (omega arith))

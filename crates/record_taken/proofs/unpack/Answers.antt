@@ -1,9 +1,9 @@
 -- `unpack` meets its contract: after i turns the first i places are taken back. Assumes nothing.
 use mathlib.Core.Path.{◌≡◌, ap, ◌∙◌}
 use mathlib.Core.List.{List, ◌++◌, append-nil}
-use Prim.Native.Nat.{ℕ, ◌<◌}
+use Prim.Native.Nat.{ℕ}
 use native.Mathlib.Omega.{arith}
-use lib.ListN.{length, drop, set, length-set, replicate}
+use lib.ListN.{drop, set, replicate}
 use Rattle.lists.specs.Lists.{range}
 use Rattle.rules.specs.declared.Pair.{Pair}
 use Rattle.rules.specs.declared.Session.{Session}
@@ -30,28 +30,25 @@ put s i p =
     }
 
 pub loop-i-init : goal.loop-i-init
-unfolding with_pairs pairs_in range
-loop-i-init c = let head = c.head_in-s.ensures in (omega arith, ap (λ (s : Session). length s.pairs) head, head)
+unfolding pairs_in range
+loop-i-init c = c.head_in-s.ensures
 
 pub loop-i-preserved : goal.loop-i-preserved
 unfolding with_pairs
 loop-i-preserved c =
     let l = c.args.l.now in
     let v = c.loop-i in
-    let h : v.i < place_count = c.loop-i-test.true in (
-      omega arith,
-      length-set v.s.pairs v.i c.pair_in-p.result ∙ v.invariant.1,
-      ap (λ (s : Session). put s v.i c.pair_in-p.result) v.invariant.2
-          ∙ ap (λ (p : Pair). with_pairs l (set (pairs_in l v.i ++ drop v.i zeros) v.i p)) c.pair_in-p.ensures
-          ∙ ap (with_pairs l) (one_in l zeros v.i h),
-    )
+    let p = c.pair_in.result in
+    ap (λ (s : Session). put s v.i p) v.invariant
+    ∙ ap (λ (p : Pair). with_pairs l (set (pairs_in l v.i ++ drop v.i zeros) v.i p)) c.pair_in.ensures
+    ∙ ap (with_pairs l) (one_in l zeros v.i c.loop-i-test.true)
 
 pub returns : goal.returns
 unfolding unflatten
 returns c =
     let l = c.args.l.now in
     let v = c.loop-i in
-    let e : v.i ≡ place_count = omega (arith, v.invariant.0, c.loop-i-test.false) in
-    v.invariant.2
+    let e : v.i ≡ place_count = omega (arith, v.auto.i-end, c.loop-i-test.false) in
+    v.invariant
     ∙ ap (λ (i : ℕ). with_pairs l (pairs_in l i ++ drop i zeros)) e
     ∙ ap (with_pairs l) (append-nil (pairs_in l place_count))

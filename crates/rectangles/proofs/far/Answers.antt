@@ -2,18 +2,12 @@
 use Rattle.std.proofs.Common.{◌≡◌, sym, ap, ◌∙◌, Bool, ℕ, ◌*◌, List, ℤ, ltb, arith}
 use Rattle.rules.specs.declared.Query.{Query}
 use Rattle.rules.specs.Tables.{Table, table, row_count}
-use Rattle.rules.specs.Widths.{row_below, has_rows}
 use Rattle.rectangles.proofs.Sums as S
 use Rattle.rectangles.proofs.far.Goals as goal
 
 -- whether the first m rows lie too far, each gap lowered by so much
 abbrev test : Query → List ℤ → Table → ℕ → ℕ → Bool
 test q sides t less m = ltb (q.radius * q.radius) (S.all_squares less sides t m)
-
-pub front_far-requires : goal.front_far-requires
-front_far-requires c =
-    let t = table c.args.n c.args.t.now in
-    (c.requires.0, c.requires.1, omega arith, has_rows t 1 (row_below t 0 c.requires.2))
 
 pub returns-then-m-eq1 : goal.returns-then-m-eq1
 returns-then-m-eq1 c x stands =
@@ -24,11 +18,6 @@ returns-then-m-eq1 c x stands =
     ∙ ap (λ less. test c.args.q c.args.sides.now t less (row_count t)) c.both-less.ensures.0
     ∙ S.by_all c.args.q x c.args.sides.now t stands
 
-pub front_near-requires : goal.front_near-requires
-front_near-requires c =
-    let t = table c.args.n c.args.t.now in
-    (c.requires.0, c.requires.1, has_rows t c.row_count-m.result (omega (arith, c.row_count-m.ensures)))
-
 pub returns-then-front_near : goal.returns-then-front_near
 returns-then-front_near c x stands =
     let t = table c.args.n c.args.t.now in
@@ -36,15 +25,6 @@ returns-then-front_near c x stands =
     S.by_first c.args.q x c.args.sides.now t stands 3 (omega arith)
     (omega (arith, c.row_count-m.ensures, near.0))
     (sym (ap (λ less. test c.args.q c.args.sides.now t less 3) c.both-less.ensures.0) ∙ near.1)
-
-pub rows_far-requires : goal.rows_far-requires
-rows_far-requires c =
-    let t = table c.args.n c.args.t.now in
-    let some = row_below t 0 c.requires.2 in (
-      c.requires.1,
-      omega (arith, c.row_count-m.ensures),
-      has_rows t c.row_count-m.result (omega (arith, c.row_count-m.ensures)),
-    )
 
 pub returns : goal.returns
 returns c x stands =

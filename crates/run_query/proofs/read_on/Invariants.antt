@@ -6,11 +6,11 @@ use Rattle.session_laws.specs.Read.{unread_rows}
 use Rattle.outcomes.specs.Until.{read_on}
 use Rattle.run_query.proofs.read_on.Given as goal
 
-abbrev pub invariant-loop-next : goal.invariant-loop-next
-invariant-loop-next l =
+abbrev pub invariant-loop-at : goal.invariant-loop-at
+invariant-loop-at l =
     (read_on (lent_table l.fn.s l.f) (lent_table l.fn.s l.t) l.at
     ≡ read_on (lent_table l.fn.s l.f) (lent_table l.fn.s l.t) l.fn.s)
     × (l.at.rows ≡ l.fn.s.rows)
 
-abbrev pub decreases-loop-next : goal.decreases-loop-next
-decreases-loop-next l = unread_rows l.at
+abbrev pub decreases-loop-at : goal.decreases-loop-at
+decreases-loop-at l = unread_rows l.at

@@ -4,14 +4,14 @@ use Rattle.rules.specs.declared.Pair.{Pair}
 use Rattle.rules.specs.declared.Query.{Query}
 use Rattle.rules.specs.declared.Session.{Session}
 use Rattle.rules.specs.declared.Step.{Step}
-use Rattle.rules.specs.Numbers.{said, refusal}
 use Rattle.rules.specs.Session.{lent_table, places}
 use Rattle.rules.specs.Calls.{open_call}
 use Rattle.rules.specs.Query.{settled_session, list}
 use Rattle.outcomes.specs.declared.ReadEnd.{ReadEnd}
 use Rattle.outcomes.specs.declared.TakenOut.{TakenOut}
+use Rattle.outcomes.specs.Checked.{checked}
 use Rattle.outcomes.specs.Until.{settled_on, list_taken}
-use Rattle.outcomes.specs.Outcomes.{refused_by, read_end, taken_out, query_outcome, opening_code, read_begun}
+use Rattle.outcomes.specs.Outcomes.{refused_by, read_end, taken_out, query_outcome, read_begun}
 use Rattle.outcomes.specs.Outcomes.{take_done}
 use Rattle.rules.specs.Tables.{Table, field_table, trim_table}
 use Rattle.run_query.proofs.run.Goals as goal
@@ -19,7 +19,7 @@ use Rattle.run_query.proofs.run.Goals as goal
 module _ (q : Query) (f t : Table)
     (s : Step) (es : s ≡ open_call q f t) (r : ReadEnd)
     (er : r ≡ read_end (lent_table s.session f.numbers) (lent_table s.session t.numbers) s.session) where
-  read_is : r ≡ record { code = refused_by f t (settled_session q f t); session = settled_session q f t }
+  read_is : r ≡ record { end = refused_by f t (settled_session q f t); session = settled_session q f t }
   unfolding read_end
   read_is =
       er
@@ -27,7 +27,7 @@ module _ (q : Query) (f t : Table)
       (λ (x : Step). read_end (lent_table x.session f.numbers) (lent_table x.session t.numbers) x.session)
       es
       ∙ read_begun q f t
-      ∙ ap (λ (x : Session). record { code = refused_by f t x; session = x })
+      ∙ ap (λ (x : Session). record { end = refused_by f t x; session = x })
       (settled_on q f t)
 
   taken_is : (x : TakenOut)
@@ -54,12 +54,11 @@ returns c =
     let taken =
     taken_is s.q f t start.result start.ensures c.read_on-read.result c.read_on-read.ensures c.take_on-taken.result
     c.take_on-taken.ensures in
-    let code =
-    c.refusal.ensures ∙ ap (λ (x : Step). refusal (said x.answer)) start.ensures ∙ opening_code s.q f t in
+    let opening = c.check_answer.ensures.check ∙ ap (λ (x : Step). checked x.answer) start.ensures in
     λ i. record {
       query = s.q;
-      opening = code i;
-      reading = (read i).code;
+      opening = opening i;
+      reading = (read i).end;
       session = (read i).session;
       pairs = (taken i).pairs;
       count = (taken i).count;

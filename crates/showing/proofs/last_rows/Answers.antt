@@ -1,5 +1,4 @@
 -- `last_rows` meets its contract: the part from the last block's first row on. Assumes nothing.
--- the last block begins above the depth
 use Prim.Native.Nat.{◌-◌}
 use native.Mathlib.Nat.{div-mul-le_self}
 use native.Mathlib.Omega.{arith}
