@@ -176,3 +176,12 @@ module _ (w : Terms) (room : ℕ) (x y : Block) where
           before (omega arith) (λ b a c. none b a (omega (arith, c)))
           ∙ row_skips r (met_rows w room x y l r) 0 (row_count y.rows) (omega arith)
           (λ j a c. none r (omega arith) (omega arith) j c)
+
+  -- the pairs held when the first i rows of x have met all of y, and row i + 1 its first j rows
+  abbrev pub met_to : List Pair → ℕ → ℕ → List Pair
+  met_to l i j = met_row w room x y i (met_rows w room x y l i) j
+
+  -- row i + 1 has met all of y
+  pub to_next : (l : List Pair) (i : ℕ) → met_to l i (row_count y.rows) ≡ met_to l (i + 1) 0
+  unfolding met_row met_rows
+  to_next l i = sym (rw add-one)

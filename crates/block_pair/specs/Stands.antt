@@ -116,17 +116,17 @@ module _ (r : Session) (ready : Ready r) (room : ℕ) (left : r.query.k - r.out 
     stands_joined e after k = rw (sym (meet_joined r ready _ _ x y (skips_is x y) e)) (best after k)
 
 -- a block pair, whatever the record is
-module _ (q : Query) (room : ℕ) (x y : Block) (n : ℕ) (ks : List ℕ) (few : length ks ≤ room) where
-  pub meets_skipped : Comes q room x y ks Skipped → Meets q room x y n ks n ks
-  meets_skipped e =
+module _ (q : Query) (room : ℕ) (x y : Block) (n : ℕ) (ks : List ℕ) where
+  pub meets_skipped : length ks ≤ room → Comes q room x y ks Skipped → Meets q room x y n ks n ks
+  meets_skipped few e =
       record {
         few = few;
         one = omega arith;
         meets = λ r ready same left stands. stands_skipped r ready room left n ks stands x y (rw same e);
       }
 
-  pub meets_quiet : Comes q room x y ks Quiet → Meets q room x y n ks (n + 1) ks
-  meets_quiet e =
+  pub meets_quiet : length ks ≤ room → Comes q room x y ks Quiet → Meets q room x y n ks (n + 1) ks
+  meets_quiet few e =
       record {
         few = few;
         one = omega arith;

@@ -14,6 +14,10 @@ use Rattle.rules.specs.File.{header_bytes, header_fits, file_count, kind_fits, w
 use Rattle.rules.specs.File.{row_columns_fit, file_table, file_row_code, and_row, rows_loaded}
 use Rattle.rules.specs.Checks.{unless_out, first_out}
 
+-- no refusal is a row count
+pub unfit_rows : {X : Type 0} (code row n : ℕ) → unfit code row ≡ Ok n → X
+unfit_rows code row n h = cc
+
 -- ---- The header
 
 -- the header's checks, in the rules' order

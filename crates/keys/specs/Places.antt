@@ -1,10 +1,10 @@
 -- A record's pair places read off the numbers of the pairs held. Assumes nothing.
-use Rattle.std.specs.Prelude.{ℕ, zero, suc, ◌-◌, ◌≤◌, ◌≡◌, refl, Bool, true, false, cond, List, [], ◌∷◌, ◌++◌}
-use Rattle.std.specs.Prelude.{map, ltb, length, get_or, take, replicate}
-use Rattle.std.proofs.Common.{sym, ap, ◌∙◌, arith, length-append, lt-ltb}
+use Rattle.std.specs.Prelude.{ℕ, zero, suc, ◌+◌, ◌-◌, ◌≤◌, ◌<◌, ◌≡◌, refl, Bool, true, false, cond, List, [], ◌∷◌, ◌++◌}
+use Rattle.std.specs.Prelude.{map, ltb, length, get_or, take, drop, set, replicate}
+use Rattle.std.proofs.Common.{sym, ap, ◌∙◌, arith, add-one, length-append, take-suc, length-take-le, drop-cons, lt-ltb}
 use Rattle.std.proofs.Common.{le-ltb, ltb-true, ltb-false}
-use Rattle.std.proofs.lemmas.List.{length-map, length-replicate}
-use Rattle.std.proofs.Math.Seq.{take-append_seam}
+use Rattle.std.proofs.lemmas.List.{length-map, length-replicate, set_at}
+use Rattle.std.proofs.Math.Seq.{take-append_seam, append_snoc}
 use Rattle.rules.specs.declared.Pair.{Pair}
 use Rattle.rules.specs.Session.{no_pair, places}
 use Rattle.keys.specs.Held.{pair_of, place_at}
@@ -47,3 +47,19 @@ places_long ks h =
     let l = map pair_of ks in
     let n : length l ≡ length ks = length-map ks pair_of in
     length-append l (replicate (64 - length l) no_pair) ∙ omega (arith, length-replicate (64 - length l) no_pair)
+
+-- Elements of l laid one after the other over those of a list as long
+
+module _ {A : Type 0} (l a : List A) where
+  -- after j of them
+  abbrev pub filled : ℕ → List A
+  filled j = take j l ++ drop j a
+
+  pub one_filled : (d : A) (j : ℕ) → length a ≡ length l → j < length l → set (filled j) j (get_or l j d)
+      ≡ filled (j + 1)
+  one_filled d j same h =
+      ap (λ (r : List A). set (take j l ++ r) j (get_or l j d)) (drop-cons a j d (omega arith))
+      ∙ set_at (take j l) (get_or a j d) (drop (suc j) a) (get_or l j d) j (length-take-le j l (omega arith))
+      ∙ sym (append_snoc (take j l) (get_or l j d) (drop (suc j) a))
+      ∙ ap (λ (r : List A). r ++ drop (suc j) a) (sym (take-suc l j d h))
+      ∙ ap filled (sym (add-one j))

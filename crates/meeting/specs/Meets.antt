@@ -1,7 +1,7 @@
 -- Block pairs met by a record that is ready: it stays ready. Assumes nothing.
 use Rattle.std.specs.Prelude.{◌≡◌, refl, Bool, true, false, cond, List, ◌++◌, ℕ, zero, suc, ◌+◌, ◌*◌, ◌-◌, ◌≤◌, ◌<◌}
 use Rattle.std.specs.Prelude.{min, length, take}
-use Rattle.std.proofs.Common.{sym, ap, mul-le-mul_right, suc-mul, add-one, arith, length-take}
+use Rattle.std.proofs.Common.{sym, ap, ◌∙◌, mul-le-mul_right, suc-mul, add-one, arith, length-take}
 use Rattle.lists.specs.Lists.{sort}
 use Rattle.lists.specs.Words.{Ordered}
 use Rattle.lists.specs.Sorts.{sort_ordered, take_ordered}
@@ -85,6 +85,12 @@ module _ (f t : Table) (new old : Span) where
 -- block i + 1 begins above the depth, if blocks up to the n-th do
 pub block_begins : (n block depth i : ℕ) → n * block < depth + block → i < n → i * block < depth
 block_begins n block depth i h k = omega (arith, mul-le-mul_right block k, suc-mul i block)
+
+-- and ends where the next one begins
+pub block_next : (block i c : ℕ) → c ≡ i * block → c + block ≡ (i + 1) * block
+block_next block i c e =
+    let s : (i + 1) * block ≡ i * block + block = ap (λ (j : ℕ). j * block) (add-one i) ∙ suc-mul i block in
+    omega arith
 
 -- one turn: the next block is met
 pub blocks_next : (field : Bool) (s : Session) (new : Block) (t : Table) (depth i : ℕ)

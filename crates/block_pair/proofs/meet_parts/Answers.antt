@@ -17,6 +17,6 @@ returns c =
           (meets_quiet _ _ _ _ _ _ few (simp (c.held.ensures.many, c.last-low.ensures) at w.in-Quiet.ensures))
       | in-PairByPair w ↦
           rw w.keys-is
-          (meets_joined _ _ _ _ _ _ few (simp (c.held.ensures.many, c.last-low.ensures) at w.in-PairByPair.ensures) _
+          (meets_joined _ _ _ _ _ _ (simp (c.held.ensures.many, c.last-low.ensures) at w.in-PairByPair.ensures) _
           w.join_parts.ensures)
     ]
