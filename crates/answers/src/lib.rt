@@ -2,7 +2,8 @@
 #![tactic(auto)]
 
 ghost use Rattle.std.specs.Prelude.{◌≡◌, ◌<◌, ◌^◌, pos, neg_ℤ};
-ghost use Rattle.rules.specs.Numbers.{short_slice, said, refused, signed};
+ghost use Rattle.rules.specs.Numbers.{short_slice, IsRefusal, said, refused, signed};
+ghost use Rattle.answers.specs.Handed.{said_or_refused, handed_on};
 
 use rules::{Answer, Refusal};
 
@@ -16,7 +17,7 @@ pub fn minus(n: u32) -> i32
 
 // Which answer it is, or minus the refusal's number.
 #[tactic(auto, using(rules::specs::Numbered::number_range))]
-pub fn told(answer: Answer) -> i32
+fn number(answer: Answer) -> i32
     ensures { result ≡ signed (said answer) }
 {
     match answer {
@@ -30,9 +31,20 @@ pub fn told(answer: Answer) -> i32
     }
 }
 
+// What a call answered as a number, or minus a number that it is refused by, as it comes.
+pub fn told(answer: Result<Answer, u32>) -> i32
+    requires { IsRefusal (handed_on answer) }
+    ensures { result ≡ signed (said_or_refused answer) }
+{
+    match answer {
+        Ok(answer) => number(answer),
+        Err(refusal) => minus(refusal),
+    }
+}
+
 // A lent slice is too short for what it is lent for.
 pub fn short() -> i32
     ensures { result ≡ signed (said (refused short_slice)) }
 {
-    told(Answer::Refused(Refusal::ShortSlice))
+    number(Answer::Refused(Refusal::ShortSlice))
 }

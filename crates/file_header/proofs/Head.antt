@@ -13,7 +13,7 @@ use Rattle.file_laws.specs.Kinds.{row_short}
 use Rattle.column.specs.Column.{column_held, held_some, held_none}
 use Rattle.codes.specs.Steps.{passed, stopped}
 use Rattle.file_header.specs.declared.Header.{Header}
-use Rattle.file_header.specs.Held.{header_read, header_held}
+use Rattle.file_header.specs.Held.{header_read, header_held, header_in}
 
 module _ (bytes : List ℕ) where
   -- a header of which one column is formed otherwise, or its end
@@ -55,8 +55,25 @@ module _ (bytes : List ℕ) where
       go true e = cc
       go false e = refl
 
-  pub count_is : (h : Header) → header_held bytes ≡ Some h → h.count ≡ file_count bytes
-  count_is h e = sym (ap (λ (x : Header). x.count) (read_is h e).1)
+  -- a file is long enough for a header, or not
+  pub none_in : length bytes < header_bytes → None ≡ header_in bytes
+  unfolding header_in
+  none_in h = rw (lt-leb header_bytes (length bytes) h)
+
+  pub held_in : header_bytes ≤ length bytes → header_held bytes ≡ header_in bytes
+  unfolding header_in
+  held_in w = rw (le-leb header_bytes (length bytes) w)
+
+  in_held : (h : Header) → header_in bytes ≡ Some h → header_held bytes ≡ Some h
+  unfolding header_in
+  in_held h = go (leb header_bytes (length bytes))
+    where
+      go : (t : Bool) → cond t (header_held bytes) None ≡ Some h → header_held bytes ≡ Some h
+      go true e = e
+      go false e = cc
+
+  pub count_is : (h : Header) → header_in bytes ≡ Some h → h.count ≡ file_count bytes
+  count_is h e = sym (ap (λ (x : Header). x.count) (read_is h (in_held h e)).1)
 
   -- the checks of what was read, or of what could not be
   module _ (kind : ℤ) where
@@ -64,9 +81,9 @@ module _ (bytes : List ℕ) where
     unfolding head_code
     cut_code h = rw (lt-leb header_bytes (length bytes) h)
 
-    pub unread_code : header_bytes ≤ length bytes → header_held bytes ≡ None → bad_column ≡ head_code bytes kind
+    pub unread_code : header_bytes ≤ length bytes → header_in bytes ≡ None → bad_column ≡ head_code bytes kind
     unfolding head_code
-    unread_code w h = rw (le-leb header_bytes (length bytes) w, unread h)
+    unread_code w h = rw (le-leb header_bytes (length bytes) w, unread (held_in w ∙ h))
 
     abbrev checks : Header → ℕ
     checks x =
@@ -76,11 +93,11 @@ module _ (bytes : List ℕ) where
         ∷ unless (eqb (length bytes) (row_start (wanted kind) x.count)) cut_file
         ∷ [])
 
-    pub read_code : (h : Header) → header_bytes ≤ length bytes → header_held bytes ≡ Some h
+    pub read_code : (h : Header) → header_bytes ≤ length bytes → header_in bytes ≡ Some h
         → checks h ≡ head_code bytes kind
     unfolding head_code kind_fits
     read_code h w e =
-        let r = read_is h e in
+        let r = read_is h (in_held h e) in
         sym (ap checks r.1) ∙ rw (le-leb header_bytes (length bytes) w, r.0)
 
 -- the steps of reading it, and of checking it

@@ -4,7 +4,7 @@
 ghost use Rattle.std.specs.Prelude.{◌≡◌, ◌≤◌, ℕ, length};
 ghost use Rattle.rules.specs.Numbers.{code};
 ghost use Rattle.rules.specs.File.{header_bytes, file_count, wanted, head_code};
-ghost use Rattle.file_header.specs.Held.{header_held};
+ghost use Rattle.file_header.specs.Held.{header_held, header_in};
 
 use codes::unless;
 use column::column_at;
@@ -14,14 +14,14 @@ use tables::natural;
 
 // The header's numbers.
 #[derive(Clone, Copy)]
-struct Header {
-    count: u32,
-    kind: u32,
+pub struct Header {
+    pub count: u32,
+    pub kind: u32,
 }
 
-// The header, if its columns and LF are formed as they must be.
+// The header of a file that is long enough for one, if its columns and LF are formed as they must be.
 #[tactic(auto, using(crate::proofs::Head::read_steps))]
-fn read_header(bytes: &[u8]) -> Option<Header>
+fn read_columns(bytes: &[u8]) -> Option<Header>
     requires { header_bytes ≤ length bytes.now }
     ensures { result ≡ header_held bytes.now }
 {
@@ -34,6 +34,17 @@ fn read_header(bytes: &[u8]) -> Option<Header>
         count: natural(count),
         kind: natural(kind),
     })
+}
+
+// The header, if its columns and LF are formed as they must be. A file that is too short for one has none.
+#[tactic(auto, using(crate::proofs::Head::none_in, crate::proofs::Head::held_in))]
+pub fn read_header(bytes: &[u8]) -> Option<Header>
+    ensures { result ≡ header_in bytes.now }
+{
+    if bytes.len() < rules::HEADER_BYTES {
+        return None;
+    }
+    read_columns(bytes)
 }
 
 // How many coordinates a shade has on the card of a kind; 0 where it is no kind.

@@ -15,10 +15,10 @@ use rules::Refusal;
 // What is read of a row whose columns are formed as they must be: whether its numbers keep their ranges, its score, and
 // where its columns end. A flag and no `Result`: 6 comes after 9 of the whole row, which its LF is looked at for too.
 #[derive(Clone, Copy)]
-struct Row {
-    inside: bool,
-    score: i32,
-    end: usize,
+pub struct Row {
+    pub inside: bool,
+    pub score: i32,
+    pub end: usize,
 }
 
 // The columns that rows of every card have, of a row that begins at `o`: pattern number, score, a and b.
@@ -41,7 +41,7 @@ fn read_front(bytes: &[u8], o: usize) -> Option<Row>
 
 // The columns of a row of n coordinates: those behind b hold one coordinate each.
 #[tactic(auto, using(crate::proofs::Rows::read_steps))]
-fn read_row(n: u32, bytes: &[u8], o: usize) -> Option<Row>
+pub fn read_row(n: u32, bytes: &[u8], o: usize) -> Option<Row>
     requires { (2 ≤ n) × (o + row_bytes n ≤ length bytes.now) }
     ensures { result ≡ columns_row n bytes.now o }
 {

@@ -22,5 +22,5 @@ pub fn start(query: &[u32], f: &[i32], t: &[i32], lent: &mut [u32]) -> i32
     if let Answer::Opened = step.answer {
         record_packed::pack(step.session, lent);
     }
-    answers::told(step.answer)
+    answers::told(Ok(step.answer))
 }

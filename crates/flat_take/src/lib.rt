@@ -37,5 +37,5 @@ pub fn take(f: &[i32], t: &[i32], lent: &mut [u32], pair: &mut [u32]) -> i32
         record_packed::pack(step.session, lent);
     }
     put_given(step.answer, pair);
-    answers::told(step.answer)
+    answers::told(Ok(step.answer))
 }

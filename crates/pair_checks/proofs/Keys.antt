@@ -5,15 +5,16 @@ use mathlib.Core.Logic.{◌⊎◌, ⊎_elim}
 use Prim.Native.Nat.{ℕ, ◌≤◌, ◌<◌}
 use native.Mathlib.Omega.{arith}
 use lib.Dec.{eqb, leb, ltb}
-use borrow.Author.Tests.{leb-true, le-leb, lt-leb, lt-ltb, eq-eqb, ne_eqb}
+use borrow.Author.Tests.{leb-true, leb-false, le-leb, lt-leb, lt-ltb, eq-eqb, ne_eqb}
 use Rattle.rules.specs.declared.Counts.{Counts}
 use Rattle.rules.specs.declared.Pair.{Pair}
 use Rattle.rules.specs.Tables.{ahead}
 use Rattle.rules.specs.Calls.{between, most_sum, is_zeros}
 use Rattle.lists.specs.Bools.{and_left, and_right}
+use Rattle.std.specs.Prelude.{Some, None, refl}
 use Rattle.keys.specs.Held.{key_of, Narrow}
 use Rattle.keys.specs.Keys.{key_order}
-use Rattle.pair_checks.specs.Grounds.{pair_within, place_fits, Shallow}
+use Rattle.pair_checks.specs.Grounds.{pair_within, place_fits, Shallow, place_key}
 
 -- `before` is the key before place i, where b stands: 0 before the first
 abbrev pub Behind : ℕ → ℕ → Pair → Type 0
@@ -68,3 +69,39 @@ module _ (depth : Counts) (p : Pair) where
         ∙ key_order b p e.2 k.0
         ∙ sym (ap (λ (t : Bool). t || ahead b p) (ne_eqb i 0 (omega (arith, e.0)))))
         behind)
+
+    module _ (before : ℕ) (d : Shallow depth) (behind : i < n → Behind i before b) where
+      -- a place that has no key does not fit
+      pub key_none : place_key i n depth before p ≡ None → place_fits i n depth b p ≡ false
+      unfolding place_key
+      key_none e = go (leb n i) refl (is_zeros p) refl (pair_within depth p) refl (ltb before (key_of p)) refl e
+        where
+          go : (t : Bool) → leb n i ≡ t → (z : Bool) → is_zeros p ≡ z → (w : Bool) → pair_within depth p ≡ w
+              → (c : Bool) → ltb before (key_of p) ≡ c
+              → cond t (cond z (Some 1) None) (cond w (cond c (Some (key_of p)) None) None) ≡ None
+              → place_fits i n depth b p ≡ false
+          go true t true z w x c y e = cc
+          go true t false z w x c y e = free_place (leb-true n i t) ∙ z
+          go false t z r false x c y e = place_unfit (leb-false n i t) x
+          go false t z r true x false y e =
+              let h = leb-false n i t in
+              place_ranked before h d x (behind h) ∙ y
+          go false t z r true x true y e = cc
+
+      -- one that has a key fits, and the key is the pair's, if it is held
+      pub key_found : (k : ℕ) → place_key i n depth before p ≡ Some k
+          → (place_fits i n depth b p ≡ true) × (i < n → (k ≡ key_of p) × Narrow p)
+      unfolding place_key
+      key_found k e = go (leb n i) refl (is_zeros p) refl (pair_within depth p) refl (ltb before (key_of p)) refl e
+        where
+          go : (t : Bool) → leb n i ≡ t → (z : Bool) → is_zeros p ≡ z → (w : Bool) → pair_within depth p ≡ w
+              → (c : Bool) → ltb before (key_of p) ≡ c
+              → cond t (cond z (Some 1) None) (cond w (cond c (Some (key_of p)) None) None) ≡ Some k
+              → (place_fits i n depth b p ≡ true) × (i < n → (k ≡ key_of p) × Narrow p)
+          go true t true z w x c y e = (free_place (leb-true n i t) ∙ z, λ h. absurd (omega (arith, leb-true n i t, h)))
+          go true t false z w x c y e = cc
+          go false t z r false x c y e = cc
+          go false t z r true x false y e = cc
+          go false t z r true x true y e =
+              let h = leb-false n i t in
+              (place_ranked before h d x (behind h) ∙ y, λ m. (cc, (within_narrow d x).0))

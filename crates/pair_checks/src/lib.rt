@@ -3,7 +3,7 @@
 
 ghost use Rattle.std.specs.Prelude.{◌≡◌};
 ghost use Rattle.rules.specs.Calls.{record_fits};
-ghost use Rattle.pair_checks.specs.Grounds.{Shallow, pair_within, pairs_fit};
+ghost use Rattle.pair_checks.specs.Grounds.{Shallow, pair_within, place_key, pairs_fit};
 
 use number_checks::numbers_fit;
 use rules::{Counts, PLACES, Pair, Session};
@@ -19,6 +19,25 @@ fn pair_fits(depth: Counts, p: Pair) -> bool
         & (((1 <= p.trim) & (p.trim <= trim)) & (p.sum <= rules::MOST_SUM))
 }
 
+// Pair place i, `before` being the key before it: the key of one of the n held, which fits and stands behind that one;
+// 1 for zeros beyond them; none where the place does not fit.
+pub fn place_key(i: usize, n: usize, depth: Counts, before: u64, p: Pair) -> Option<u64>
+    requires { Shallow depth }
+    ensures { result ≡ place_key i n depth before p }
+{
+    if n <= i {
+        return if p == rules::NO_PAIR { Some(1) } else { None };
+    }
+    if !pair_fits(depth, p) {
+        return None;
+    }
+    let key = keys::key(p);
+    if key <= before {
+        return None;
+    }
+    Some(key)
+}
+
 // The pair places: those held fit, each ranked behind the one before it, and beyond them there are none.
 pub fn pairs_fit(pairs: &[Pair; PLACES], held: usize, depth: Counts) -> bool
     requires { Shallow depth }
@@ -26,18 +45,10 @@ pub fn pairs_fit(pairs: &[Pair; PLACES], held: usize, depth: Counts) -> bool
 {
     let mut before = 0;
     for (i, p) in pairs.iter().enumerate() {
-        if i < held {
-            if !pair_fits(depth, *p) {
-                return false;
-            }
-            let key = keys::key(*p);
-            if key <= before {
-                return false;
-            }
-            before = key;
-        } else if *p != rules::NO_PAIR {
+        let Some(key) = place_key(i, held, depth, before, *p) else {
             return false;
-        }
+        };
+        before = key;
     }
     true
 }

@@ -1,25 +1,28 @@
 -- A take's answer, of the code that its checks gave, and the record that goes with it. Assumes nothing.
-use Rattle.std.specs.Prelude.{◌≡◌, Bool, ℕ, Result, Err}
+use Rattle.std.specs.Prelude.{◌≡◌, Bool, ℕ, Result, Ok, Err}
 use Rattle.std.proofs.Math.Path.{refl}
-use Rattle.std.proofs.Common.{sym, ap, ◌∙◌, eqb-true, arith}
-use borrow.Author.Tests.{ne_eqb}
+use Rattle.std.proofs.Common.{ap, ◌∙◌, eqb-true}
 use Rattle.std.proofs.Math.Bool.{true, false, cond}
 use Rattle.std.proofs.Math.Dec.{eqb}
 use Rattle.lists.specs.Bools.{clash}
 use Rattle.rules.specs.declared.Session.{Session}
 use Rattle.rules.specs.declared.Answer.{Answer}
-use Rattle.rules.specs.declared.Answer.TheVariants.{Refused, Given, NotYet, Finished}
-use Rattle.rules.specs.declared.Refusal.{Refusal}
+use Rattle.rules.specs.declared.Answer.TheVariants.{Given, NotYet, Finished}
 use Rattle.rules.specs.Take.{first_held, gives_pair, moved_out, finished}
 use Rattle.rules.specs.Query.{was_given}
 use Rattle.rules.specs.Calls.{call_code, step, take_call_by, take_call}
 use Rattle.rules.specs.Tables.{Table}
-use Rattle.rules.specs.Numbers.{code, number_of, refusal_of, refused}
+use Rattle.rules.specs.Numbers.{code, refused}
 
 unfoldable pub take_answer : ℕ → Table → Table → Session → Answer
 take_answer code f t s =
     cond (eqb code 0) (cond (gives_pair f t s) (Given (first_held s)) (cond (finished f t s) Finished NotYet))
     (refused code)
+
+-- an answer, if a check passed; else what it refused by
+abbrev pub if_passed : {A B R : Type 0} → Result A R → B → Result B R
+if_passed (Ok x) a = Ok a
+if_passed (Err r) a = Err r
 
 -- the record that goes with an answer: only a pair that is given changes it
 module _ (f t : Table) (s : Session) where

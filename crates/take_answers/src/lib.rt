@@ -1,14 +1,14 @@
 // What a take answers: the first held pair, finished, or not yet.
 #![tactic(auto)]
 
-ghost use Rattle.std.specs.Prelude.{◌≡◌};
-ghost use Rattle.rules.specs.Numbers.{code};
+ghost use Rattle.std.specs.Prelude.{◌≡◌, true};
+ghost use Rattle.std.specs.Result.{is_ok};
 ghost use Rattle.rules.specs.Take.{gives_pair, finished};
 ghost use Rattle.session_laws.specs.Calls.{Accepted};
-ghost use Rattle.take_answers.specs.Answers.{take_answer};
+ghost use Rattle.take_answers.specs.Answers.{take_answer, if_passed};
 ghost use Rattle.rules.specs.Session.{lent_table};
 
-use rules::{Answer, Counts, FieldRows, Refusal, Session, TrimRows};
+use rules::{Answer, Counts, FieldRows, Session, TrimRows};
 
 // Whether a take answers the first held pair.
 fn gives_pair(f: &[i32], t: &[i32], s: Session) -> bool
@@ -50,20 +50,26 @@ fn is_finished(f: &[i32], t: &[i32], s: Session) -> bool
     (s.out == s.query.k) | (none | (empty | (out & (s.held == 0))))
 }
 
-// What a take answers: what the checks refuse it by; the first held pair, if it is secured; else finished, or not yet.
-#[tactic(auto, using(rules::specs::Numbered::refused_is), unfolding(crate::specs::Answers::take_answer))]
-pub fn take_answer(check: Result<(), Refusal>, f: &[i32], t: &[i32], s: Session) -> Answer
-    requires { code check ≡ 0 → Accepted (lent_table s f.now) (lent_table s t.now) s }
-    ensures { result ≡ take_answer (code check) (lent_table s f.now) (lent_table s t.now) s }
+// What a take answers, if its checks passed: the first held pair, if it is secured; else finished, or not yet. What
+// they refuse it by is handed on, whatever says it.
+#[tactic(auto, unfolding(crate::specs::Answers::take_answer))]
+pub fn take_answer<R: Copy>(
+    check: Result<(), R>,
+    f: &[i32],
+    t: &[i32],
+    s: Session,
+) -> Result<Answer, R>
+    requires { is_ok check ≡ true → Accepted (lent_table s f.now) (lent_table s t.now) s }
+    ensures { result ≡ if_passed check (take_answer 0 (lent_table s f.now) (lent_table s t.now) s) }
 {
     if let Err(refusal) = check {
-        return Answer::Refused(refusal);
+        return Err(refusal);
     }
     if gives_pair(f, t, s) {
-        return Answer::Given(s.pairs[0]);
+        return Ok(Answer::Given(s.pairs[0]));
     }
     if is_finished(f, t, s) {
-        return Answer::Finished;
+        return Ok(Answer::Finished);
     }
-    Answer::NotYet
+    Ok(Answer::NotYet)
 }

@@ -34,18 +34,18 @@ passed c = call_checked c.args.f.now c.args.t.now c.args.s c.fits.result _ c.fit
 pub check_call-check-requires : goal.check_call-check-requires
 check_call-check-requires c h = depths_fit_lem c.args.s (sym c.fits.ensures ∙ h)
 
-pub take_answer-answer-requires : goal.take_answer-answer-requires
-take_answer-answer-requires c e = (passed (goal.at.take_answer-answer-requires c).After-check_call-check).known e
+pub checked_answer-answer-requires : goal.checked_answer-answer-requires
+checked_answer-answer-requires c e = (passed (goal.at.checked_answer-answer-requires c).After-check_call-check).known e
 
 pub overflow_add-r : goal.overflow_add-r
 overflow_add-r c =
-    let told = sym (ap was_given c.take_answer-answer.ensures) ∙ ap was_given c.in-Given.is in
+    let told = sym (ap was_given c.checked_answer-answer.ensures) ∙ ap was_given c.in-Given.is in
     let k = gives _ _ c.args.s _ (passed (goal.at.overflow_add-r c).After-check_call-check) told in
     record { fits = omega (arith, k) }
 
 pub overflow_sub-r : goal.overflow_sub-r
 overflow_sub-r c =
-    let told = sym (ap was_given c.take_answer-answer.ensures) ∙ ap was_given c.in-Given.is in
+    let told = sym (ap was_given c.checked_answer-answer.ensures) ∙ ap was_given c.in-Given.is in
     let k = gives _ _ c.args.s _ (passed (goal.at.overflow_sub-r c).After-check_call-check) told in
     omega (arith, k)
 
@@ -55,9 +55,9 @@ returns-in-Given c =
     let a = c.args in
     let k = passed (goal.at.returns-in-Given c).After-check_call-check in
     let ended =
-    take_ends (lent_table a.s a.f.now) (lent_table a.s a.t.now) a.s _ c.take_answer-answer.result k.code_is
-    c.take_answer-answer.ensures in
-    let told : was_given c.take_answer-answer.result ≡ true = ap was_given c.in-Given.is in
+    take_ends (lent_table a.s a.f.now) (lent_table a.s a.t.now) a.s _ c.checked_answer-answer.result k.code_is
+    c.checked_answer-answer.ensures in
+    let told : was_given c.checked_answer-answer.result ≡ true = ap was_given c.in-Given.is in
     let after = simp told at ended in
     let pairs =
     ap (λ (l : List Pair). set l 63 no_pair) c.copy_within.ensures.after
@@ -69,6 +69,6 @@ returns-in_default c =
     let a = c.args in
     let k = passed (goal.at.returns-in_default c).After-check_call-check in
     let ended =
-    take_ends (lent_table a.s a.f.now) (lent_table a.s a.t.now) a.s _ c.take_answer-answer.result k.code_is
-    c.take_answer-answer.ensures in
-    simp (not_given c.take_answer-answer.result c.in_default.not-Given) at ended
+    take_ends (lent_table a.s a.f.now) (lent_table a.s a.t.now) a.s _ c.checked_answer-answer.result k.code_is
+    c.checked_answer-answer.ensures in
+    simp (not_given c.checked_answer-answer.result c.in_default.not-Given) at ended

@@ -1,10 +1,10 @@
--- `read_header` meets its contract. Assumes nothing.
+-- `read_columns` meets its contract. Assumes nothing.
 use Rattle.std.proofs.Common.{◌≡◌, sym, ◌∙◌, to_z, of_z, eq-eqb, true, get_or}
 use mir.Syntax.{w32}
 use borrow.Author.Rules.{rules}
 use Rattle.rules.specs.File.{ends_line}
 use Rattle.file_header.proofs.Head.{header_some}
-use Rattle.file_header.proofs.read_header.Goals as goal
+use Rattle.file_header.proofs.read_columns.Goals as goal
 
 pub returns : goal.returns
 returns c =
