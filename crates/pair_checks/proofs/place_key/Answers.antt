@@ -1,5 +1,5 @@
 -- By the ways out.
-use Rattle.std.proofs.Common.{refl, sym, ◌∙◌}
+use Rattle.std.proofs.Common.{refl, sym, ◌∙◌, arith}
 use borrow.Author.Tests.{le-leb, lt-leb, lt-ltb, le-ltb}
 use Rattle.pair_checks.specs.Grounds.{place_key}
 use Rattle.pair_checks.proofs.Keys.{within_narrow}
@@ -29,7 +29,7 @@ returns-then-key-before c =
       ← c.pair_fits.ensures,
       c.if-not-pair_fits.false,
       ← c.key-key.ensures,
-      le-ltb _ _ c.if-key-before.true,
+      le-ltb c.args.before c.key-key.result (omega (arith, c.if-key-before.true)),
     )
     refl
 
@@ -41,6 +41,6 @@ returns c =
       ← c.pair_fits.ensures,
       c.if-not-pair_fits.false,
       ← c.key-key.ensures,
-      lt-ltb _ _ c.if-key-before.false,
+      lt-ltb c.args.before c.key-key.result (omega (arith, c.if-key-before.false)),
     )
     refl
