@@ -1,9 +1,10 @@
-// One column of a strict file, the rules' "A number is right-justified": its number, if it is formed so.
+// One column of a strict file, the rules' "A number is right-justified": its number, if it is formed so. And what is
+// read of several, by whether they are.
 #![tactic(auto)]
 
 ghost use Rattle.std.specs.Prelude.{◌≡◌, true, ◌+◌, ◌≤◌, ◌<◌, length};
 ghost use Rattle.rules.specs.File.{columns, column_fits, column_number};
-ghost use Rattle.column.specs.Column.{column_held};
+ghost use Rattle.column.specs.Column.{column_held, formed};
 ghost use Rattle.column.specs.Held.{least_of, signed_worth, held_of};
 
 use column_scan::{Scan, scan_from};
@@ -50,6 +51,16 @@ pub fn column_at(bytes: &[u8], at: usize, width: usize, signed: bool) -> Option<
     ensures { result ≡ column_held signed (columns bytes.now at width) }
 {
     held(scan_from(bytes, at, at + width, signed))
+}
+
+// What is read of columns: in Ok where they are formed as they must be, else in Err.
+pub fn formed<T: Copy>(fits: bool, read: T) -> Result<T, T>
+    ensures { result ≡ formed fits read }
+{
+    if fits {
+        return Ok(read);
+    }
+    Err(read)
 }
 
 // The number of a column that fits.

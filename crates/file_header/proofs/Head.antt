@@ -1,89 +1,75 @@
 -- What is read of the header: the checks of it are the rules', and its count is the file's. Assumes nothing.
-use Rattle.std.proofs.Common.{◌≡◌, refl, sym, ap, ◌∙◌, Bool, true, false, cond, ◌&&◌, List, [], ◌∷◌, ℕ, ◌≤◌, ◌<◌}
+use Rattle.std.proofs.Common.{◌≡◌, sym, ap, ap₂, ◌∙◌, true, false, ◌&&◌, List, [], ◌∷◌, ℕ, ◌≤◌, ◌<◌}
 use Rattle.std.proofs.Common.{length}
-use Rattle.std.proofs.Common.{leb, eqb, ℤ, Some, None, le-leb}
-use Rattle.std.proofs.Math.Bool.{and-false}
+use Rattle.std.proofs.Common.{leb, eqb, ℤ, pos, Option, is_some, unwrap_or, Ok, Err, le-leb}
+use Rattle.std.proofs.Math.Bool.{and_assoc}
 use Rattle.std.proofs.lemmas.Bool.{lt-leb}
 use Rattle.rules.specs.Numbers.{cut_file, bad_column, wrong_kind, table_size, unless, first}
 use Rattle.rules.specs.Tables.{most_rows, nat_of}
 use Rattle.rules.specs.Calls.{between}
-use Rattle.rules.specs.File.{columns, header_bytes, ends_line, header_fits, file_count, file_kind, kind_fits, head_code}
+use Rattle.rules.specs.File.{columns, header_bytes, ends_line, header_fits, file_count, kind_fits, head_code}
 use Rattle.rules.specs.File.{row_start, wanted}
 use Rattle.file_laws.specs.Kinds.{row_short}
-use Rattle.column.specs.Column.{column_held, held_some, held_none}
-use Rattle.codes.specs.Steps.{passed, stopped}
+use Rattle.column.specs.Column.{column_held, some_fits, formed, formed_ok, formed_err}
 use Rattle.file_header.specs.declared.Header.{Header}
-use Rattle.file_header.specs.Held.{header_read, header_held, header_in}
+use Rattle.file_header.specs.Held.{header_read, whole_header, no_header, header_held}
+use Rattle.file_header.specs.Formed.{header_by_rules, header_formed}
 
 module _ (bytes : List ℕ) where
-  -- a header of which one column is formed otherwise, or its end
-  pub count_none : column_held false (columns bytes 0 6) ≡ None → None ≡ header_held bytes
-  unfolding header_held header_fits
-  count_none h = rw (held_none false (columns bytes 0 6) h)
-
-  pub kind_none : column_held false (columns bytes 6 6) ≡ None → None ≡ header_held bytes
-  unfolding header_held header_fits
-  kind_none h = simp (held_none false (columns bytes 6 6) h, and-false)
-
-  pub end_none : ends_line bytes 12 ≡ false → None ≡ header_held bytes
-  unfolding header_held header_fits
-  end_none h = simp (h, and-false)
-
-  -- its numbers, put together
-  pub header_some : (n k : ℤ) → column_held false (columns bytes 0 6) ≡ Some n
-      → column_held false (columns bytes 6 6) ≡ Some k → ends_line bytes 12 ≡ true
-      → Some (record { count = nat_of n; kind = nat_of k }) ≡ header_held bytes
-  unfolding header_held header_fits file_count file_kind
-  header_some n k en ek e =
-      let c = held_some false (columns bytes 0 6) n en in
-      let d = held_some false (columns bytes 6 6) k ek in
-      simp (c.0, c.1, d.0, d.1, e)
-
-  read_is : (h : Header) → header_held bytes ≡ Some h → (header_fits bytes ≡ true) × (header_read bytes ≡ h)
+  -- a file is long enough for a header, or too short
+  held_whole : header_bytes ≤ length bytes → header_held bytes ≡ whole_header bytes
   unfolding header_held
-  read_is h = go (header_fits bytes)
-    where
-      go : (t : Bool) → cond t (Some (header_read bytes)) None ≡ Some h → (t ≡ true) × (header_read bytes ≡ h)
-      go true e = (refl, cc)
-      go false e = cc
+  held_whole w = rw (le-leb header_bytes (length bytes) w)
 
-  unread : header_held bytes ≡ None → header_fits bytes ≡ false
+  pub short_held : length bytes < header_bytes → Err no_header ≡ header_held bytes
   unfolding header_held
-  unread = go (header_fits bytes)
-    where
-      go : (t : Bool) → cond t (Some (header_read bytes)) None ≡ None → t ≡ false
-      go true e = cc
-      go false e = refl
+  short_held h = rw (lt-leb header_bytes (length bytes) h)
 
-  -- a file is long enough for a header, or not
-  pub none_in : length bytes < header_bytes → None ≡ header_in bytes
-  unfolding header_in
-  none_in h = rw (lt-leb header_bytes (length bytes) h)
+  -- what is read of the two columns, put together
+  module _ (n k : Option ℤ) (en : n ≡ column_held false (columns bytes 0 6))
+      (ek : k ≡ column_held false (columns bytes 6 6)) where
+    header_looked : (is_some n && is_some k) && ends_line bytes 12 ≡ header_fits bytes
+    unfolding header_fits
+    header_looked =
+        simp (
+          ap is_some en ∙ some_fits false (columns bytes 0 6),
+          ap is_some ek ∙ some_fits false (columns bytes 6 6),
+          and_assoc,
+        )
 
-  pub held_in : header_bytes ≤ length bytes → header_held bytes ≡ header_in bytes
-  unfolding header_in
-  held_in w = rw (le-leb header_bytes (length bytes) w)
+    pub header_told : header_bytes ≤ length bytes →
+        formed ((is_some n && is_some k) && ends_line bytes 12)
+        (record { count = nat_of (unwrap_or n (pos 0)); kind = nat_of (unwrap_or k (pos 0)) })
+        ≡ header_held bytes
+    header_told w =
+        let number : Option ℤ → ℕ = λ x. nat_of (unwrap_or x (pos 0)) in
+        let read : record { count = number n; kind = number k } ≡ header_read bytes =
+        λ i. record { count = ap number en i; kind = ap number ek i } in
+        ap₂ formed header_looked read ∙ sym (held_whole w)
 
-  in_held : (h : Header) → header_in bytes ≡ Some h → header_held bytes ≡ Some h
-  unfolding header_in
-  in_held h = go (leb header_bytes (length bytes))
-    where
-      go : (t : Bool) → cond t (header_held bytes) None ≡ Some h → header_held bytes ≡ Some h
-      go true e = e
-      go false e = cc
+  -- what the answer tells
+  module _ (h : Header) (w : header_bytes ≤ length bytes) where
+    header_ok : header_held bytes ≡ Ok h → (header_fits bytes ≡ true) × (h ≡ header_by_rules bytes)
+    header_ok e =
+        let r = formed_ok h (header_fits bytes) (header_read bytes) (sym (held_whole w) ∙ e) in
+        (r.0, r.1 ∙ header_formed bytes r.0)
 
-  pub count_is : (h : Header) → header_in bytes ≡ Some h → h.count ≡ file_count bytes
-  count_is h e = sym (ap (λ (x : Header). x.count) (read_is h (in_held h e)).1)
+    header_err : header_held bytes ≡ Err h → (header_fits bytes ≡ false) × (h ≡ header_read bytes)
+    header_err e = formed_err h (header_fits bytes) (header_read bytes) (sym (held_whole w) ∙ e)
 
-  -- the checks of what was read, or of what could not be
+    pub count_is : header_held bytes ≡ Ok h → h.count ≡ file_count bytes
+    count_is e = ap (λ (x : Header). x.count) (header_ok e).1
+
+  -- the checks of what was read
   module _ (kind : ℤ) where
     pub cut_code : length bytes < header_bytes → cut_file ≡ head_code bytes kind
     unfolding head_code
     cut_code h = rw (lt-leb header_bytes (length bytes) h)
 
-    pub unread_code : header_bytes ≤ length bytes → header_in bytes ≡ None → bad_column ≡ head_code bytes kind
+    pub head_bad : (h : Header) → header_bytes ≤ length bytes → header_held bytes ≡ Err h
+        → bad_column ≡ head_code bytes kind
     unfolding head_code
-    unread_code w h = rw (le-leb header_bytes (length bytes) w, unread (held_in w ∙ h))
+    head_bad h w e = rw (le-leb header_bytes (length bytes) w, (header_err h w e).0)
 
     abbrev checks : Header → ℕ
     checks x =
@@ -93,14 +79,12 @@ module _ (bytes : List ℕ) where
         ∷ unless (eqb (length bytes) (row_start (wanted kind) x.count)) cut_file
         ∷ [])
 
-    pub read_code : (h : Header) → header_bytes ≤ length bytes → header_in bytes ≡ Some h
+    pub read_code : (h : Header) → header_bytes ≤ length bytes → header_held bytes ≡ Ok h
         → checks h ≡ head_code bytes kind
     unfolding head_code kind_fits
     read_code h w e =
-        let r = read_is h (in_held h e) in
-        sym (ap checks r.1) ∙ rw (le-leb header_bytes (length bytes) w, r.0)
+        let r = header_ok h w e in
+        ap checks r.1 ∙ rw (le-leb header_bytes (length bytes) w, r.0)
 
--- the steps of reading it, and of checking it
-pub ruleset read_steps = (count_none, kind_none, end_none, header_some)
-
-pub ruleset check_steps = (passed, stopped, cut_code, unread_code, read_code, count_is, row_short)
+-- the steps of checking it
+pub ruleset check_steps = (cut_code, head_bad, count_is, row_short)

@@ -1,15 +1,25 @@
 -- What is read of the header, by the rules' "The strict file". Definitions only. Assumes nothing.
-use Rattle.std.specs.Prelude.{cond, leb, length, List, ℕ, Option, Some, None}
-use Rattle.rules.specs.File.{header_bytes, header_fits, file_count, file_kind}
+use Rattle.std.specs.Prelude.{cond, leb, length, List, ℕ, ℤ, pos, false, unwrap_or, Result, Err}
+use Rattle.rules.specs.Tables.{nat_of}
+use Rattle.rules.specs.File.{columns, header_bytes, header_fits}
+use Rattle.column.specs.Column.{column_held, formed}
 use Rattle.file_header.specs.declared.Header.{Header}
 
--- "Header, 13 bytes": its numbers, if its columns and LF are formed as they must be
+-- the number in the six columns behind a place: 0 where they are not formed as they must be
+abbrev pub header_number : List ℕ → ℕ → ℤ
+header_number bytes o = unwrap_or (column_held false (columns bytes o 6)) (pos 0)
+
+-- "Header, 13 bytes": its numbers, as they are read
 abbrev pub header_read : List ℕ → Header
-header_read bytes = record { count = file_count bytes; kind = file_kind bytes }
+header_read bytes = record { count = nat_of (header_number bytes 0); kind = nat_of (header_number bytes 6) }
 
-unfoldable pub header_held : List ℕ → Option Header
-header_held bytes = cond (header_fits bytes) (Some (header_read bytes)) None
+-- in Ok where its columns and LF are formed as they must be, else in Err
+abbrev pub whole_header : List ℕ → Result Header Header
+whole_header bytes = formed (header_fits bytes) (header_read bytes)
 
--- of a file of any length: one that is too short for a header has none
-unfoldable pub header_in : List ℕ → Option Header
-header_in bytes = cond (leb header_bytes (length bytes)) (header_held bytes) None
+-- that of a file which may be too short for one: then it has none
+abbrev pub no_header : Header
+no_header = record { count = 0; kind = 0 }
+
+unfoldable pub header_held : List ℕ → Result Header Header
+header_held bytes = cond (leb header_bytes (length bytes)) (whole_header bytes) (Err no_header)

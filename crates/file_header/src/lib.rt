@@ -1,50 +1,43 @@
 // The header of a strict file: its numbers, read, and what a file is refused by for it.
 #![tactic(auto)]
 
-ghost use Rattle.std.specs.Prelude.{◌≡◌, ◌≤◌, ℕ, length};
+ghost use Rattle.std.specs.Prelude.{◌≡◌, ℕ};
 ghost use Rattle.rules.specs.Numbers.{code};
-ghost use Rattle.rules.specs.File.{header_bytes, file_count, wanted, head_code};
-ghost use Rattle.file_header.specs.Held.{header_held, header_in};
+ghost use Rattle.rules.specs.File.{file_count, wanted, head_code};
+ghost use Rattle.file_header.specs.Held.{header_held};
 
 use codes::unless;
-use column::column_at;
+use column::{column_at, formed};
 use row_columns::row_bytes;
 use rules::Refusal;
 use tables::natural;
 
-// The header's numbers.
+// What is read of the header, 0 being the number of a column that is not formed as it must be.
 #[derive(Clone, Copy)]
 pub struct Header {
     pub count: u32,
     pub kind: u32,
 }
 
-// The header of a file that is long enough for one, if its columns and LF are formed as they must be.
-#[tactic(auto, using(crate::proofs::Head::read_steps))]
-fn read_columns(bytes: &[u8]) -> Option<Header>
-    requires { header_bytes ≤ length bytes.now }
+// The header: in Ok where its columns and its LF are formed as they must be, else in Err. A file that is too short for
+// one has one of zeros, in Err.
+#[tactic(auto, using(crate::proofs::Head::short_held))]
+pub fn read_header(bytes: &[u8]) -> Result<Header, Header>
     ensures { result ≡ header_held bytes.now }
 {
-    let count = column_at(bytes, 0, 6, false)?;
-    let kind = column_at(bytes, 6, 6, false)?;
-    if bytes[12] != b'\n' {
-        return None;
-    }
-    Some(Header {
-        count: natural(count),
-        kind: natural(kind),
-    })
-}
-
-// The header, if its columns and LF are formed as they must be. A file that is too short for one has none.
-#[tactic(auto, using(crate::proofs::Head::none_in, crate::proofs::Head::held_in))]
-pub fn read_header(bytes: &[u8]) -> Option<Header>
-    ensures { result ≡ header_in bytes.now }
-{
     if bytes.len() < rules::HEADER_BYTES {
-        return None;
+        return Err(Header { count: 0, kind: 0 });
     }
-    read_columns(bytes)
+    let count = column_at(bytes, 0, 6, false);
+    let kind = column_at(bytes, 6, 6, false);
+    let header = Header {
+        count: natural(count.unwrap_or(0)),
+        kind: natural(kind.unwrap_or(0)),
+    };
+    formed(
+        count.is_some() & kind.is_some() & (bytes[12] == b'\n'),
+        header,
+    )
 }
 
 // How many coordinates a shade has on the card of a kind; 0 where it is no kind.
@@ -63,7 +56,7 @@ pub fn check_header(bytes: &[u8], kind: i32) -> Result<u32, Refusal>
     if bytes.len() < rules::HEADER_BYTES {
         return Err(Refusal::CutFile);
     }
-    let header = read_header(bytes).ok_or(Refusal::BadColumn)?;
+    let header = read_header(bytes).map_err(|_| Refusal::BadColumn)?;
     let wanted = natural(kind);
     let is_kind = (1 <= wanted) & (wanted <= 4);
     unless(is_kind & (header.kind == wanted), Refusal::WrongKind)?;

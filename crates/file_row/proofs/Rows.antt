@@ -1,22 +1,32 @@
 -- What is read of a row, column by column. Assumes nothing.
-use Rattle.std.proofs.Common.{◌≡◌, refl, sym, ap, ◌∙◌, Bool, true, false, cond, ◌&&◌, List, [], ◌∷◌, ℕ, suc, ◌+◌, ◌≤◌}
-use Rattle.std.proofs.Common.{◌<◌}
-use Rattle.std.proofs.Common.{ℤ, pos, Option, Some, None, add-one, arith}
+use Rattle.std.proofs.Common.{◌≡◌, refl, sym, ap, ap₂, ◌∙◌, Bool, true, false, ◌&&◌, List, [], ◌∷◌}
+use Rattle.std.proofs.Common.{ℕ, suc, ◌+◌, ◌≤◌, ◌<◌}
+use Rattle.std.proofs.Common.{ℤ, pos, Option, Ok, Err, is_some, unwrap_or, add-one, arith}
 use Rattle.std.proofs.Math.Bool.{and_assoc, and-true}
 use Rattle.lists.specs.Lists.{every, range}
-use Rattle.lists.specs.Bools.{clash, fails}
-use Rattle.lists.specs.Parts.{every_at, every_of, mem_range}
+use Rattle.lists.specs.Bools.{and_left}
 use Rattle.lists.specs.Appends.{every_more}
 use Rattle.rules.specs.Numbers.{row_limit, row_order, bad_column, unless, first}
 use Rattle.rules.specs.Tables.{width, within, coordinate_fits}
-use Rattle.rules.specs.File.{columns, is_signed, column_bytes, column_start, column_fits_at, number_at, row_bytes}
-use Rattle.rules.specs.File.{ends_line}
+use Rattle.rules.specs.File.{columns, is_signed, column_at, column_bytes, column_start, column_fits_at, number_at}
+use Rattle.rules.specs.File.{row_bytes, ends_line}
 use Rattle.file_laws.specs.Columns.{start_next, signed_back, size_back, column_ends}
-use Rattle.column.specs.Column.{column_held, held_some, held_none}
+use Rattle.column.specs.Column.{column_held, some_fits, formed, formed_ok, formed_err}
 use Rattle.file_row.specs.declared.Row.{Row}
-use Rattle.codes.specs.Steps.{passed, stopped}
 use Rattle.file_row.specs.Held.{follows, held_row_code}
-use Rattle.file_row.specs.Held.{columns_held, coordinate_held, numbers_held, row_read, columns_row}
+use Rattle.file_row.specs.Held.{columns_held, held_column, coordinate_read, numbers_read}
+use Rattle.file_row.specs.Held.{row_read, columns_row, row_held}
+use Rattle.file_row.specs.Formed.{row_by_rules, row_formed}
+
+-- what is read of the columns that every card has: pattern number, score, a and b
+abbrev front_row : Option ℤ → Option ℤ → Option ℤ → Option ℤ → ℕ → Row
+front_row p s a b end =
+    record {
+      inside = (within (pos 1) (pos 999999) (unwrap_or p (pos 0)) && within (pos 0) (pos 9999) (unwrap_or s (pos 0)))
+          && (coordinate_fits 0 (unwrap_or a (pos 0)) && coordinate_fits 1 (unwrap_or b (pos 0)));
+      score = unwrap_or s (pos 0);
+      end = end;
+    }
 
 module _ (bytes : List ℕ) (o : ℕ) where
   -- number j of the row, its column being the one that begins at a place
@@ -24,93 +34,61 @@ module _ (bytes : List ℕ) (o : ℕ) where
     abbrev there : Option ℤ
     there = column_held (is_signed j) (columns bytes at (column_bytes j))
 
-    column_none : there ≡ None → column_fits_at bytes o j ≡ false
+    column_told : is_some there ≡ column_fits_at bytes o j
     unfolding column_fits_at
-    column_none h = held_none (is_signed j) _ (rw e at h)
+    column_told =
+        ap (λ (x : ℕ). is_some (column_held (is_signed j) (columns bytes x (column_bytes j)))) e
+        ∙ some_fits (is_signed j) (column_at bytes o j)
 
-    -- a row with one that is formed otherwise
-    pub row_none : (n : ℕ) → j < width n → there ≡ None → None ≡ columns_row n bytes o
-    unfolding columns_row columns_held
-    row_none n h f =
-        let none : every (column_fits_at bytes o) (range 0 (width n)) ≡ false =
-        fails _
-        (λ a.
-        clash (every_at (column_fits_at bytes o) j a ((mem_range j 0 (width n)).1 (omega arith, omega arith)))
-        (column_none f)) in
-        rw none
+    column_read : unwrap_or there (pos 0) ≡ held_column bytes o j
+    unfolding held_column
+    column_read = ap (λ (x : ℕ). unwrap_or (column_held (is_signed j) (columns bytes x (column_bytes j))) (pos 0)) e
 
-    column_some : (z : ℤ) → there ≡ Some z → (column_fits_at bytes o j ≡ true) × (number_at bytes o j ≡ z)
-    unfolding column_fits_at number_at
-    column_some z h = held_some (is_signed j) _ z (rw e at h)
-
-  -- what is read of one, and that its columns are formed as they must be
-  pub row_some : (n : ℕ) (row : Row) → columns_row n bytes o ≡ Some row
-      → (columns_held (width n) bytes o ≡ true) × (row_read n bytes o ≡ row)
+  -- an answer is put together of whether the columns are formed, and of what is read
+  pub columns_told : (n : ℕ) (fits : Bool) (row : Row) → fits ≡ columns_held (width n) bytes o
+      → row ≡ row_read n bytes o → formed fits row ≡ columns_row n bytes o
   unfolding columns_row
-  row_some n row = go (columns_held (width n) bytes o)
-    where
-      go : (t : Bool) → cond t (Some (row_read n bytes o)) None ≡ Some row
-          → (t ≡ true) × (row_read n bytes o ≡ row)
-      go true e = (refl, cc)
-      go false e = cc
-
-  pub row_unread : (n : ℕ) → columns_row n bytes o ≡ None → columns_held (width n) bytes o ≡ false
-  unfolding columns_row
-  row_unread n = go (columns_held (width n) bytes o)
-    where
-      go : (t : Bool) → cond t (Some (row_read n bytes o)) None ≡ None → t ≡ false
-      go true e = cc
-      go false e = refl
-
-  -- LF follows them
-  pub row_ends : (n : ℕ) (row : Row) → columns_row n bytes o ≡ Some row → o + row_bytes n ≡ row.end + 1
-  unfolding row_bytes
-  row_ends n row h = omega (arith, ap (λ (r : Row). r.end) (row_some n row h).1)
-
-  -- where one cannot be read, more cannot
-  pub row_less : (k n : ℕ) → k ≤ n → columns_row k bytes o ≡ None → None ≡ columns_row n bytes o
-  unfolding columns_row columns_held
-  row_less k n h e =
-      let test = column_fits_at bytes o in
-      let none : every test (range 0 (width n)) ≡ false =
-      fails _
-      (λ a.
-      clash
-      (every_of test (range 0 (width k))
-      (λ j m. every_at test j a ((mem_range j 0 (width n)).1 (
-        omega (arith, ((mem_range j 0 (width k)).0 m).1),
-        omega (arith, ((mem_range j 0 (width k)).0 m).1),
-      ))))
-      (row_unread k e)) in
-      rw none
+  columns_told n fits row f r = ap₂ formed f r
 
   -- the columns that every card has, put together
-  pub front_some : (x y u v : ℤ) →
-      column_held false (columns bytes o 6) ≡ Some x →
-      column_held false (columns bytes (o + 6) 6) ≡ Some y →
-      column_held true (columns bytes (o + 12) 7) ≡ Some u →
-      column_held true (columns bytes (o + 19) 7) ≡ Some v →
-      Some
-      (record {
-        inside = (within (pos 1) (pos 999999) x && within (pos 0) (pos 9999) y)
-            && (coordinate_fits 0 u && coordinate_fits 1 v);
-        score = y;
-        end = o + 26;
-      }) ≡ columns_row 2 bytes o
-  unfolding columns_row columns_held numbers_held coordinate_held column_start every range
-  front_some x y u v ex ey eu ev =
-      let p = column_some 0 o (omega arith) x ex in
-      let s = column_some 1 (o + 6) refl y ey in
-      let a = column_some 2 (o + 12) refl u eu in
-      let b = column_some 3 (o + 19) refl v ev in
-      simp (p.0, p.1, s.0, s.1, a.0, a.1, b.0, b.1, and-true)
+  module _ (p s a b : Option ℤ)
+      (ep : p ≡ column_held false (columns bytes o 6))
+      (es : s ≡ column_held false (columns bytes (o + 6) 6))
+      (ea : a ≡ column_held true (columns bytes (o + 12) 7))
+      (eb : b ≡ column_held true (columns bytes (o + 19) 7)) where
+    first_place : o ≡ o + column_start 0
+    unfolding column_start
+    first_place = omega arith
+
+    front_fits : ((is_some p && is_some s) && is_some a) && is_some b ≡ columns_held (width 2) bytes o
+    unfolding columns_held column_start every range
+    front_fits =
+        let ep₀ = ap is_some ep ∙ column_told 0 o first_place in
+        let es₀ = ap is_some es ∙ column_told 1 (o + 6) refl in
+        let ea₀ = ap is_some ea ∙ column_told 2 (o + 12) refl in
+        let eb₀ = ap is_some eb ∙ column_told 3 (o + 19) refl in
+        simp (ep₀, es₀, ea₀, eb₀, and_assoc, and-true)
+
+    front_read : front_row p s a b (o + 26) ≡ row_read 2 bytes o
+    unfolding numbers_read coordinate_read column_start every range
+    front_read =
+        let number : Option ℤ → ℤ = λ x. unwrap_or x (pos 0) in
+        let ep₀ = ap number ep ∙ column_read 0 o first_place in
+        let es₀ = ap number es ∙ column_read 1 (o + 6) refl in
+        let ea₀ = ap number ea ∙ column_read 2 (o + 12) refl in
+        let eb₀ = ap number eb ∙ column_read 3 (o + 19) refl in
+        simp (ep₀, es₀, ea₀, eb₀, and-true)
+
+    pub front_told : formed (((is_some p && is_some s) && is_some a) && is_some b) (front_row p s a b (o + 26))
+        ≡ columns_row 2 bytes o
+    front_told = columns_told 2 _ _ front_fits front_read
 
   -- one column more, behind b
-  module _ (k : ℕ) (row : Row) (h : 2 ≤ k) (so_far : columns_row k bytes o ≡ Some row) where
+  module _ (k : ℕ) (row : Row) (h : 2 ≤ k) (read : row ≡ row_read k bytes o) where
     place : row.end ≡ o + column_start (k + 2)
-    place = sym (ap (λ (r : Row). r.end) (row_some k row so_far).1)
+    place = ap (λ (r : Row). r.end) read
 
-    there_back : there (k + 2) row.end place ≡ column_held false (columns bytes row.end 6)
+    there_back : column_held false (columns bytes row.end 6) ≡ there (k + 2) row.end place
     there_back = rw (signed_back (k + 2) (omega arith))
 
     pub back_fits : (n : ℕ) → k < n → row.end + 6 + 1 ≤ o + row_bytes n
@@ -118,56 +96,88 @@ module _ (bytes : List ℕ) (o : ℕ) where
     back_fits n l =
         omega (arith, place, size_back (k + 2) (omega arith), column_ends (k + 2) (width n) (omega arith))
 
-    pub back_none : (n : ℕ) → k < n → column_held false (columns bytes row.end 6) ≡ None → None ≡ columns_row n bytes o
-    back_none n l e = row_none (k + 2) row.end place n (omega arith) (there_back ∙ e)
+    module _ (x : Option ℤ) (held : x ≡ column_held false (columns bytes row.end 6)) where
+      pub back_told : columns_held (width k) bytes o && is_some x ≡ columns_held (width (k + 1)) bytes o
+      unfolding columns_held
+      back_told =
+          let j : k + 1 + 2 ≡ suc (k + 2) = omega arith in
+          let told = ap is_some (held ∙ there_back) ∙ column_told (k + 2) row.end place in
+          ap (λ (b : Bool). columns_held (width k) bytes o && b) told
+          ∙ sym (ap (λ (m : ℕ). columns_held m bytes o) j ∙ every_more (column_fits_at bytes o) (k + 2))
 
-    pub back_some : (x : ℤ) → column_held false (columns bytes row.end 6) ≡ Some x →
-        columns_row (k + 1) bytes o
-        ≡ Some (record { inside = row.inside && coordinate_fits k x; score = row.score; end = row.end + 6 })
-    unfolding columns_row columns_held numbers_held coordinate_held
-    back_some x e =
-        let c = column_some (k + 2) row.end place x (there_back ∙ e) in
-        let r = row_some k row so_far in
-        let j : k + 1 + 2 ≡ suc (k + 2) = omega arith in
-        let pattern = within (pos 1) (pos 999999) (number_at bytes o 0) in
-        let score = within (pos 0) (pos 9999) (number_at bytes o 1) in
-        let columns : every (column_fits_at bytes o) (range 0 (k + 1 + 2)) ≡ true =
-        rw (j, every_more (column_fits_at bytes o) (k + 2), r.0, c.0) in
-        let end : o + column_start (k + 1 + 2) ≡ row.end + 6 =
-        omega (arith, place, ap column_start j, start_next (k + 2), size_back (k + 2) (omega arith)) in
-        let inside : numbers_held (k + 1) bytes o ≡ row.inside && coordinate_fits k x =
-        ap (λ (m : ℕ). (pattern && score) && every (coordinate_held bytes o) (range 0 m)) (add-one k)
-        ∙ ap (λ (b : Bool). (pattern && score) && b) (every_more (coordinate_held bytes o) k)
-        ∙ sym (and_assoc (pattern && score) (every (coordinate_held bytes o) (range 0 k)) (coordinate_held bytes o k))
-        ∙ rw (c.1) (ap (λ (r : Row). r.inside && coordinate_fits k x) r.1) in
-        let score = ap (λ (r : Row). r.score) r.1 in
-        rw columns (λ i. Some (record { inside = inside i; score = score i; end = end i }))
+      pub back_read :
+          record {
+            inside = row.inside && coordinate_fits k (unwrap_or x (pos 0));
+            score = row.score;
+            end = row.end + 6;
+          } ≡ row_read (k + 1) bytes o
+      unfolding numbers_read coordinate_read
+      back_read =
+          let j : k + 1 + 2 ≡ suc (k + 2) = omega arith in
+          let pattern = within (pos 1) (pos 999999) (held_column bytes o 0) in
+          let score = within (pos 0) (pos 9999) (held_column bytes o 1) in
+          let number : unwrap_or x (pos 0) ≡ held_column bytes o (k + 2) =
+          ap (λ (y : Option ℤ). unwrap_or y (pos 0)) (held ∙ there_back) ∙ column_read (k + 2) row.end place in
+          let end : row.end + 6 ≡ o + column_start (k + 1 + 2) =
+          omega (arith, place, ap column_start j, start_next (k + 2), size_back (k + 2) (omega arith)) in
+          let inside : row.inside && coordinate_fits k (unwrap_or x (pos 0)) ≡ numbers_read (k + 1) bytes o =
+          ap₂ (λ (a b : Bool). a && b) (ap (λ (r : Row). r.inside) read) (ap (coordinate_fits k) number)
+          ∙ and_assoc (pattern && score) (every (coordinate_read bytes o) (range 0 k)) (coordinate_read bytes o k)
+          ∙ ap (λ (b : Bool). (pattern && score) && b) (sym (every_more (coordinate_read bytes o) k))
+          ∙ ap (λ (m : ℕ). (pattern && score) && every (coordinate_read bytes o) (range 0 m)) (sym (add-one k)) in
+          λ i. record { inside = inside i; score = (ap (λ (r : Row). r.score) read) i; end = end i }
 
-  -- the checks of what was read, or of what could not be
-  module _ (n : ℕ) (before : Option ℤ) where
-    pub unread_code : columns_row n bytes o ≡ None → bad_column ≡ held_row_code n bytes o before
+  module _ (n : ℕ) (row : Row) where
+    pub columns_ok : columns_row n bytes o ≡ Ok row
+        → (columns_held (width n) bytes o ≡ true) × (row ≡ row_read n bytes o)
+    unfolding columns_row
+    columns_ok = formed_ok row (columns_held (width n) bytes o) (row_read n bytes o)
+
+    pub columns_err : columns_row n bytes o ≡ Err row
+        → (columns_held (width n) bytes o ≡ false) × (row ≡ row_read n bytes o)
+    unfolding columns_row
+    columns_err = formed_err row (columns_held (width n) bytes o) (row_read n bytes o)
+
+    -- LF follows the columns
+    pub row_ends : columns_row n bytes o ≡ Ok row → o + row_bytes n ≡ row.end + 1
+    unfolding row_bytes
+    row_ends h = omega (arith, ap (λ (r : Row). r.end) (columns_ok h).1)
+
+    pub none_told : columns_row n bytes o ≡ Err row → Err row ≡ row_held n bytes o
+    unfolding row_held
+    none_told h = let c = columns_err h in rw (c.0) (ap Err (c.1))
+
+    pub line_told : columns_row n bytes o ≡ Ok row → formed (ends_line bytes row.end) row ≡ row_held n bytes o
+    unfolding row_held
+    line_told h =
+        let c = columns_ok h in
+        rw (c.0) (ap (λ (r : Row). formed (ends_line bytes r.end) r) (c.1))
+
+    -- the checks of what was read
+    abbrev row_fits : Bool
+    row_fits = columns_held (width n) bytes o && ends_line bytes (o + column_start (width n))
+
+    row_ok : row_held n bytes o ≡ Ok row → (row_fits ≡ true) × (row ≡ row_by_rules n bytes o)
+    unfolding row_held
+    row_ok h =
+        let r = formed_ok row row_fits (row_read n bytes o) h in
+        (r.0, r.1 ∙ row_formed n bytes o (and_left (columns_held (width n) bytes o) _ r.0))
+
+    pub read_score : row_held n bytes o ≡ Ok row → row.score ≡ number_at bytes o 1
+    read_score h = ap (λ (r : Row). r.score) (row_ok h).1
+
+    pub row_bad : (before : Option ℤ) → row_held n bytes o ≡ Err row → bad_column ≡ held_row_code n bytes o before
+    unfolding held_row_code row_held
+    row_bad before h = rw (formed_err row row_fits (row_read n bytes o) h).0
+
+    pub read_code : (before : Option ℤ) → row_held n bytes o ≡ Ok row →
+        first (unless row.inside row_limit ∷ unless (follows before row.score) row_order ∷ [])
+        ≡ held_row_code n bytes o before
     unfolding held_row_code
-    unread_code h = rw (row_unread n h)
-
-    pub read_code : (row : Row) → columns_row n bytes o ≡ Some row →
-        first
-        (unless (ends_line bytes row.end) bad_column
-        ∷ unless row.inside row_limit
-        ∷ unless (follows before row.score) row_order
-        ∷ []) ≡ held_row_code n bytes o before
-    unfolding held_row_code
-    read_code row h =
-        let r = row_some n row h in
-        let of : Row → ℕ = λ x.
-        first
-        (unless (ends_line bytes x.end) bad_column
-        ∷ unless x.inside row_limit
-        ∷ unless (follows before x.score) row_order
-        ∷ []) in
-        sym (ap of r.1) ∙ rw r.0
+    read_code before h = rw ((row_ok h).0, ap (λ (r : Row). r.inside) (row_ok h).1, read_score h)
 
 -- the steps of reading a row
-pub ruleset read_steps = (row_less, back_fits, back_none, back_some)
+pub ruleset read_steps = (row_ends, none_told)
 
 -- those of checking it
-pub ruleset check_steps = (passed, stopped, unread_code, read_code, row_some, row_ends)
+pub ruleset check_steps = (row_bad, read_score)

@@ -5,15 +5,15 @@ ghost use Rattle.std.specs.Prelude.{◌≡◌, ◌+◌, ◌≤◌, ℤ, length};
 ghost use Rattle.rules.specs.Tables.{width};
 ghost use Rattle.rules.specs.Numbers.{code};
 ghost use Rattle.rules.specs.File.{column_start, row_bytes, number_at};
-ghost use Rattle.file_row.specs.Held.{follows, columns_row, held_row_code};
+ghost use Rattle.file_row.specs.Held.{follows, columns_row, row_held, held_row_code};
 
 use codes::unless;
-use column::column_at;
+use column::{column_at, formed};
 use row_ranges::{coordinate_fits, in_range};
 use rules::Refusal;
 
-// What is read of a row whose columns are formed as they must be: whether its numbers keep their ranges, its score, and
-// where its columns end. A flag and no `Result`: 6 comes after 9 of the whole row, which its LF is looked at for too.
+// What is read of a row, 0 being the number of a column that is not formed as it must be: whether its numbers keep
+// their ranges, its score, and where its columns end.
 #[derive(Clone, Copy)]
 pub struct Row {
     pub inside: bool,
@@ -21,37 +21,57 @@ pub struct Row {
     pub end: usize,
 }
 
-// The columns that rows of every card have, of a row that begins at `o`: pattern number, score, a and b.
+// The columns that rows of every card have, of a row that begins at `o`: pattern number, score, a and b. In Ok where
+// all are formed as they must be, else in Err.
 #[tactic(auto, unfolding(rules::specs::File::column_start))]
-fn read_front(bytes: &[u8], o: usize) -> Option<Row>
+fn read_front(bytes: &[u8], o: usize) -> Result<Row, Row>
     requires { o + column_start (width 2) ≤ length bytes.now }
     ensures { result ≡ columns_row 2 bytes.now o }
 {
-    let pattern = column_at(bytes, o, 6, false)?;
-    let score = column_at(bytes, o + 6, 6, false)?;
-    let a = column_at(bytes, o + 12, 7, true)?;
-    let b = column_at(bytes, o + 19, 7, true)?;
-    let shade = coordinate_fits(0, a) & coordinate_fits(1, b);
-    Some(Row {
-        inside: in_range(pattern, score) & shade,
-        score,
+    let pattern = column_at(bytes, o, 6, false);
+    let score = column_at(bytes, o + 6, 6, false);
+    let a = column_at(bytes, o + 12, 7, true);
+    let b = column_at(bytes, o + 19, 7, true);
+    let shade = coordinate_fits(0, a.unwrap_or(0)) & coordinate_fits(1, b.unwrap_or(0));
+    let row = Row {
+        inside: in_range(pattern.unwrap_or(0), score.unwrap_or(0)) & shade,
+        score: score.unwrap_or(0),
         end: o + 26,
-    })
+    };
+    formed(
+        pattern.is_some() & score.is_some() & a.is_some() & b.is_some(),
+        row,
+    )
 }
 
-// The columns of a row of n coordinates: those behind b hold one coordinate each.
-#[tactic(auto, using(crate::proofs::Rows::read_steps))]
-pub fn read_row(n: u32, bytes: &[u8], o: usize) -> Option<Row>
+// The columns of a row of n coordinates: those behind b hold one coordinate each. In Ok and Err likewise.
+#[tactic(auto, using(crate::proofs::Rows::back_fits))]
+fn read_columns(n: u32, bytes: &[u8], o: usize) -> Result<Row, Row>
     requires { (2 ≤ n) × (o + row_bytes n ≤ length bytes.now) }
     ensures { result ≡ columns_row n bytes.now o }
 {
-    let mut row = read_front(bytes, o)?;
+    let (mut fits, mut row) = match read_front(bytes, o) {
+        Ok(row) => (true, row),
+        Err(row) => (false, row),
+    };
     for k in 2..n {
-        let x = column_at(bytes, row.end, 6, false)?;
-        row.inside &= coordinate_fits(k as usize, x);
+        let x = column_at(bytes, row.end, 6, false);
+        fits &= x.is_some();
+        row.inside &= coordinate_fits(k as usize, x.unwrap_or(0));
         row.end += 6;
     }
-    Some(row)
+    formed(fits, row)
+}
+
+// The row of n coordinates that begins at `o`: in Ok where its columns and its LF are formed as they must be, else in
+// Err.
+#[tactic(auto, using(crate::proofs::Rows::read_steps))]
+pub fn read_row(n: u32, bytes: &[u8], o: usize) -> Result<Row, Row>
+    requires { (2 ≤ n) × (o + row_bytes n ≤ length bytes.now) }
+    ensures { result ≡ row_held n bytes.now o }
+{
+    let row = read_columns(n, bytes, o)?;
+    formed(bytes[row.end] == b'\n', row)
 }
 
 // Whether a score is at most the one before, if there is one.
@@ -72,8 +92,7 @@ pub fn check_row(n: u32, bytes: &[u8], o: usize, before: Option<i32>) -> Result<
     ensures number { code result ≡ held_row_code n bytes.now o before }
     ensures score { (score : ℤ) → result ≡ Ok score → score ≡ number_at bytes.now o 1 }
 {
-    let row = read_row(n, bytes, o).ok_or(Refusal::BadColumn)?;
-    unless(bytes[row.end] == b'\n', Refusal::BadColumn)?;
+    let row = read_row(n, bytes, o).map_err(|_| Refusal::BadColumn)?;
     unless(row.inside, Refusal::RowLimit)?;
     unless(follows(before, row.score), Refusal::RowOrder)?;
     Ok(row.score)
