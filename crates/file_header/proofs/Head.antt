@@ -1,18 +1,17 @@
 -- What is read of the header: the checks of it are the rules', and its count is the file's. Assumes nothing.
-use Rattle.std.proofs.Common.{◌≡◌, sym, ap, ap₂, ◌∙◌, true, false, ◌&&◌, List, [], ◌∷◌, ℕ, ◌≤◌, ◌<◌}
+use Rattle.std.proofs.Common.{◌≡◌, sym, ap, ap₂, ◌∙◌, true, false, ◌&&◌, List, ℕ, ◌≤◌, ◌<◌}
 use Rattle.std.proofs.Common.{length}
-use Rattle.std.proofs.Common.{leb, eqb, ℤ, pos, Option, is_some, unwrap_or, Ok, Err, le-leb}
+use Rattle.std.proofs.Common.{ℤ, pos, Option, is_some, unwrap_or, Ok, Err, le-leb}
 use Rattle.std.proofs.Math.Bool.{and_assoc}
 use Rattle.std.proofs.lemmas.Bool.{lt-leb}
-use Rattle.rules.specs.Numbers.{cut_file, bad_column, wrong_kind, table_size, unless, first}
-use Rattle.rules.specs.Tables.{most_rows, nat_of}
-use Rattle.rules.specs.Calls.{between}
+use Rattle.rules.specs.Numbers.{cut_file, bad_column}
+use Rattle.rules.specs.Tables.{nat_of}
 use Rattle.rules.specs.File.{columns, header_bytes, ends_line, header_fits, file_count, kind_fits, head_code}
-use Rattle.rules.specs.File.{row_start, wanted}
 use Rattle.file_laws.specs.Kinds.{row_short}
 use Rattle.column.specs.Column.{column_held, some_fits, formed, formed_ok, formed_err}
+use Rattle.codes.specs.Steps.{passed, stopped}
 use Rattle.file_header.specs.declared.Header.{Header}
-use Rattle.file_header.specs.Held.{header_read, whole_header, no_header, header_held}
+use Rattle.file_header.specs.Held.{header_read, whole_header, no_header, header_held, header_code}
 use Rattle.file_header.specs.Formed.{header_by_rules, header_formed}
 
 module _ (bytes : List ℕ) where
@@ -71,20 +70,15 @@ module _ (bytes : List ℕ) where
     unfolding head_code
     head_bad h w e = rw (le-leb header_bytes (length bytes) w, (header_err h w e).0)
 
-    abbrev checks : Header → ℕ
-    checks x =
-        first
-        (unless (between 1 4 (nat_of kind) && eqb x.kind (nat_of kind)) wrong_kind
-        ∷ unless (leb x.count most_rows) table_size
-        ∷ unless (eqb (length bytes) (row_start (wanted kind) x.count)) cut_file
-        ∷ [])
-
     pub read_code : (h : Header) → header_bytes ≤ length bytes → header_held bytes ≡ Ok h
-        → checks h ≡ head_code bytes kind
-    unfolding head_code kind_fits
+        → header_code h (length bytes) kind ≡ head_code bytes kind
+    unfolding header_code head_code kind_fits
     read_code h w e =
         let r = header_ok h w e in
-        ap checks r.1 ∙ rw (le-leb header_bytes (length bytes) w, r.0)
+        ap (λ (x : Header). header_code x (length bytes) kind) r.1 ∙ rw (le-leb header_bytes (length bytes) w, r.0)
+
+-- the steps of checking what was read
+pub ruleset judging = (passed, stopped, row_short)
 
 -- the steps of checking it
-pub ruleset check_steps = (cut_code, head_bad, count_is, row_short)
+pub ruleset check_steps = (cut_code, head_bad, read_code, count_is)

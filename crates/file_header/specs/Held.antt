@@ -1,7 +1,9 @@
 -- What is read of the header, by the rules' "The strict file". Definitions only. Assumes nothing.
-use Rattle.std.specs.Prelude.{cond, leb, length, List, ℕ, ℤ, pos, false, unwrap_or, Result, Err}
-use Rattle.rules.specs.Tables.{nat_of}
-use Rattle.rules.specs.File.{columns, header_bytes, header_fits}
+use Rattle.std.specs.Prelude.{cond, leb, eqb, ◌&&◌, length, List, [], ◌∷◌, ℕ, ℤ, pos, false, unwrap_or, Result, Err}
+use Rattle.rules.specs.Tables.{most_rows, nat_of}
+use Rattle.rules.specs.Numbers.{table_size, cut_file, wrong_kind, unless, first}
+use Rattle.rules.specs.Calls.{between}
+use Rattle.rules.specs.File.{columns, header_bytes, header_fits, row_start, wanted}
 use Rattle.column.specs.Column.{column_held, formed}
 use Rattle.file_header.specs.declared.Header.{Header}
 
@@ -23,3 +25,12 @@ no_header = record { count = 0; kind = 0 }
 
 unfoldable pub header_held : List ℕ → Result Header Header
 header_held bytes = cond (leb header_bytes (length bytes)) (whole_header bytes) (Err no_header)
+
+-- the checks of what was read, behind that of its form
+unfoldable pub header_code : Header → ℕ → ℤ → ℕ
+header_code header len kind =
+    first
+    (unless (between 1 4 (nat_of kind) && eqb header.kind (nat_of kind)) wrong_kind
+    ∷ unless (leb header.count most_rows) table_size
+    ∷ unless (eqb len (row_start (wanted kind) header.count)) cut_file
+    ∷ [])

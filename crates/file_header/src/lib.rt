@@ -1,10 +1,10 @@
 // The header of a strict file: its numbers, read, and what a file is refused by for it.
 #![tactic(auto)]
 
-ghost use Rattle.std.specs.Prelude.{◌≡◌, ℕ};
+ghost use Rattle.std.specs.Prelude.{◌≡◌, ℕ, length};
 ghost use Rattle.rules.specs.Numbers.{code};
 ghost use Rattle.rules.specs.File.{file_count, wanted, head_code};
-ghost use Rattle.file_header.specs.Held.{header_held};
+ghost use Rattle.file_header.specs.Held.{header_held, header_code};
 
 use codes::unless;
 use column::{column_at, formed};
@@ -47,6 +47,20 @@ pub fn kind_coordinates(kind: i32) -> u32
     cards::kind_coordinates(natural(kind))
 }
 
+// What is read of a header is checked: 10, 4, 8 in this order.
+#[tactic(auto, using(crate::proofs::Head::judging), unfolding(crate::specs::Held::header_code))]
+fn check_numbers(header: Header, bytes: &[u8], kind: i32) -> Result<(), Refusal>
+    ensures { code result ≡ header_code header (length bytes.now) kind }
+{
+    let wanted = natural(kind);
+    let is_kind = (1 <= wanted) & (wanted <= 4);
+    unless(is_kind & (header.kind == wanted), Refusal::WrongKind)?;
+    unless(header.count <= rules::MOST_ROWS, Refusal::TableSize)?;
+    let whole = rules::HEADER_BYTES + row_bytes(kind_coordinates(kind)) * header.count as usize;
+    unless(bytes.len() == whole, Refusal::CutFile)?;
+    Ok(())
+}
+
 // A file's row count, or what it is refused by for its header: 8, 9, 10, 4, 8 in this order.
 #[tactic(auto, using(crate::proofs::Head::check_steps))]
 pub fn check_header(bytes: &[u8], kind: i32) -> Result<u32, Refusal>
@@ -57,11 +71,6 @@ pub fn check_header(bytes: &[u8], kind: i32) -> Result<u32, Refusal>
         return Err(Refusal::CutFile);
     }
     let header = read_header(bytes).map_err(|_| Refusal::BadColumn)?;
-    let wanted = natural(kind);
-    let is_kind = (1 <= wanted) & (wanted <= 4);
-    unless(is_kind & (header.kind == wanted), Refusal::WrongKind)?;
-    unless(header.count <= rules::MOST_ROWS, Refusal::TableSize)?;
-    let whole = rules::HEADER_BYTES + row_bytes(kind_coordinates(kind)) * header.count as usize;
-    unless(bytes.len() == whole, Refusal::CutFile)?;
+    check_numbers(header, bytes, kind)?;
     Ok(header.count)
 }

@@ -1,19 +1,20 @@
 -- What is read of a row, column by column. Assumes nothing.
-use Rattle.std.proofs.Common.{◌≡◌, refl, sym, ap, ap₂, ◌∙◌, Bool, true, false, ◌&&◌, List, [], ◌∷◌}
+use Rattle.std.proofs.Common.{◌≡◌, refl, sym, ap, ap₂, ◌∙◌, Bool, true, false, ◌&&◌, List}
 use Rattle.std.proofs.Common.{ℕ, suc, ◌+◌, ◌≤◌, ◌<◌}
 use Rattle.std.proofs.Common.{ℤ, pos, Option, Ok, Err, is_some, unwrap_or, add-one, arith}
 use Rattle.std.proofs.Math.Bool.{and_assoc, and-true}
 use Rattle.lists.specs.Lists.{every, range}
 use Rattle.lists.specs.Bools.{and_left}
 use Rattle.lists.specs.Appends.{every_more}
-use Rattle.rules.specs.Numbers.{row_limit, row_order, bad_column, unless, first}
+use Rattle.rules.specs.Numbers.{bad_column}
 use Rattle.rules.specs.Tables.{width, within, coordinate_fits}
 use Rattle.rules.specs.File.{columns, is_signed, column_at, column_bytes, column_start, column_fits_at, number_at}
 use Rattle.rules.specs.File.{row_bytes, ends_line}
 use Rattle.file_laws.specs.Columns.{start_next, signed_back, size_back, column_ends}
 use Rattle.column.specs.Column.{column_held, some_fits, formed, formed_ok, formed_err}
+use Rattle.codes.specs.Steps.{passed, stopped}
 use Rattle.file_row.specs.declared.Row.{Row}
-use Rattle.file_row.specs.Held.{follows, held_row_code}
+use Rattle.file_row.specs.Held.{held_row_code, read_row_code}
 use Rattle.file_row.specs.Held.{columns_held, held_column, coordinate_read, numbers_read}
 use Rattle.file_row.specs.Held.{row_read, columns_row, row_held}
 use Rattle.file_row.specs.Formed.{row_by_rules, row_formed}
@@ -170,14 +171,15 @@ module _ (bytes : List ℕ) (o : ℕ) where
     unfolding held_row_code row_held
     row_bad before h = rw (formed_err row row_fits (row_read n bytes o) h).0
 
-    pub read_code : (before : Option ℤ) → row_held n bytes o ≡ Ok row →
-        first (unless row.inside row_limit ∷ unless (follows before row.score) row_order ∷ [])
-        ≡ held_row_code n bytes o before
-    unfolding held_row_code
+    pub read_code : (before : Option ℤ) → row_held n bytes o ≡ Ok row
+        → read_row_code row before ≡ held_row_code n bytes o before
+    unfolding held_row_code read_row_code
     read_code before h = rw ((row_ok h).0, ap (λ (r : Row). r.inside) (row_ok h).1, read_score h)
 
 -- the steps of reading a row
 pub ruleset read_steps = (row_ends, none_told)
 
 -- those of checking it
-pub ruleset check_steps = (row_bad, read_score)
+pub ruleset number_steps = (passed, stopped)
+
+pub ruleset check_steps = (row_bad, read_code, read_score)

@@ -63,3 +63,8 @@ held_row_code n bytes o before =
     ∷ unless (numbers_held n bytes o) row_limit
     ∷ unless (follows before (number_at bytes o 1)) row_order
     ∷ [])
+
+-- the same of what was read, behind that of its form
+unfoldable pub read_row_code : Row → Option ℤ → ℕ
+read_row_code row before =
+    first (unless row.inside row_limit ∷ unless (follows before row.score) row_order ∷ [])

@@ -5,7 +5,7 @@ ghost use Rattle.std.specs.Prelude.{◌≡◌, ◌+◌, ◌≤◌, ℤ, length};
 ghost use Rattle.rules.specs.Tables.{width};
 ghost use Rattle.rules.specs.Numbers.{code};
 ghost use Rattle.rules.specs.File.{column_start, row_bytes, number_at};
-ghost use Rattle.file_row.specs.Held.{follows, columns_row, row_held, held_row_code};
+ghost use Rattle.file_row.specs.Held.{follows, columns_row, row_held, held_row_code, read_row_code};
 
 use codes::unless;
 use column::{column_at, formed};
@@ -84,6 +84,16 @@ fn follows(before: Option<i32>, score: i32) -> bool
     }
 }
 
+// What is read of a row is checked: 6, then 7.
+#[tactic(auto, using(crate::proofs::Rows::number_steps), unfolding(crate::specs::Held::read_row_code))]
+fn check_numbers(row: Row, before: Option<i32>) -> Result<(), Refusal>
+    ensures { code result ≡ read_row_code row before }
+{
+    unless(row.inside, Refusal::RowLimit)?;
+    unless(follows(before, row.score), Refusal::RowOrder)?;
+    Ok(())
+}
+
 // The score of the row of n coordinates that begins at `o`, or what the row is refused by: 9, 6, 7 in this order.
 // `before` is the score of the row before, if there is one.
 #[tactic(auto, using(crate::proofs::Rows::check_steps))]
@@ -93,7 +103,6 @@ pub fn check_row(n: u32, bytes: &[u8], o: usize, before: Option<i32>) -> Result<
     ensures score { (score : ℤ) → result ≡ Ok score → score ≡ number_at bytes.now o 1 }
 {
     let row = read_row(n, bytes, o).map_err(|_| Refusal::BadColumn)?;
-    unless(row.inside, Refusal::RowLimit)?;
-    unless(follows(before, row.score), Refusal::RowOrder)?;
+    check_numbers(row, before)?;
     Ok(row.score)
 }
