@@ -1,5 +1,5 @@
 -- What is read of the header: the checks of it are the rules', and its count is the file's. Assumes nothing.
-use Rattle.std.proofs.Common.{◌≡◌, sym, ap, ap₂, ◌∙◌, true, false, ◌&&◌, List, ℕ, ◌≤◌, ◌<◌}
+use Rattle.std.proofs.Common.{◌≡◌, sym, ap, ap₂, ◌∙◌, Bool, true, false, cond, leb, ◌&&◌, List, ℕ, ◌≤◌, ◌<◌}
 use Rattle.std.proofs.Common.{length}
 use Rattle.std.proofs.Common.{ℤ, pos, Option, is_some, unwrap_or, Ok, Err, le-leb}
 use Rattle.std.proofs.Math.Bool.{and_assoc}
@@ -47,17 +47,23 @@ module _ (bytes : List ℕ) where
         ap₂ formed header_looked read ∙ sym (held_whole w)
 
   -- what the answer tells
-  module _ (h : Header) (w : header_bytes ≤ length bytes) where
-    header_ok : header_held bytes ≡ Ok h → (header_fits bytes ≡ true) × (h ≡ header_by_rules bytes)
-    header_ok e =
-        let r = formed_ok h (header_fits bytes) (header_read bytes) (sym (held_whole w) ∙ e) in
-        (r.0, r.1 ∙ header_formed bytes r.0)
+  header_ok : (h : Header) → header_held bytes ≡ Ok h → (header_fits bytes ≡ true) × (h ≡ header_by_rules bytes)
+  unfolding header_held
+  header_ok h = go (leb header_bytes (length bytes))
+    where
+      go : (t : Bool) → cond t (whole_header bytes) (Err no_header) ≡ Ok h
+          → (header_fits bytes ≡ true) × (h ≡ header_by_rules bytes)
+      go true e =
+          let r = formed_ok h (header_fits bytes) (header_read bytes) e in
+          (r.0, r.1 ∙ header_formed bytes r.0)
+      go false e = cc
 
-    header_err : header_held bytes ≡ Err h → (header_fits bytes ≡ false) × (h ≡ header_read bytes)
-    header_err e = formed_err h (header_fits bytes) (header_read bytes) (sym (held_whole w) ∙ e)
+  header_err : (h : Header) → header_bytes ≤ length bytes → header_held bytes ≡ Err h
+      → (header_fits bytes ≡ false) × (h ≡ header_read bytes)
+  header_err h w e = formed_err h (header_fits bytes) (header_read bytes) (sym (held_whole w) ∙ e)
 
-    pub count_is : header_held bytes ≡ Ok h → h.count ≡ file_count bytes
-    count_is e = ap (λ (x : Header). x.count) (header_ok e).1
+  pub count_is : (h : Header) → header_held bytes ≡ Ok h → h.count ≡ file_count bytes
+  count_is h e = ap (λ (x : Header). x.count) (header_ok h e).1
 
   -- the checks of what was read
   module _ (kind : ℤ) where
@@ -74,7 +80,7 @@ module _ (bytes : List ℕ) where
         → header_code h (length bytes) kind ≡ head_code bytes kind
     unfolding header_code head_code kind_fits
     read_code h w e =
-        let r = header_ok h w e in
+        let r = header_ok h e in
         ap (λ (x : Header). header_code x (length bytes) kind) r.1 ∙ rw (le-leb header_bytes (length bytes) w, r.0)
 
 -- the steps of checking what was read

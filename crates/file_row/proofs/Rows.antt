@@ -1,12 +1,12 @@
 -- What is read of a row, column by column. Assumes nothing.
-use Rattle.std.proofs.Common.{◌≡◌, refl, sym, ap, ap₂, ◌∙◌, Bool, true, false, ◌&&◌, List}
+use Rattle.std.proofs.Common.{◌≡◌, refl, sym, ap, ap₂, ◌∙◌, Bool, true, false, ◌&&◌, List, [], ◌∷◌}
 use Rattle.std.proofs.Common.{ℕ, suc, ◌+◌, ◌≤◌, ◌<◌}
 use Rattle.std.proofs.Common.{ℤ, pos, Option, Ok, Err, is_some, unwrap_or, add-one, arith}
 use Rattle.std.proofs.Math.Bool.{and_assoc, and-true}
 use Rattle.lists.specs.Lists.{every, range}
-use Rattle.lists.specs.Bools.{and_left}
+use Rattle.lists.specs.Bools.{and_left, and_out}
 use Rattle.lists.specs.Appends.{every_more}
-use Rattle.rules.specs.Numbers.{bad_column}
+use Rattle.rules.specs.Numbers.{row_limit, row_order, bad_column, unless, first}
 use Rattle.rules.specs.Tables.{width, within, coordinate_fits}
 use Rattle.rules.specs.File.{columns, is_signed, column_at, column_bytes, column_start, column_fits_at, number_at}
 use Rattle.rules.specs.File.{row_bytes, ends_line}
@@ -14,7 +14,7 @@ use Rattle.file_laws.specs.Columns.{start_next, signed_back, size_back, column_e
 use Rattle.column.specs.Column.{column_held, some_fits, formed, formed_ok, formed_err}
 use Rattle.codes.specs.Steps.{passed, stopped}
 use Rattle.file_row.specs.declared.Row.{Row}
-use Rattle.file_row.specs.Held.{held_row_code, read_row_code}
+use Rattle.file_row.specs.Held.{follows, held_row_code, read_row_code}
 use Rattle.file_row.specs.Held.{columns_held, held_column, coordinate_read, numbers_read}
 use Rattle.file_row.specs.Held.{row_read, columns_row, row_held}
 use Rattle.file_row.specs.Formed.{row_by_rules, row_formed}
@@ -154,7 +154,30 @@ module _ (bytes : List ℕ) (o : ℕ) where
         let c = columns_ok h in
         rw (c.0) (ap (λ (r : Row). formed (ends_line bytes r.end) r) (c.1))
 
-    -- the checks of what was read
+    -- what is read of columns that are formed is what the rules say
+    pub row_some : columns_row n bytes o ≡ Ok row
+        → (columns_held (width n) bytes o ≡ true) × (row_by_rules n bytes o ≡ row)
+    row_some h = let c = columns_ok h in (c.0, sym (c.1 ∙ row_formed n bytes o c.0))
+
+    -- the checks of what was read of columns that are formed: LF comes first
+    pub read_code : (before : Option ℤ) → columns_row n bytes o ≡ Ok row →
+        first
+        (unless (ends_line bytes row.end) bad_column
+        ∷ unless row.inside row_limit
+        ∷ unless (follows before row.score) row_order
+        ∷ []) ≡ held_row_code n bytes o before
+    unfolding held_row_code
+    read_code before h =
+        let r = row_some h in
+        let of : Row → ℕ = λ x.
+        first
+        (unless (ends_line bytes x.end) bad_column
+        ∷ unless x.inside row_limit
+        ∷ unless (follows before x.score) row_order
+        ∷ []) in
+        sym (ap of r.1) ∙ rw r.0
+
+    -- those of a row that is formed, LF and all, and of one that is not
     abbrev row_fits : Bool
     row_fits = columns_held (width n) bytes o && ends_line bytes (o + column_start (width n))
 
@@ -164,6 +187,13 @@ module _ (bytes : List ℕ) (o : ℕ) where
         let r = formed_ok row row_fits (row_read n bytes o) h in
         (r.0, r.1 ∙ row_formed n bytes o (and_left (columns_held (width n) bytes o) _ r.0))
 
+    line_ok : row_held n bytes o ≡ Ok row → (columns_row n bytes o ≡ Ok row) × (ends_line bytes row.end ≡ true)
+    unfolding row_held columns_row
+    line_ok h =
+        let r = formed_ok row row_fits (row_read n bytes o) h in
+        let parts = and_out (columns_held (width n) bytes o) (ends_line bytes (o + column_start (width n))) r.0 in
+        (rw (parts.0) (ap Ok (sym r.1)), ap (λ (x : Row). ends_line bytes x.end) r.1 ∙ parts.1)
+
     pub read_score : row_held n bytes o ≡ Ok row → row.score ≡ number_at bytes o 1
     read_score h = ap (λ (r : Row). r.score) (row_ok h).1
 
@@ -171,10 +201,10 @@ module _ (bytes : List ℕ) (o : ℕ) where
     unfolding held_row_code row_held
     row_bad before h = rw (formed_err row row_fits (row_read n bytes o) h).0
 
-    pub read_code : (before : Option ℤ) → row_held n bytes o ≡ Ok row
+    pub row_good : (before : Option ℤ) → row_held n bytes o ≡ Ok row
         → read_row_code row before ≡ held_row_code n bytes o before
-    unfolding held_row_code read_row_code
-    read_code before h = rw ((row_ok h).0, ap (λ (r : Row). r.inside) (row_ok h).1, read_score h)
+    unfolding read_row_code
+    row_good before h = simp (line_ok h).1 at (read_code before (line_ok h).0)
 
 -- the steps of reading a row
 pub ruleset read_steps = (row_ends, none_told)
@@ -182,4 +212,4 @@ pub ruleset read_steps = (row_ends, none_told)
 -- those of checking it
 pub ruleset number_steps = (passed, stopped)
 
-pub ruleset check_steps = (row_bad, read_code, read_score)
+pub ruleset check_steps = (row_bad, row_good, read_score)
